@@ -1,0 +1,33 @@
+-- The words of an answer: 0 and the accepted values, or the refusal's number and place; words that no value takes are 0.
+use Prim.Native.Nat.{ℕ}
+use mathlib.Core.List.{List, [], _∷_}
+use Rattle.dag.specs.Refusals.{number, place}
+use Rattle.dag.specs.declared.Refusal.{Refusal}
+use Rattle.compact.specs.declared.Compacted.{Compacted}
+use Rattle.normalize.specs.declared.NormalizeAnswer.{NormalizeAnswer}
+use Rattle.evaluate.specs.declared.Evaluated.{Evaluated}
+use Rattle.builder.specs.declared.StepAnswer.{StepAnswer}
+use Rattle.builder.specs.declared.BuildAnswer.{BuildAnswer}
+
+abbrev pub refusedWords : Refusal → List ℕ
+refusedWords r = number r ∷ place r ∷ 0 ∷ 0 ∷ []
+
+abbrev pub stepWords : StepAnswer → List ℕ
+stepWords (StepAnswer.Done place count) = 0 ∷ place ∷ count ∷ 0 ∷ []
+stepWords (StepAnswer.Refused r) = refusedWords r
+
+abbrev pub buildWords : BuildAnswer → List ℕ
+buildWords (BuildAnswer.Done count root) = 0 ∷ count ∷ root ∷ 0 ∷ []
+buildWords (BuildAnswer.Refused r) = refusedWords r
+
+abbrev pub compactWords : Compacted → List ℕ
+compactWords (Compacted.Done count root) = 0 ∷ count ∷ root ∷ 0 ∷ []
+compactWords (Compacted.Refused r) = refusedWords r
+
+abbrev pub normalizeWords : NormalizeAnswer → List ℕ
+normalizeWords (NormalizeAnswer.Done count root rounds) = 0 ∷ count ∷ root ∷ rounds ∷ []
+normalizeWords (NormalizeAnswer.Refused r) = refusedWords r
+
+abbrev pub evaluateWords : Evaluated → List ℕ
+evaluateWords (Evaluated.Value v) = 0 ∷ v .c0 ∷ v .c1 ∷ 0 ∷ []
+evaluateWords (Evaluated.Refused r) = refusedWords r

@@ -1,0 +1,155 @@
+// The exported calls, for C and Rust (include/ace.h): each lends its stores to the library and writes the answer's words.
+use builder::BuildAnswer;
+use builder::StepAnswer;
+use compact::Compacted;
+use dag::Refusal;
+use evaluate::Evaluated;
+use normalize::NormalizeAnswer;
+ghost use mathlib.Core.Path.{_≡_};
+ghost use lib.ListN.{length};
+ghost use Rattle.builder.specs.Calls as Calls;
+ghost use Rattle.compact.specs.Calls as Compaction;
+ghost use Rattle.evaluate.specs.Calls as Evaluation;
+ghost use Rattle.normalize.specs.Calls as Normalising;
+ghost use Rattle.ace.specs.Answers as Answers;
+
+// A refusal's words.
+fn refused_words(r: Refusal) -> [u64; 4]
+    ensures { λ w. ⌜ w ≡ Answers.refusedWords r ⌝ }
+{
+    [dag::number_of(r), dag::place_of(r) as u64, 0, 0]
+}
+
+// The words of Step's answer.
+fn step_words(a: StepAnswer) -> [u64; 4]
+    ensures { λ w. ⌜ w ≡ Answers.stepWords a ⌝ }
+{
+    match a {
+        StepAnswer::Done { place, count } => [0, place as u64, count as u64, 0],
+        StepAnswer::Refused(r) => refused_words(r),
+    }
+}
+
+// The words of Build's answer.
+fn build_words(a: BuildAnswer) -> [u64; 4]
+    ensures { λ w. ⌜ w ≡ Answers.buildWords a ⌝ }
+{
+    match a {
+        BuildAnswer::Done { count, root } => [0, count as u64, root as u64, 0],
+        BuildAnswer::Refused(r) => refused_words(r),
+    }
+}
+
+// The words of Compact's answer.
+fn compact_words(a: Compacted) -> [u64; 4]
+    ensures { λ w. ⌜ w ≡ Answers.compactWords a ⌝ }
+{
+    match a {
+        Compacted::Done { count, root } => [0, count as u64, root as u64, 0],
+        Compacted::Refused(r) => refused_words(r),
+    }
+}
+
+// The words of Normalise's answer.
+fn normalize_words(a: NormalizeAnswer) -> [u64; 4]
+    ensures { λ w. ⌜ w ≡ Answers.normalizeWords a ⌝ }
+{
+    match a {
+        NormalizeAnswer::Done {
+            count,
+            root,
+            rounds,
+        } => [0, count as u64, root as u64, rounds as u64],
+        NormalizeAnswer::Refused(r) => refused_words(r),
+    }
+}
+
+// The words of Evaluate's answer.
+fn evaluate_words(a: Evaluated) -> [u64; 4]
+    ensures { λ w. ⌜ w ≡ Answers.evaluateWords a ⌝ }
+{
+    match a {
+        Evaluated::Value(v) => [0, v.c0, v.c1, 0],
+        Evaluated::Refused(r) => refused_words(r),
+    }
+}
+
+// Step. Accepted: place, new n.
+#[no_mangle]
+pub extern "C" fn ace_step(
+    list: &mut [u64],
+    n: usize,
+    tag: u64,
+    first: u64,
+    second: u64,
+    answer: &mut [u64; 4],
+)
+    ensures store { λ _. ⌜ now (list .exit) ≡ Calls.stepStore (now (list .entry)) n tag first second ⌝ }
+    ensures answer { λ _. ⌜ now (answer .exit) ≡ Answers.stepWords (Calls.stepAnswer (now (list .entry)) n tag first second) ⌝ }
+{
+    *answer = step_words(builder::step(list, n, tag, first, second));
+}
+
+// Build. Accepted: count, root's place.
+#[no_mangle]
+pub extern "C" fn ace_build(
+    list: &[u64],
+    n: usize,
+    root: usize,
+    result: &mut [u64],
+    map: &mut [u64],
+    answer: &mut [u64; 4],
+)
+    ensures result { λ _. ⌜ now (result .exit) ≡ Calls.buildResult (now (list .entry)) n root (now (result .entry)) (length (now (map .entry))) ⌝ }
+    ensures map { λ _. ⌜ now (map .exit) ≡ Calls.buildMap (now (list .entry)) n root (length (now (result .entry))) (now (map .entry)) ⌝ }
+    ensures answer { λ _. ⌜ now (answer .exit) ≡ Answers.buildWords (Calls.buildAnswer (now (list .entry)) n root (length (now (result .entry))) (length (now (map .entry)))) ⌝ }
+{
+    *answer = build_words(builder::build(list, n, root, result, map));
+}
+
+// Compact. Accepted: count, root.
+#[no_mangle]
+pub extern "C" fn ace_compact(
+    list: &[u64],
+    n: usize,
+    root: usize,
+    result: &mut [u64],
+    answer: &mut [u64; 4],
+)
+    ensures result { λ _. ⌜ now (result .exit) ≡ Compaction.compactResult (now (list .entry)) n root (now (result .entry)) ⌝ }
+    ensures answer { λ _. ⌜ now (answer .exit) ≡ Answers.compactWords (Compaction.compactAnswer (now (list .entry)) n root (length (now (result .entry)))) ⌝ }
+{
+    *answer = compact_words(compact::compact(list, n, root, result));
+}
+
+// Normalise. Accepted: count, root, rounds kept.
+#[no_mangle]
+pub extern "C" fn ace_normalize(
+    list: &[u64],
+    n: usize,
+    root: usize,
+    result: &mut [u64],
+    work: &mut [u64],
+    answer: &mut [u64; 4],
+)
+    ensures result { λ _. ⌜ now (result .exit) ≡ Normalising.normalizeResult (now (list .entry)) n root (now (result .entry)) (length (now (work .entry))) ⌝ }
+    ensures work { λ _. ⌜ now (work .exit) ≡ Normalising.normalizeWork (now (list .entry)) n root (length (now (result .entry))) (now (work .entry)) ⌝ }
+    ensures answer { λ _. ⌜ now (answer .exit) ≡ Answers.normalizeWords (Normalising.normalizeAnswer (now (list .entry)) n root (length (now (result .entry))) (length (now (work .entry)))) ⌝ }
+{
+    *answer = normalize_words(normalize::normalize(list, n, root, result, work));
+}
+
+// Evaluate. Accepted: c0, c1.
+#[no_mangle]
+pub extern "C" fn ace_evaluate(
+    list: &[u64],
+    n: usize,
+    root: usize,
+    assignment: &[u64],
+    m: usize,
+    answer: &mut [u64; 4],
+)
+    ensures answer { λ _. ⌜ now (answer .exit) ≡ Answers.evaluateWords (Evaluation.evaluateAnswer (now (list .entry)) n root (now (assignment .entry)) m) ⌝ }
+{
+    *answer = evaluate_words(evaluate::evaluate(list, n, root, assignment, m));
+}

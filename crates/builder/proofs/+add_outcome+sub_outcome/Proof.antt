@@ -1,0 +1,303 @@
+use Prim.Native.Nat.{ℕ, _+_, _*_, _<_}
+use native.Mathlib.Omega.{arith}
+use mathlib.Core.Path.{subst}
+use Rattle.builder.specs.OutcomeLaws.{operands-below, add-used, add-made, add-handed, add-lower, sub-used, sub-made, sub-handed, sub-lower}
+use borrow.Author.Needs.{needs}
+use borrow.Fn.Kinds.{In}
+use borrow.Fn.PlainCycle.{Measures, is, falls, and}
+use Rattle.builder.specs.declared.Rule.the-variants.{Use}
+use Rattle.builder.proofs.add_outcome.Reads as add-outcome
+use Rattle.builder.proofs.add_outcome.Kinds as add-outcome-kinds
+use Rattle.builder.proofs.+add_outcome+sub_outcome.Lts-add_outcome as add-outcome-lts
+use Rattle.builder.proofs.sub_outcome.Reads as sub-outcome
+use Rattle.builder.proofs.sub_outcome.Kinds as sub-outcome-kinds
+use Rattle.builder.proofs.+add_outcome+sub_outcome.Lts-sub_outcome as sub-outcome-lts
+use Rattle.builder.proofs.add_rule.Reads as add-rule-reads
+use Rattle.builder.proofs.sub_rule.Reads as sub-rule-reads
+use Rattle.dag.proofs.node_at.Reads as node-at-reads
+use Rattle.builder.proofs.+add_outcome+sub_outcome.{statement}
+use Rattle.builder.proofs.+add_outcome+sub_outcome.Tie.{close}
+
+abbrev μ-add-outcome : Measures 1 add-outcome-kinds.ps ℕ
+μ-add-outcome κs a = a .1 .1 .0 + a .1 .1 .1 .0
+
+abbrev μ-sub-outcome : Measures 1 sub-outcome-kinds.ps ℕ
+μ-sub-outcome κs a = a .1 .1 .0 + a .1 .1 .1 .0
+
+abbrev add-outcome-at : ℕ → In 1 add-outcome-kinds.ps
+add-outcome-at t =
+    and 1 add-outcome-kinds.ps (is 1 add-outcome-kinds.ps μ-add-outcome t) add-outcome.Pre
+
+abbrev add-outcome-below : ℕ → In 1 add-outcome-kinds.ps
+add-outcome-below t =
+    and 1 add-outcome-kinds.ps (falls 1 add-outcome-kinds.ps _<_ μ-add-outcome t) add-outcome.Pre
+
+abbrev sub-outcome-at : ℕ → In 1 sub-outcome-kinds.ps
+sub-outcome-at t =
+    and 1 sub-outcome-kinds.ps (is 1 sub-outcome-kinds.ps μ-sub-outcome t) sub-outcome.Pre
+
+abbrev sub-outcome-below : ℕ → In 1 sub-outcome-kinds.ps
+sub-outcome-below t =
+    and 1 sub-outcome-kinds.ps (falls 1 sub-outcome-kinds.ps _<_ μ-sub-outcome t) sub-outcome.Pre
+
+-- src/lib.rt:191:25
+add-outcome-node-at-requires : (t : ℕ) → add-outcome-lts.Need-node-at-requires (
+  node-at-reads.Asked,
+  node-at-reads.Learnt,
+  add-rule-reads.Asked,
+  add-rule-reads.Learnt,
+  sub-outcome-below t,
+  sub-outcome.Post,
+) (add-outcome-at t) add-outcome.Post
+add-outcome-node-at-requires t c κs = omega (arith, c .before .pre .1 .sound .room, c .before .pre .1 .left-inside)
+
+-- src/lib.rt:191:48
+add-outcome-node-at-requires-2 : (t : ℕ) → add-outcome-lts.Need-node-at-requires-2 (
+  node-at-reads.Asked,
+  node-at-reads.Learnt,
+  add-rule-reads.Asked,
+  add-rule-reads.Learnt,
+  sub-outcome-below t,
+  sub-outcome.Post,
+) (add-outcome-at t) add-outcome.Post
+add-outcome-node-at-requires-2 t c κs = omega (arith, c .before .before .pre .1 .sound .room, c .before .before .pre .1 .right-inside)
+
+-- src/lib.rt:191:9
+add-outcome-add-rule-requires : (t : ℕ) → add-outcome-lts.Need-add-rule-requires (
+  node-at-reads.Asked,
+  node-at-reads.Learnt,
+  add-rule-reads.Asked,
+  add-rule-reads.Learnt,
+  sub-outcome-below t,
+  sub-outcome.Post,
+) (add-outcome-at t) add-outcome.Post
+add-outcome-add-rule-requires t c κs = operands-below (c .before .before .before .args .list .now) (c .before .before .before .args .n) (c .before .before .before .args .a) (c .before .before .before .args .b) (c .before .before .before .pre .1) _ _ (c .before .node-at .ensures) (c .node-at2 .ensures) (Use 0)
+
+-- src/lib.rt:193:19
+add-outcome-enum-known-rule : (t : ℕ) → add-outcome-lts.Need-enum-known-rule (
+  node-at-reads.Asked,
+  node-at-reads.Learnt,
+  add-rule-reads.Asked,
+  add-rule-reads.Learnt,
+  sub-outcome-below t,
+  sub-outcome.Post,
+) (add-outcome-at t) add-outcome.Post
+add-outcome-enum-known-rule t c = search needs
+
+-- src/lib.rt:194:20
+add-outcome-enum-known-rule-2 : (t : ℕ) → add-outcome-lts.Need-enum-known-rule-2 (
+  node-at-reads.Asked,
+  node-at-reads.Learnt,
+  add-rule-reads.Asked,
+  add-rule-reads.Learnt,
+  sub-outcome-below t,
+  sub-outcome.Post,
+) (add-outcome-at t) add-outcome.Post
+add-outcome-enum-known-rule-2 t c = search needs
+
+-- src/lib.rt:195:24
+add-outcome-enum-known-rule-3 : (t : ℕ) → add-outcome-lts.Need-enum-known-rule-3 (
+  node-at-reads.Asked,
+  node-at-reads.Learnt,
+  add-rule-reads.Asked,
+  add-rule-reads.Learnt,
+  sub-outcome-below t,
+  sub-outcome.Post,
+) (add-outcome-at t) add-outcome.Post
+add-outcome-enum-known-rule-3 t c = search needs
+
+-- src/lib.rt:195:33
+add-outcome-sub-outcome-requires : (t : ℕ) → add-outcome-lts.Need-sub-outcome-requires (
+  node-at-reads.Asked,
+  node-at-reads.Learnt,
+  add-rule-reads.Asked,
+  add-rule-reads.Learnt,
+  sub-outcome-below t,
+  sub-outcome.Post,
+) (add-outcome-at t) add-outcome.Post
+add-outcome-sub-outcome-requires t c κs = let h = add-lower (c .before .before .before .before .before .before .before .args .list .now) (c .before .before .before .before .before .before .before .args .n) (c .before .before .before .before .before .before .before .args .a) (c .before .before .before .before .before .before .before .args .b) (c .before .before .before .before .before .before .before .pre .1) _ _ (c .before .before .before .before .before .node-at .ensures) (c .before .before .before .before .node-at2 .ensures) (c .before .before .before .add-rule .result) (c .before .before .before .add-rule .ensures) _ _ (c .before .rule3 .given .1) in (subst (λ (j : ℕ). c .before .rule3 .given .0 .0 + c .before .rule3 .given .0 .1 .0 < j) (c .before .before .before .before .before .before .before .pre .0) (h .0), h .1)
+
+-- src/lib.rt:187:1
+add-outcome-returns : (t : ℕ) → add-outcome-lts.Need-returns (
+  node-at-reads.Asked,
+  node-at-reads.Learnt,
+  add-rule-reads.Asked,
+  add-rule-reads.Learnt,
+  sub-outcome-below t,
+  sub-outcome.Post,
+) (add-outcome-at t) add-outcome.Post
+add-outcome-returns t c = add-used (c .before .before .before .before .before .before .before .args .list .now) (c .before .before .before .before .before .before .before .args .n) (c .before .before .before .before .before .before .before .args .a) (c .before .before .before .before .before .before .before .args .b) (c .before .before .before .before .before .before .before .pre .1) _ _ (c .before .before .before .before .before .node-at .ensures) (c .before .before .before .before .node-at2 .ensures) (c .before .before .before .add-rule .result) (c .before .before .before .add-rule .ensures) _ (c .before .rule .given .1)
+
+-- src/lib.rt:187:1
+add-outcome-returns-2 : (t : ℕ) → add-outcome-lts.Need-returns-2 (
+  node-at-reads.Asked,
+  node-at-reads.Learnt,
+  add-rule-reads.Asked,
+  add-rule-reads.Learnt,
+  sub-outcome-below t,
+  sub-outcome.Post,
+) (add-outcome-at t) add-outcome.Post
+add-outcome-returns-2 t c = add-made (c .before .before .before .before .before .before .before .args .list .now) (c .before .before .before .before .before .before .before .args .n) (c .before .before .before .before .before .before .before .args .a) (c .before .before .before .before .before .before .before .args .b) (c .before .before .before .before .before .before .before .pre .1) _ _ (c .before .before .before .before .before .node-at .ensures) (c .before .before .before .before .node-at2 .ensures) (c .before .before .before .add-rule .result) (c .before .before .before .add-rule .ensures) _ (c .before .rule2 .given .1)
+
+-- src/lib.rt:187:1
+add-outcome-returns-3 : (t : ℕ) → add-outcome-lts.Need-returns-3 (
+  node-at-reads.Asked,
+  node-at-reads.Learnt,
+  add-rule-reads.Asked,
+  add-rule-reads.Learnt,
+  sub-outcome-below t,
+  sub-outcome.Post,
+) (add-outcome-at t) add-outcome.Post
+add-outcome-returns-3 t c = add-handed (c .before .before .before .before .before .before .before .before .args .list .now) (c .before .before .before .before .before .before .before .before .args .n) (c .before .before .before .before .before .before .before .before .args .a) (c .before .before .before .before .before .before .before .before .args .b) (c .before .before .before .before .before .before .before .before .pre .1) _ _ (c .before .before .before .before .before .before .node-at .ensures) (c .before .before .before .before .before .node-at2 .ensures) (c .before .before .before .before .add-rule .result) (c .before .before .before .before .add-rule .ensures) _ _ _ (c .before .before .rule3 .given .1) (c .sub-outcome .ensures)
+
+-- src/lib.rt:204:25
+sub-outcome-node-at-requires : (t : ℕ) → sub-outcome-lts.Need-node-at-requires (
+  node-at-reads.Asked,
+  node-at-reads.Learnt,
+  sub-rule-reads.Asked,
+  sub-rule-reads.Learnt,
+  add-outcome-below t,
+  add-outcome.Post,
+) (sub-outcome-at t) sub-outcome.Post
+sub-outcome-node-at-requires t c κs = omega (arith, c .before .pre .1 .sound .room, c .before .pre .1 .left-inside)
+
+-- src/lib.rt:204:48
+sub-outcome-node-at-requires-2 : (t : ℕ) → sub-outcome-lts.Need-node-at-requires-2 (
+  node-at-reads.Asked,
+  node-at-reads.Learnt,
+  sub-rule-reads.Asked,
+  sub-rule-reads.Learnt,
+  add-outcome-below t,
+  add-outcome.Post,
+) (sub-outcome-at t) sub-outcome.Post
+sub-outcome-node-at-requires-2 t c κs = omega (arith, c .before .before .pre .1 .sound .room, c .before .before .pre .1 .right-inside)
+
+-- src/lib.rt:204:9
+sub-outcome-sub-rule-requires : (t : ℕ) → sub-outcome-lts.Need-sub-rule-requires (
+  node-at-reads.Asked,
+  node-at-reads.Learnt,
+  sub-rule-reads.Asked,
+  sub-rule-reads.Learnt,
+  add-outcome-below t,
+  add-outcome.Post,
+) (sub-outcome-at t) sub-outcome.Post
+sub-outcome-sub-rule-requires t c κs = operands-below (c .before .before .before .args .list .now) (c .before .before .before .args .n) (c .before .before .before .args .a) (c .before .before .before .args .b) (c .before .before .before .pre .1) _ _ (c .before .node-at .ensures) (c .node-at2 .ensures) (Use 0)
+
+-- src/lib.rt:206:19
+sub-outcome-enum-known-rule : (t : ℕ) → sub-outcome-lts.Need-enum-known-rule (
+  node-at-reads.Asked,
+  node-at-reads.Learnt,
+  sub-rule-reads.Asked,
+  sub-rule-reads.Learnt,
+  add-outcome-below t,
+  add-outcome.Post,
+) (sub-outcome-at t) sub-outcome.Post
+sub-outcome-enum-known-rule t c = search needs
+
+-- src/lib.rt:207:20
+sub-outcome-enum-known-rule-2 : (t : ℕ) → sub-outcome-lts.Need-enum-known-rule-2 (
+  node-at-reads.Asked,
+  node-at-reads.Learnt,
+  sub-rule-reads.Asked,
+  sub-rule-reads.Learnt,
+  add-outcome-below t,
+  add-outcome.Post,
+) (sub-outcome-at t) sub-outcome.Post
+sub-outcome-enum-known-rule-2 t c = search needs
+
+-- src/lib.rt:208:24
+sub-outcome-enum-known-rule-3 : (t : ℕ) → sub-outcome-lts.Need-enum-known-rule-3 (
+  node-at-reads.Asked,
+  node-at-reads.Learnt,
+  sub-rule-reads.Asked,
+  sub-rule-reads.Learnt,
+  add-outcome-below t,
+  add-outcome.Post,
+) (sub-outcome-at t) sub-outcome.Post
+sub-outcome-enum-known-rule-3 t c = search needs
+
+-- src/lib.rt:208:33
+sub-outcome-add-outcome-requires : (t : ℕ) → sub-outcome-lts.Need-add-outcome-requires (
+  node-at-reads.Asked,
+  node-at-reads.Learnt,
+  sub-rule-reads.Asked,
+  sub-rule-reads.Learnt,
+  add-outcome-below t,
+  add-outcome.Post,
+) (sub-outcome-at t) sub-outcome.Post
+sub-outcome-add-outcome-requires t c κs = let h = sub-lower (c .before .before .before .before .before .before .before .args .list .now) (c .before .before .before .before .before .before .before .args .n) (c .before .before .before .before .before .before .before .args .a) (c .before .before .before .before .before .before .before .args .b) (c .before .before .before .before .before .before .before .pre .1) _ _ (c .before .before .before .before .before .node-at .ensures) (c .before .before .before .before .node-at2 .ensures) (c .before .before .before .sub-rule .result) (c .before .before .before .sub-rule .ensures) _ _ (c .before .rule3 .given .1) in (subst (λ (j : ℕ). c .before .rule3 .given .0 .0 + c .before .rule3 .given .0 .1 .0 < j) (c .before .before .before .before .before .before .before .pre .0) (h .0), h .1)
+
+-- src/lib.rt:200:1
+sub-outcome-returns : (t : ℕ) → sub-outcome-lts.Need-returns (
+  node-at-reads.Asked,
+  node-at-reads.Learnt,
+  sub-rule-reads.Asked,
+  sub-rule-reads.Learnt,
+  add-outcome-below t,
+  add-outcome.Post,
+) (sub-outcome-at t) sub-outcome.Post
+sub-outcome-returns t c = sub-used (c .before .before .before .before .before .before .before .args .list .now) (c .before .before .before .before .before .before .before .args .n) (c .before .before .before .before .before .before .before .args .a) (c .before .before .before .before .before .before .before .args .b) (c .before .before .before .before .before .before .before .pre .1) _ _ (c .before .before .before .before .before .node-at .ensures) (c .before .before .before .before .node-at2 .ensures) (c .before .before .before .sub-rule .result) (c .before .before .before .sub-rule .ensures) _ (c .before .rule .given .1)
+
+-- src/lib.rt:200:1
+sub-outcome-returns-2 : (t : ℕ) → sub-outcome-lts.Need-returns-2 (
+  node-at-reads.Asked,
+  node-at-reads.Learnt,
+  sub-rule-reads.Asked,
+  sub-rule-reads.Learnt,
+  add-outcome-below t,
+  add-outcome.Post,
+) (sub-outcome-at t) sub-outcome.Post
+sub-outcome-returns-2 t c = sub-made (c .before .before .before .before .before .before .before .args .list .now) (c .before .before .before .before .before .before .before .args .n) (c .before .before .before .before .before .before .before .args .a) (c .before .before .before .before .before .before .before .args .b) (c .before .before .before .before .before .before .before .pre .1) _ _ (c .before .before .before .before .before .node-at .ensures) (c .before .before .before .before .node-at2 .ensures) (c .before .before .before .sub-rule .result) (c .before .before .before .sub-rule .ensures) _ (c .before .rule2 .given .1)
+
+-- src/lib.rt:200:1
+sub-outcome-returns-3 : (t : ℕ) → sub-outcome-lts.Need-returns-3 (
+  node-at-reads.Asked,
+  node-at-reads.Learnt,
+  sub-rule-reads.Asked,
+  sub-rule-reads.Learnt,
+  add-outcome-below t,
+  add-outcome.Post,
+) (sub-outcome-at t) sub-outcome.Post
+sub-outcome-returns-3 t c = sub-handed (c .before .before .before .before .before .before .before .before .args .list .now) (c .before .before .before .before .before .before .before .before .args .n) (c .before .before .before .before .before .before .before .before .args .a) (c .before .before .before .before .before .before .before .before .args .b) (c .before .before .before .before .before .before .before .before .pre .1) _ _ (c .before .before .before .before .before .before .node-at .ensures) (c .before .before .before .before .before .node-at2 .ensures) (c .before .before .before .before .sub-rule .result) (c .before .before .before .before .sub-rule .ensures) _ _ _ (c .before .before .rule3 .given .1) (c .add-outcome .ensures)
+
+pub +add-outcome+sub-outcome-spec : {M : Type 1} → statement M
++add-outcome+sub-outcome-spec = close μ-add-outcome μ-sub-outcome (λ t. add-outcome-lts.spec (
+  node-at-reads.Asked,
+  node-at-reads.Learnt,
+  add-rule-reads.Asked,
+  add-rule-reads.Learnt,
+  sub-outcome-below t,
+  sub-outcome.Post,
+)
+    (add-outcome-at t)
+    add-outcome.Post
+    (add-outcome-node-at-requires t)
+    (add-outcome-node-at-requires-2 t)
+    (add-outcome-add-rule-requires t)
+    (add-outcome-enum-known-rule t)
+    (add-outcome-enum-known-rule-2 t)
+    (add-outcome-enum-known-rule-3 t)
+    (add-outcome-sub-outcome-requires t)
+    (add-outcome-returns t)
+    (add-outcome-returns-2 t)
+    (add-outcome-returns-3 t))
+    λ t. sub-outcome-lts.spec (
+      node-at-reads.Asked,
+      node-at-reads.Learnt,
+      sub-rule-reads.Asked,
+      sub-rule-reads.Learnt,
+      add-outcome-below t,
+      add-outcome.Post,
+    )
+    (sub-outcome-at t)
+    sub-outcome.Post
+    (sub-outcome-node-at-requires t)
+    (sub-outcome-node-at-requires-2 t)
+    (sub-outcome-sub-rule-requires t)
+    (sub-outcome-enum-known-rule t)
+    (sub-outcome-enum-known-rule-2 t)
+    (sub-outcome-enum-known-rule-3 t)
+    (sub-outcome-add-outcome-requires t)
+    (sub-outcome-returns t)
+    (sub-outcome-returns-2 t)
+    (sub-outcome-returns-3 t)

@@ -1,0 +1,65 @@
+-- What the builder's functions ask and say of their stores.
+use Prim.Native.Nat.{ℕ, _+_, _<_, _≤_}
+use mathlib.Core.Bool.{true}
+use mathlib.Core.List.{List}
+use mathlib.Core.Path.{_≡_}
+use lib.ListN.{length}
+use Rattle.field.specs.Field.{p, quad, Below}
+use Rattle.dag.specs.Store.{Sound}
+use Rattle.dag.specs.Nodes.{nodes}
+use Rattle.dag.specs.Lookup.{lookup}
+use Rattle.dag.specs.WellFormed.{Fine}
+use Rattle.dag.specs.declared.NodeKind.{NodeKind}
+use Rattle.dag.specs.declared.Found.{Found}
+use Rattle.dag.specs.declared.Found.the-variants.{At, Missing}
+use Rattle.builder.specs.Steps.{isConstant, element, outcome, step}
+use Rattle.builder.specs.declared.Outcome.{Outcome}
+use Rattle.builder.specs.declared.Outcome.the-variants.{Place, Node}
+use Rattle.builder.specs.declared.Entered.{Entered}
+
+-- a constant is in lowest form
+abbrev pub ConstantBelow : NodeKind → Type 0
+ConstantBelow x = isConstant x ≡ true → Below (element x)
+
+pub record ConstantsBelow (x y : NodeKind) : Type 0 where
+  pub left : ConstantBelow x
+  pub right : ConstantBelow y
+
+-- two operands on the first n records of a store that passes the list check
+pub record Operands (s : List ℕ) (n a b : ℕ) : Type 0 where
+  pub sound : Sound p s n
+  pub left-inside : a < n
+  pub right-inside : b < n
+
+-- a request on the first n records of a store that passes the list check
+pub record Request (s : List ℕ) (n : ℕ) (x : NodeKind) : Type 0 where
+  pub sound : Sound p s n
+  pub fine : Fine Below n x
+
+-- a search's answer: a place, or x that is new
+abbrev pub newUnless : NodeKind → Found → Outcome
+newUnless x (At i) = Place i
+newUnless x Missing = Node x
+
+-- the place of x among the first n records, or x where it is new
+unfoldable pub foundOrNew : List NodeKind → ℕ → NodeKind → Outcome
+foundOrNew l n x = newUnless x (lookup l x n)
+
+-- an outcome with the search made
+abbrev pub searched : List NodeKind → ℕ → Outcome → Outcome
+searched l n (Place i) = Place i
+searched l n (Node y) = foundOrNew l n y
+
+-- the place of a request's result, or the new record that it needs
+unfoldable pub resolved : List NodeKind → ℕ → NodeKind → Outcome
+resolved l n x = searched l n (outcome quad l x)
+
+-- a store with one request entered: its list is the step's
+pub record Pushed (s : List ℕ) (n : ℕ) (x : NodeKind) (after : List ℕ) (r : Entered) : Type 0 where
+  pub kept : length after ≡ length s
+  pub sound : Sound p after (r .count)
+  pub list-is : nodes after (r .count) ≡ step quad (nodes s n) x .list
+  pub place-is : r .place ≡ step quad (nodes s n) x .place
+  pub inside : r .place < r .count
+  pub longer : n ≤ r .count
+  pub by-one : r .count ≤ n + 1

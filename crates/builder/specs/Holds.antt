@@ -1,0 +1,115 @@
+-- Two stores that hold a replay: the list built and the result places so far.
+use Prim.Native.Nat.{ℕ, zero, suc, _+_, _*_, _-_, _<_, _≤_}
+use mathlib.Core.List.{List, [], _∷_, _++_}
+use mathlib.Core.Path.{_≡_, refl, sym, _∙_, ap, ap₂, subst}
+use native.Mathlib.Numerals.{add-one}
+use native.Mathlib.Omega.{arith}
+use lib.ListN.{length, getD, take, set, replicate, length-set}
+use lib.Seq.{getD-take, take-suc-set, length-take-le}
+use Rattle.field.specs.Field.{p, quad, quad-laws, Below}
+use Rattle.field.specs.declared.QuadFelt.{QuadFelt}
+use Rattle.dag.specs.Nodes.{blank, nodes, at, rename, wordsOf, filled}
+use Rattle.dag.specs.NodeLaws.{length-nodes}
+use Rattle.dag.specs.Check.{recordsCheck}
+use Rattle.dag.specs.Store.{Sound}
+use Rattle.dag.specs.StoreLaws.{take-words, length-words}
+use Rattle.dag.specs.WellFormed.{Fine, WellFormed}
+use Rattle.dag.specs.WellFormedLaws.{fine-mono}
+use Rattle.dag.specs.declared.NodeKind.{NodeKind}
+use Rattle.dag.specs.declared.NodeKind.the-variants.{Input, Constant, Add, Sub, Mul, Neg}
+use Rattle.builder.specs.Steps.{Built, Replay, placeOf, recorded, step, replay}
+use Rattle.builder.specs.ReplayLaws.{Replayed, replay-replayed, renamed-fine}
+use Rattle.builder.specs.Contracts.{Request, Pushed}
+use Rattle.builder.specs.declared.Entered.{Entered}
+
+-- places that agree rename a record alike
+pub rename-agree : (Low : QuadFelt → Type 0) (m k : ℕ → ℕ) (i : ℕ) (x : NodeKind) → Fine Low i x → ((j : ℕ) → j < i → m j ≡ k j) → rename m x ≡ rename k x
+unfolding rename Fine
+rename-agree Low m k i (Input _) f h = refl
+rename-agree Low m k i (Constant _) f h = refl
+rename-agree Low m k i (Add a b) f h = ap₂ Add (h a (f .0)) (h b (f .1))
+rename-agree Low m k i (Sub a b) f h = ap₂ Sub (h a (f .0)) (h b (f .1))
+rename-agree Low m k i (Mul a b) f h = ap₂ Mul (h a (f .0)) (h b (f .1))
+rename-agree Low m k i (Neg a) f h = ap Neg (h a f)
+
+-- what is known of x, said of what x is
+pub fine-as : (n : ℕ) {x y : NodeKind} → x ≡ y → Fine Below n x → Fine Below n y
+fine-as n e f = subst (λ (z : NodeKind). Fine Below n z) e f
+
+pub renamed-as : {x y z : NodeKind} (m : ℕ → ℕ) → x ≡ y → z ≡ rename m y → z ≡ rename m x
+renamed-as m e h = rw e h
+
+-- the places that a map store holds
+abbrev pub read : List ℕ → ℕ → ℕ
+read map j = getD map j 0
+
+pub record Holds (r : Replay) (i : ℕ) (result map : List ℕ) (count : ℕ) : Type 0 where
+  pub sound : Sound p result count
+  pub list-is : nodes result count ≡ r .list
+  pub map-is : take i map ≡ r .map
+
+-- nothing yet
+pub holds-nothing : (result map : List ℕ) → Holds (record { list = []; map = [] }) 0 result map 0
+unfolding recordsCheck nodes
+holds-nothing result map = record { sound = record { room = omega arith; good = refl }; list-is = refl; map-is = refl }
+
+module _ (r : Replay) (i : ℕ) (result map : List ℕ) (count : ℕ) (h : Holds r i result map count) where
+  pub count-is : count ≡ length (r .list)
+  count-is = sym (length-nodes result count) ∙ ap length (h .list-is)
+
+  pub place-read : (j : ℕ) → j < i → read map j ≡ placeOf r j
+  unfolding placeOf
+  place-read j k = sym (getD-take i map j 0 k) ∙ ap (λ l. getD l j 0) (h .map-is)
+
+  -- a request on earlier results is a request on the store
+  pub renamed-request : Replayed Below i r → (x : NodeKind) → Fine Below i x → Request result count (rename (read map) x)
+  renamed-request d x f =
+      record {
+        sound = h .sound;
+        fine = rw (rename-agree Below (read map) (placeOf r) i x f place-read, count-is) (renamed-fine quad quad-laws i r d x f);
+      }
+
+  -- one more result
+  pub holds-more : (b : Built) (after : List ℕ) (place k : ℕ) → Sound p after k → nodes after k ≡ b .list → place ≡ b .place → i < length map
+      → Holds (recorded r b) (suc i) after (set map i place) k
+  unfolding recorded
+  holds-more b after place k s l e f =
+      record {
+        sound = s;
+        list-is = l;
+        map-is = take-suc-set map i place f ∙ ap₂ (λ m q. m ++ (q ∷ [])) (h .map-is) e;
+      }
+
+-- the record at place i of a list may stand at any later place
+pub turn-fine : (l : List NodeKind) → WellFormed Below l → (i n : ℕ) (x : NodeKind) → i ≤ n → x ≡ at l i → Fine Below n x
+unfolding WellFormed
+turn-fine l w i n x h e = rw e (fine-mono Below i n (at l i) h (w i))
+
+-- Build's turn: the record at place i of l, renamed and entered
+module _ (l : List NodeKind) (w : WellFormed Below l) (i : ℕ) (result map : List ℕ) (count : ℕ) (h : Holds (replay quad l i) i result map count) where
+  pub turn-request : (x : NodeKind) → x ≡ at l i → Request result count (rename (read map) x)
+  unfolding WellFormed
+  turn-request x e = rw e (renamed-request (replay quad l i) i result map count h (replay-replayed quad quad-laws l w i) (at l i) (w i))
+
+  pub turn-short : count ≤ i
+  turn-short = let a = count-is (replay quad l i) i result map count h in let b = Rattle.builder.specs.ReplayLaws.replay-short quad quad-laws l w i in omega arith
+
+  pub turn-holds : (x : NodeKind) (after : List ℕ) (e : Entered) → x ≡ at l i → Pushed result count (rename (read map) x) after e → i < length map
+      → Holds (replay quad l (i + 1)) (i + 1) after (set map i (e .place)) (e .count)
+  unfolding replay WellFormed
+  turn-holds x after e ex push f =
+      let r = replay quad l i in
+      let same = ap (rename (read map)) ex ∙ rename-agree Below (read map) (placeOf r) i (at l i) (w i) (place-read r i result map count h) in
+      let b : step quad (nodes result count) (rename (read map) x) ≡ step quad (r .list) (rename (placeOf r) (at l i)) = ap₂ (step quad) (h .list-is) same in
+      rw (add-one i)
+      (holds-more r i result map count h (step quad (r .list) (rename (placeOf r) (at l i))) after (e .place) (e .count) (push .sound)
+      (push .list-is ∙ ap (λ q. q .list) b) (push .place-is ∙ ap (λ q. q .place) b) f)
+
+-- the words that a store begins with, and blanks behind them
+pub filled-list : (m : ℕ) (s : List ℕ) (n words : ℕ) → Sound m s n → length s ≡ words → take (3 * n) s ++ replicate (length s - 3 * n) blank ≡ filled words (wordsOf (nodes s n))
+unfolding filled
+filled-list m s n words sound e = rw (← e, take-words m s n sound, length-words (nodes s n), length-nodes s n)
+
+pub filled-map : (map : List ℕ) (i words : ℕ) (places : List ℕ) → take i map ≡ places → length places ≡ i → length map ≡ words → take i map ++ replicate (length map - i) blank ≡ filled words places
+unfolding filled
+filled-map map i words places e k f = rw (e, ← f, k)

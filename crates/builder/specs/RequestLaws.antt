@@ -1,0 +1,157 @@
+-- Requests on a store: what each kind asks of its operands, what it comes to, and what entering it leaves.
+use Prim.Native.Nat.{ℕ, suc, _+_, _*_, _<_, _≤_}
+use mathlib.Core.List.{List, [], _∷_, _++_}
+use mathlib.Core.Path.{_≡_, refl, sym, _∙_, ap, subst}
+use native.Mathlib.Numerals.{add-one}
+use native.Mathlib.Omega.{arith}
+use lib.ListN.{length}
+use Rattle.field.specs.Field.{p, quad, quad-laws, Below}
+use Rattle.field.specs.declared.QuadFelt.{QuadFelt}
+use Rattle.dag.specs.Nodes.{recordAt, nodes, at}
+use Rattle.dag.specs.NodeLaws.{at-nodes, length-nodes}
+use Rattle.dag.specs.Lookup.{lookup}
+use Rattle.dag.specs.Store.{Sound, put}
+use Rattle.dag.specs.StoreLaws.{length-put, nodes-put, sound-put}
+use Rattle.dag.specs.WellFormed.{Fine, WellFormed}
+use Rattle.dag.specs.declared.NodeKind.{NodeKind}
+use Rattle.dag.specs.declared.NodeKind.the-variants.{Input, Constant, Add, Sub, Mul, Neg}
+use Rattle.dag.specs.declared.Found.{Found}
+use Rattle.dag.specs.declared.Found.the-variants.{At, Missing}
+use Rattle.builder.specs.Steps.{outcome, mulOutcome, negOutcome, addOutcome, subOutcome, interned, intern, enter, step, Built}
+use Rattle.builder.specs.StepLaws.{OutcomeFine, outcome-fine, Grown, step-grown}
+use Rattle.builder.specs.OutcomeLaws.{list-fine, at-below}
+use Rattle.builder.specs.Contracts.{ConstantBelow, ConstantsBelow, Operands, Request, newUnless, foundOrNew, searched, resolved, Pushed}
+use Rattle.builder.specs.declared.Outcome.{Outcome}
+use Rattle.builder.specs.declared.Outcome.the-variants.{Place, Node}
+use Rattle.builder.specs.declared.Entered.{Entered}
+
+module _ (s : List ℕ) (n : ℕ) (x : NodeKind) (req : Request s n x) where
+  asks : (y : NodeKind) → x ≡ y → Fine Below n y
+  asks y e = subst (λ (z : NodeKind). Fine Below n z) e (req .fine)
+
+  operands-of : (a b : ℕ) → (a < n) × (b < n) → Operands s n a b
+  operands-of a b h = record { sound = req .sound; left-inside = h .0; right-inside = h .1 }
+
+  pub asks-add : (a b : ℕ) → x ≡ Add a b → Operands s n a b
+  unfolding Fine
+  asks-add a b e = operands-of a b (asks (Add a b) e)
+
+  pub asks-sub : (a b : ℕ) → x ≡ Sub a b → Operands s n a b
+  unfolding Fine
+  asks-sub a b e = operands-of a b (asks (Sub a b) e)
+
+  pub asks-mul : (a b : ℕ) → x ≡ Mul a b → Operands s n a b
+  unfolding Fine
+  asks-mul a b e = operands-of a b (asks (Mul a b) e)
+
+  pub asks-neg : (a : ℕ) → x ≡ Neg a → a < n
+  unfolding Fine
+  asks-neg a e = asks (Neg a) e
+
+  is-outcome : (y : NodeKind) (o : Outcome) → x ≡ y → o ≡ outcome quad (nodes s n) y → o ≡ outcome quad (nodes s n) x
+  is-outcome y o e h = rw e h
+
+  pub input-outcome : (k : ℕ) → x ≡ Input k → Node (Input k) ≡ outcome quad (nodes s n) x
+  unfolding outcome
+  input-outcome k e = is-outcome (Input k) (Node (Input k)) e refl
+
+  pub constant-outcome : (v : QuadFelt) → x ≡ Constant v → Node (Constant v) ≡ outcome quad (nodes s n) x
+  unfolding outcome
+  constant-outcome v e = is-outcome (Constant v) (Node (Constant v)) e refl
+
+  pub add-outcome : (a b : ℕ) (o : Outcome) → x ≡ Add a b → o ≡ addOutcome quad (nodes s n) a b → o ≡ outcome quad (nodes s n) x
+  unfolding outcome
+  add-outcome a b o e h = is-outcome (Add a b) o e h
+
+  pub sub-outcome : (a b : ℕ) (o : Outcome) → x ≡ Sub a b → o ≡ subOutcome quad (nodes s n) a b → o ≡ outcome quad (nodes s n) x
+  unfolding outcome
+  sub-outcome a b o e h = is-outcome (Sub a b) o e h
+
+  pub mul-outcome : (a b : ℕ) (y z : NodeKind) (o : Outcome) → x ≡ Mul a b → y ≡ recordAt s a → z ≡ recordAt s b → o ≡ mulOutcome quad y z a b
+      → o ≡ outcome quad (nodes s n) x
+  unfolding outcome
+  mul-outcome a b y z o e ey ez h =
+      is-outcome (Mul a b) o e
+      (rw (at-nodes s n a (asks-mul a b e .left-inside), at-nodes s n b (asks-mul a b e .right-inside), ← ey, ← ez) h)
+
+  pub neg-outcome : (a : ℕ) (y : NodeKind) (o : Outcome) → x ≡ Neg a → y ≡ recordAt s a → o ≡ negOutcome quad y a → o ≡ outcome quad (nodes s n) x
+  unfolding outcome
+  neg-outcome a y o e ey h = is-outcome (Neg a) o e (rw (at-nodes s n a (asks-neg a e), ← ey) h)
+
+-- the search made, by what the outcome and the search said
+pub resolved-place : (l : List NodeKind) (n : ℕ) (x : NodeKind) (o : Outcome) (i : ℕ) → o ≡ outcome quad l x → o ≡ Place i → Place i ≡ resolved l n x
+unfolding resolved
+resolved-place l n x o i e h = ap (searched l n) (sym h ∙ e)
+
+pub resolved-node : (l : List NodeKind) (n : ℕ) (x : NodeKind) (o : Outcome) (y : NodeKind) (r : Outcome) → o ≡ outcome quad l x → o ≡ Node y → r ≡ foundOrNew l n y → r ≡ resolved l n x
+unfolding resolved
+resolved-node l n x o y r e h k = k ∙ ap (searched l n) (sym h ∙ e)
+
+-- the step's list and place, by what was resolved
+abbrev pub appended : List NodeKind → Outcome → Built
+appended l (Place i) = record { list = l; place = i }
+appended l (Node y) = record { list = l ++ (y ∷ []); place = length l }
+
+interned-appended : (l : List NodeKind) (y : NodeKind) (f : Found) → interned l y f ≡ appended l (newUnless y f)
+unfolding interned
+interned-appended l y (At i) = refl
+interned-appended l y Missing = refl
+
+entered-appended : (l : List NodeKind) (n : ℕ) → n ≡ length l → (o : Outcome) → enter l o ≡ appended l (searched l n o)
+unfolding enter intern foundOrNew
+entered-appended l n e (Place i) = refl
+entered-appended l n e (Node y) = rw e (interned-appended l y (lookup l y (length l)))
+
+pub step-appended : (s : List ℕ) (n : ℕ) (x : NodeKind) → step quad (nodes s n) x ≡ appended (nodes s n) (resolved (nodes s n) n x)
+unfolding step resolved
+step-appended s n x = entered-appended (nodes s n) n (sym (length-nodes s n)) (outcome quad (nodes s n) x)
+
+-- what is resolved may stand at the list's end
+newUnless-fine : (n : ℕ) (y : NodeKind) (f : Found) (z : NodeKind) → newUnless y f ≡ Node z → y ≡ z
+newUnless-fine n y (At i) z e = let q : _≡_ {A = ℕ} 0 1 = cc in absurd (omega arith)
+newUnless-fine n y Missing z e = cc
+
+searched-node : (l : List NodeKind) (n : ℕ) (o : Outcome) (z : NodeKind) → searched l n o ≡ Node z → o ≡ Node z
+unfolding foundOrNew
+searched-node l n (Place i) z e = let q : _≡_ {A = ℕ} 0 1 = cc in absurd (omega arith)
+searched-node l n (Node y) z e = ap Node (newUnless-fine n y (lookup l y n) z e)
+
+module _ (s : List ℕ) (n : ℕ) (x : NodeKind) (req : Request s n x) where
+  grown : Grown Below (nodes s n) (step quad (nodes s n) x)
+  grown = step-grown quad quad-laws (nodes s n) (list-fine s n (req .sound)) x (rw (length-nodes s n) (req .fine))
+
+  pub new-fine : (z : NodeKind) → resolved (nodes s n) n x ≡ Node z → Fine Below n z
+  unfolding resolved
+  new-fine z e =
+      rw (← length-nodes s n)
+      (subst (OutcomeFine Below (length (nodes s n))) (searched-node (nodes s n) n (outcome quad (nodes s n) x) z e)
+      (outcome-fine quad quad-laws (nodes s n) (list-fine s n (req .sound)) x (rw (length-nodes s n) (req .fine))))
+
+  -- a place that is there
+  pub pushed-place : (o : Outcome) (i : ℕ) → o ≡ resolved (nodes s n) n x → o ≡ Place i → Pushed s n x s (record { place = i; count = n })
+  pushed-place o i e h =
+      let b : step quad (nodes s n) x ≡ record { list = nodes s n; place = i } = step-appended s n x ∙ ap (appended (nodes s n)) (sym e ∙ h) in
+      record {
+        kept = refl;
+        sound = req .sound;
+        list-is = sym (ap (λ q. q .list) b);
+        place-is = sym (ap (λ q. q .place) b);
+        inside = rw (← length-nodes s n) (subst (λ q. q .place < length (q .list)) b (grown .inside));
+        longer = omega arith;
+        by-one = omega arith;
+      }
+
+  -- a record appended
+  pub pushed-node : (o : Outcome) (z : NodeKind) (after : List ℕ) → o ≡ resolved (nodes s n) n x → o ≡ Node z → after ≡ put s n z → 3 * n + 2 < length s
+      → Pushed s n x after (record { place = n; count = n + 1 })
+  pushed-node o z after e h k fits =
+      let b : step quad (nodes s n) x ≡ record { list = nodes s n ++ (z ∷ []); place = length (nodes s n) } = step-appended s n x ∙ ap (appended (nodes s n)) (sym e ∙ h) in
+      record {
+        kept = ap length k ∙ length-put s n z;
+        sound = rw (k, add-one n) (sound-put s n z fits p (req .sound) (new-fine z (sym e ∙ h)));
+        list-is = rw (k, add-one n) (nodes-put s n z fits ∙ sym (ap (λ q. q .list) b));
+        place-is = sym (length-nodes s n) ∙ sym (ap (λ q. q .place) b);
+        inside = omega arith;
+        longer = omega arith;
+        by-one = omega arith;
+      }

@@ -1,0 +1,468 @@
+// builder.rs: what a request comes to, interning, Step and Build.
+use dag::Checked;
+use dag::Found;
+use dag::NodeKind;
+use dag::Refusal;
+use field::QuadFelt;
+ghost use mathlib.Core.Path.{_≡_};
+ghost use mathlib.Core.Bool.{_&&_, not};
+ghost use Prim.Native.Nat.{ℕ, _+_, _*_, _<_, _≤_};
+ghost use lib.Dec.{eqb};
+ghost use lib.ListN.{length, getD};
+ghost use Rattle.field.specs.Field.{p, quad, Below};
+ghost use Rattle.dag.specs.Nodes as Nodes;
+ghost use Rattle.dag.specs.Store as Store;
+ghost use Rattle.dag.specs.WellFormed as Well;
+ghost use Rattle.builder.specs.Steps as Steps;
+ghost use Rattle.builder.specs.Contracts as Said;
+ghost use Rattle.builder.specs.Calls as Calls;
+ghost use Rattle.builder.specs.CallLaws as CallLaws;
+ghost use Rattle.builder.specs.Holds as Held;
+ghost use Rattle.builder.specs.BuildLaws as BuildLaws;
+
+// What a rule of a step says: a place, a record to intern, or operands handed to the other of add and sub.
+pub enum Rule {
+    Use(usize),
+    Make(NodeKind),
+    HandOver(usize, usize),
+}
+
+// What a request comes to: a place that is there, or a record to intern.
+pub enum Outcome {
+    Place(usize),
+    Node(NodeKind),
+}
+
+// A result's place, and the number of records then.
+pub struct Entered {
+    pub place: usize,
+    pub count: usize,
+}
+
+// Step's answer.
+pub enum StepAnswer {
+    Done { place: usize, count: usize },
+    Refused(Refusal),
+}
+
+// Build's answer.
+pub enum BuildAnswer {
+    Done { count: usize, root: usize },
+    Refused(Refusal),
+}
+
+// A constant's element.
+fn element(x: NodeKind) -> QuadFelt
+    ensures { λ r. ⌜ r ≡ Steps.element x ⌝ }
+{
+    QuadFelt {
+        c0: dag::first_of(x),
+        c1: dag::second_of(x),
+    }
+}
+
+// Whether x has this tag.
+fn has_tag(x: NodeKind, t: u64) -> bool
+    ensures { λ r. ⌜ r ≡ eqb (Nodes.tag x) t ⌝ }
+{
+    dag::tag_of(x) == t
+}
+
+// Whether x and y are constants.
+fn both_constant(x: NodeKind, y: NodeKind) -> bool
+    ensures { λ r. ⌜ r ≡ (Steps.isConstant x && Steps.isConstant y) ⌝ }
+{
+    if has_tag(x, 1) { has_tag(y, 1) } else { false }
+}
+
+// Whether x is the constant c.
+fn is_the(c: QuadFelt, x: NodeKind) -> bool
+    ensures { λ r. ⌜ r ≡ Steps.isThe c x ⌝ }
+{
+    if has_tag(x, 1) {
+        element(x).same(c)
+    } else {
+        false
+    }
+}
+
+// Whether x has tag t and first operand a.
+fn with_first(x: NodeKind, t: u64, a: usize) -> bool
+    ensures { λ r. ⌜ r ≡ (eqb (Nodes.tag x) t && eqb (Nodes.first x) a) ⌝ }
+{
+    if has_tag(x, t) {
+        dag::first_of(x) == a as u64
+    } else {
+        false
+    }
+}
+
+// Whether x has tag t and second operand b.
+fn with_second(x: NodeKind, t: u64, b: usize) -> bool
+    ensures { λ r. ⌜ r ≡ (eqb (Nodes.tag x) t && eqb (Nodes.second x) b) ⌝ }
+{
+    if has_tag(x, t) {
+        dag::second_of(x) == b as u64
+    } else {
+        false
+    }
+}
+
+// Whether of x and y only x is a negation.
+fn only_neg(x: NodeKind, y: NodeKind) -> bool
+    ensures { λ r. ⌜ r ≡ (Steps.isNeg x && not (Steps.isNeg y)) ⌝ }
+{
+    if has_tag(x, 5) { !has_tag(y, 5) } else { false }
+}
+
+// The places a and b as operands of a sum, lower place first.
+pub fn low_add(a: usize, b: usize) -> NodeKind
+    ensures { λ r. ⌜ r ≡ Steps.lowFirst NodeKind.Add a b ⌝ }
+{
+    if a <= b {
+        NodeKind::Add(a, b)
+    } else {
+        NodeKind::Add(b, a)
+    }
+}
+
+// The places a and b as operands of a product, lower place first.
+pub fn low_mul(a: usize, b: usize) -> NodeKind
+    ensures { λ r. ⌜ r ≡ Steps.lowFirst NodeKind.Mul a b ⌝ }
+{
+    if a <= b {
+        NodeKind::Mul(a, b)
+    } else {
+        NodeKind::Mul(b, a)
+    }
+}
+
+// add(a, b), where places a and b hold x and y.
+fn add_rule(x: NodeKind, y: NodeKind, a: usize, b: usize) -> Rule
+    requires { ⌜ Said.ConstantsBelow x y ⌝ }
+    ensures { λ r. ⌜ r ≡ Steps.addRule quad x y a b ⌝ }
+{
+    if both_constant(x, y) {
+        return Rule::Make(NodeKind::Constant(element(x).add(element(y))));
+    }
+    if is_the(QuadFelt::ZERO, x) {
+        return Rule::Use(b);
+    }
+    if is_the(QuadFelt::ZERO, y) {
+        return Rule::Use(a);
+    }
+    if with_second(x, 3, b) {
+        return Rule::Use(dag::first_of(x) as usize);
+    }
+    if with_second(y, 3, a) {
+        return Rule::Use(dag::first_of(y) as usize);
+    }
+    if only_neg(x, y) {
+        return Rule::HandOver(b, dag::first_of(x) as usize);
+    }
+    if only_neg(y, x) {
+        return Rule::HandOver(a, dag::first_of(y) as usize);
+    }
+    Rule::Make(low_add(a, b))
+}
+
+// sub(a, b), where places a and b hold x and y.
+fn sub_rule(x: NodeKind, y: NodeKind, a: usize, b: usize) -> Rule
+    requires { ⌜ Said.ConstantsBelow x y ⌝ }
+    ensures { λ r. ⌜ r ≡ Steps.subRule quad x y a b ⌝ }
+{
+    if both_constant(x, y) {
+        return Rule::Make(NodeKind::Constant(element(x).sub(element(y))));
+    }
+    if is_the(QuadFelt::ZERO, y) {
+        return Rule::Use(a);
+    }
+    if a == b {
+        return Rule::Make(NodeKind::Constant(QuadFelt::ZERO));
+    }
+    if with_first(x, 2, b) {
+        return Rule::Use(dag::second_of(x) as usize);
+    }
+    if with_second(x, 2, b) {
+        return Rule::Use(dag::first_of(x) as usize);
+    }
+    if with_first(y, 3, a) {
+        return Rule::Use(dag::second_of(y) as usize);
+    }
+    if has_tag(y, 5) {
+        return Rule::HandOver(a, dag::first_of(y) as usize);
+    }
+    Rule::Make(NodeKind::Sub(a, b))
+}
+
+// mul(a, b), where places a and b hold x and y.
+fn mul_outcome(x: NodeKind, y: NodeKind, a: usize, b: usize) -> Outcome
+    requires { ⌜ Said.ConstantsBelow x y ⌝ }
+    ensures { λ r. ⌜ r ≡ Steps.mulOutcome quad x y a b ⌝ }
+{
+    if both_constant(x, y) {
+        return Outcome::Node(NodeKind::Constant(element(x).mul(element(y))));
+    }
+    if is_the(QuadFelt::ZERO, x) {
+        return Outcome::Node(NodeKind::Constant(QuadFelt::ZERO));
+    }
+    if is_the(QuadFelt::ZERO, y) {
+        return Outcome::Node(NodeKind::Constant(QuadFelt::ZERO));
+    }
+    if is_the(QuadFelt::ONE, x) {
+        return Outcome::Place(b);
+    }
+    if is_the(QuadFelt::ONE, y) {
+        return Outcome::Place(a);
+    }
+    Outcome::Node(low_mul(a, b))
+}
+
+// neg(a), where place a holds x.
+fn neg_outcome(x: NodeKind, a: usize) -> Outcome
+    requires { ⌜ Said.ConstantBelow x ⌝ }
+    ensures { λ r. ⌜ r ≡ Steps.negOutcome quad x a ⌝ }
+{
+    if has_tag(x, 1) {
+        return Outcome::Node(NodeKind::Constant(element(x).neg()));
+    }
+    Outcome::Node(NodeKind::Neg(a))
+}
+
+// What add(a, b) on the first n records comes to.
+fn add_outcome(list: &[u64], n: usize, a: usize, b: usize) -> Outcome
+    requires { ⌜ Said.Operands (now list) n a b ⌝ }
+    ensures { λ r. ⌜ r ≡ Steps.addOutcome quad (Nodes.nodes (now (list .entry)) n) a b ⌝ }
+{
+    let rule = add_rule(dag::node_at(list, a), dag::node_at(list, b), a, b);
+    match rule {
+        Rule::Use(i) => Outcome::Place(i),
+        Rule::Make(x) => Outcome::Node(x),
+        Rule::HandOver(c, d) => sub_outcome(list, n, c, d),
+    }
+}
+
+// What sub(a, b) on the first n records comes to.
+fn sub_outcome(list: &[u64], n: usize, a: usize, b: usize) -> Outcome
+    requires { ⌜ Said.Operands (now list) n a b ⌝ }
+    ensures { λ r. ⌜ r ≡ Steps.subOutcome quad (Nodes.nodes (now (list .entry)) n) a b ⌝ }
+{
+    let rule = sub_rule(dag::node_at(list, a), dag::node_at(list, b), a, b);
+    match rule {
+        Rule::Use(i) => Outcome::Place(i),
+        Rule::Make(x) => Outcome::Node(x),
+        Rule::HandOver(c, d) => add_outcome(list, n, c, d),
+    }
+}
+
+// What a request on the first n records comes to.
+fn request_outcome(list: &[u64], n: usize, x: NodeKind) -> Outcome
+    requires { ⌜ Said.Request (now list) n x ⌝ }
+    ensures { λ r. ⌜ r ≡ Steps.outcome quad (Nodes.nodes (now (list .entry)) n) x ⌝ }
+{
+    match x {
+        NodeKind::Input(k) => Outcome::Node(NodeKind::Input(k)),
+        NodeKind::Constant(v) => Outcome::Node(NodeKind::Constant(v)),
+        NodeKind::Add(a, b) => add_outcome(list, n, a, b),
+        NodeKind::Sub(a, b) => sub_outcome(list, n, a, b),
+        NodeKind::Mul(a, b) => mul_outcome(dag::node_at(list, a), dag::node_at(list, b), a, b),
+        NodeKind::Neg(a) => neg_outcome(dag::node_at(list, a), a),
+    }
+}
+
+// The place of a record among the first n, or the record itself where it is new.
+fn found_or_new(list: &[u64], n: usize, x: NodeKind) -> Outcome
+    requires { ⌜ Store.Sound p (now list) n ⌝ }
+    ensures { λ r. ⌜ r ≡ Said.foundOrNew (Nodes.nodes (now (list .entry)) n) n x ⌝ }
+{
+    let found = dag::lookup(list, n, x);
+    match found {
+        Found::At(i) => Outcome::Place(i),
+        Found::Missing => Outcome::Node(x),
+    }
+}
+
+// The place of a request's result among the first n records, or the new record that it needs.
+fn resolve(list: &[u64], n: usize, x: NodeKind) -> Outcome
+    requires { ⌜ Said.Request (now list) n x ⌝ }
+    ensures { λ r. ⌜ r ≡ Said.resolved (Nodes.nodes (now (list .entry)) n) n x ⌝ }
+{
+    let first = request_outcome(list, n, x);
+    match first {
+        Outcome::Place(i) => Outcome::Place(i),
+        Outcome::Node(y) => found_or_new(list, n, y),
+    }
+}
+
+// Enters one request into a list of n records that has room for one more.
+pub fn push(list: &mut [u64], n: usize, x: NodeKind) -> Entered
+    requires { ⌜ Said.Request (now list) n x × (3 * n + 2 < length (now list)) ⌝ }
+    ensures { λ r. ⌜ Said.Pushed (now (list .entry)) n x (now (list .exit)) r ⌝ }
+{
+    let result = resolve(list, n, x);
+    match result {
+        Outcome::Place(i) => Entered { place: i, count: n },
+        Outcome::Node(y) => {
+            dag::put_node(list, n, y);
+            Entered {
+                place: n,
+                count: n + 1,
+            }
+        }
+    }
+}
+
+// Step's tests.
+fn step_check(list: &[u64], n: usize, tag: u64, first: u64, second: u64) -> Checked
+    ensures { λ r. ⌜ r ≡ Calls.stepCheck (now (list .entry)) n tag first second ⌝ }
+{
+    let checked = dag::rootless_check(list, n, 0);
+    if dag::is_refused(checked) {
+        return checked;
+    }
+    dag::record_check(tag, first, second, n)
+}
+
+// Appends a new record where there is room.
+fn append(list: &mut [u64], n: usize, y: NodeKind) -> StepAnswer
+    requires { ⌜ n ≤ Nodes.mostRecords ⌝ }
+    ensures { λ r. ⌜ CallLaws.Stepped (now (list .entry)) n (Outcome.Node y) r (now (list .exit)) ⌝ }
+{
+    if dag::MOST_RECORDS <= n {
+        return StepAnswer::Refused(Refusal::NoRoom);
+    }
+    if list.len() < 3 * (n + 1) {
+        return StepAnswer::Refused(Refusal::NoRoom);
+    }
+    dag::put_node(list, n, y);
+    StepAnswer::Done {
+        place: n,
+        count: n + 1,
+    }
+}
+
+// Step past its tests.
+fn enter(list: &mut [u64], n: usize, x: NodeKind) -> StepAnswer
+    requires { ⌜ Said.Request (now list) n x × (n ≤ Nodes.mostRecords) ⌝ }
+    ensures { λ r. ⌜ CallLaws.Stepped (now (list .entry)) n (Said.resolved (Nodes.nodes (now (list .entry)) n) n x) r (now (list .exit)) ⌝ }
+{
+    let result = resolve(list, n, x);
+    match result {
+        Outcome::Place(i) => StepAnswer::Done { place: i, count: n },
+        Outcome::Node(y) => append(list, n, y),
+    }
+}
+
+// Step: one request on a list.
+pub fn step(list: &mut [u64], n: usize, tag: u64, first: u64, second: u64) -> StepAnswer
+    ensures answer { λ r. ⌜ r ≡ Calls.stepAnswer (now (list .entry)) n tag first second ⌝ }
+    ensures store { λ _. ⌜ now (list .exit) ≡ Calls.stepStore (now (list .entry)) n tag first second ⌝ }
+{
+    let checked = step_check(list, n, tag, first, second);
+    match checked {
+        Checked::Refused(r) => StepAnswer::Refused(r),
+        Checked::Good => enter(list, n, dag::decode(tag, first, second)),
+    }
+}
+
+// The result place of an earlier request.
+pub fn mapped(map: &[u64], i: usize) -> usize
+    requires { ⌜ i < length (now map) ⌝ }
+    ensures { λ r. ⌜ r ≡ Held.read (now (map .entry)) i ⌝ }
+{
+    map[i] as usize
+}
+
+// A record with the result places of its operands.
+pub fn renamed(map: &[u64], x: NodeKind) -> NodeKind
+    requires { ⌜ Well.Fine Below (length (now map)) x ⌝ }
+    ensures { λ r. ⌜ r ≡ Nodes.rename (Held.read (now (map .entry))) x ⌝ }
+{
+    match x {
+        NodeKind::Input(k) => NodeKind::Input(k),
+        NodeKind::Constant(v) => NodeKind::Constant(v),
+        NodeKind::Add(a, b) => NodeKind::Add(mapped(map, a), mapped(map, b)),
+        NodeKind::Sub(a, b) => NodeKind::Sub(mapped(map, a), mapped(map, b)),
+        NodeKind::Mul(a, b) => NodeKind::Mul(mapped(map, a), mapped(map, b)),
+        NodeKind::Neg(a) => NodeKind::Neg(mapped(map, a)),
+    }
+}
+
+// Replays the requests one after the other into an empty list; answers its count.
+fn replay(list: &[u64], n: usize, result: &mut [u64], map: &mut [u64]) -> usize
+    requires { ⌜ Store.Sound p (now list) n × (3 * n ≤ length (now result)) × (n ≤ length (now map)) ⌝ }
+    ensures { λ r. ⌜ Held.Holds (Steps.replay quad (Nodes.nodes (now (list .entry)) n) n) n (now (result .exit)) (now (map .exit)) r ⌝ }
+{
+    let mut count = 0;
+    let mut i = 0;
+    while i < n {
+        let x = renamed(map, dag::node_at(list, i));
+        let entered = push(result, count, x);
+        map[i] = entered.place as u64;
+        count = entered.count;
+        i += 1;
+    }
+    count
+}
+
+// Build's tests.
+fn build_check(
+    list: &[u64],
+    n: usize,
+    root: usize,
+    result_words: usize,
+    map_words: usize,
+) -> Checked
+    ensures { λ r. ⌜ r ≡ Calls.buildCheck (now (list .entry)) n root «result_words» «map_words» ⌝ }
+{
+    let checked = dag::list_check(list, n, root);
+    if dag::is_refused(checked) {
+        return checked;
+    }
+    if result_words < 3 * n {
+        return Checked::Refused(Refusal::StoreTooShort);
+    }
+    if map_words < n {
+        return Checked::Refused(Refusal::StoreTooShort);
+    }
+    Checked::Good
+}
+
+// Build past its tests.
+fn build_ready(
+    list: &[u64],
+    n: usize,
+    root: usize,
+    result: &mut [u64],
+    map: &mut [u64],
+) -> BuildAnswer
+    requires { ⌜ BuildLaws.Ready (now list) n root (length (now result)) (length (now map)) ⌝ }
+    ensures { λ r. ⌜ BuildLaws.Finished (Steps.replay quad (Nodes.nodes (now (list .entry)) n) n) root (now (result .entry)) (now (map .entry)) r (now (result .exit)) (now (map .exit)) ⌝ }
+{
+    let count = replay(list, n, result, map);
+    dag::blank_from(result, 3 * count);
+    dag::blank_from(map, n);
+    BuildAnswer::Done {
+        count,
+        root: mapped(map, root),
+    }
+}
+
+// Build: a list of requests with a root, one after the other into an empty list.
+pub fn build(
+    list: &[u64],
+    n: usize,
+    root: usize,
+    result: &mut [u64],
+    map: &mut [u64],
+) -> BuildAnswer
+    ensures answer { λ r. ⌜ r ≡ Calls.buildAnswer (now (list .entry)) n root (length (now (result .entry))) (length (now (map .entry))) ⌝ }
+    ensures result { λ _. ⌜ now (result .exit) ≡ Calls.buildResult (now (list .entry)) n root (now (result .entry)) (length (now (map .entry))) ⌝ }
+    ensures map { λ _. ⌜ now (map .exit) ≡ Calls.buildMap (now (list .entry)) n root (length (now (result .entry))) (now (map .entry)) ⌝ }
+{
+    let checked = build_check(list, n, root, result.len(), map.len());
+    match checked {
+        Checked::Refused(r) => BuildAnswer::Refused(r),
+        Checked::Good => build_ready(list, n, root, result, map),
+    }
+}

@@ -1,0 +1,47 @@
+-- The arrays that hold a column's numbers.
+use Prim.Native.Nat.{ℕ, _^_, _≤_}
+use mathlib.Core.Bool.{cond}
+use mathlib.Core.List.{List, [], _∷_}
+use mathlib.Core.Path.{_≡_}
+use lib.Dec.{eqb}
+use lib.ListN.{getD, length, replicate}
+use Rattle.ring.specs.Ring.{Ops}
+use Rattle.ring.specs.Power.{pow}
+use Rattle.columns.specs.Columns.{logLength, support}
+use Rattle.columns.specs.Prepare.{upTo, padded}
+use Rattle.coefficients.specs.Terms.{dense, scaledValue, twiddle}
+
+-- place j, unless its entry v is 0
+unfoldable pub placed : ℕ → ℕ → List ℕ
+placed j v = cond (eqb v 0) [] (j ∷ [])
+
+-- base^(2^i) for i below L, then 0: the twiddles of a sparse term
+unfoldable pub squares : Ops ℕ → ℕ → ℕ → List ℕ
+squares o base L = padded 0 7 (upTo (λ i. pow o base (2 ^ i)) L)
+
+module _ (o : Ops ℕ) where
+  -- the polynomial with coefficients c, lowest degree first, at x
+  unfoldable pub horner : ℕ → List ℕ → ℕ
+  horner x [] = o .zero
+  horner x (v ∷ c) = o .add (o .mul (horner x c) x) v
+
+  module _ (gen : ℕ → ℕ) (half : ℕ) where
+    -- the dense coefficients, 0 past the last
+    unfoldable pub coefficients : List ℕ → List ℕ
+    coefficients c = padded 0 128 (upTo (dense o gen half c) (length c))
+
+    -- the twiddles of sparse term k
+    unfoldable pub twiddles : List ℕ → ℕ → List ℕ
+    twiddles c k = padded 0 7 (upTo (twiddle o gen half c (getD (support c) k 0)) (logLength c))
+
+    -- the sparse terms' twiddles and scaled values, 0 past the last
+    unfoldable pub sparseTwiddles : List ℕ → List (List ℕ)
+    sparseTwiddles c = padded (replicate 7 0) 11 (upTo (twiddles c) (length (support c)))
+
+    unfoldable pub sparseValues : List ℕ → List ℕ
+    sparseValues c = padded 0 11 (upTo (λ k. scaledValue o gen half c (getD (support c) k 0)) (length (support c)))
+
+-- the places of a sparse column's terms
+pub record Places (c ps : List ℕ) : Type 0 where
+  pub are : ps ≡ support c
+  pub few : length ps ≤ 11

@@ -1,0 +1,169 @@
+-- A column's numbers, as they are worked out.
+use Prim.Native.Nat.{ℕ, zero, suc, _+_, _*_, _-_, _^_, _≤_, _<_}
+use mathlib.Core.Bool.{Bool, true, false, cond, not, _&&_}
+use mathlib.Core.List.{List, [], _∷_, _++_, append-nil, append-assoc}
+use mathlib.Core.Path.{_≡_, refl, sym, _∙_, ap, ap₂}
+use native.Mathlib.Nat.{two-pow-succ}
+use native.Mathlib.Numerals.{add-one}
+use native.Mathlib.Omega.{arith}
+use borrow.Author.Tests.{eq-eqb, ne-eqb}
+use lib.Dec.{eqb}
+use lib.ListN.{getD, length, take, drop, set, length-append, drop-of-length-le}
+use lib.Seq.{drop-cons, take-suc-set, length-take-le}
+use Rattle.ring.specs.Ring.{Ops, Laws}
+use Rattle.ring.specs.Identities.{mul-one, left-comm}
+use Rattle.ring.specs.Power.{pow, pow-zero, pow-suc, pow-add, pow-mul, low-pow}
+use Rattle.ring.specs.Sums.{sum, sum-zero, sum-cong, sum-shift, sum-scale}
+use Rattle.field.specs.Field.{p, felt, felt-laws}
+use Rattle.field.specs.Generators.{generator, half}
+use Rattle.dag.specs.Cases.{cond-elim}
+use Rattle.columns.specs.Columns.{logLength, count, others, placesFrom, support}
+use Rattle.columns.specs.Prepare.{upTo, padded, allBelow}
+use Rattle.columns.specs.CountLaws.{count-le}
+use Rattle.columns.specs.ClassLaws.{below-at}
+use Rattle.coefficients.specs.Terms.{root, rootInverse, sizeInverse, dense, scaledValue, twiddle}
+use Rattle.coefficients.specs.Arrays.{placed, squares, horner, twiddles}
+
+-- Horner's rule sums the terms
+module _ {o : Ops ℕ} (L : Laws o) (x : ℕ) where
+  pub horner-sum : (c : List ℕ) → ((i : ℕ) → i < length c → L .Low (getD c i 0)) → horner o x c ≡ sum o (λ i. o .mul (getD c i 0) (pow o x i)) (length c)
+  unfolding horner
+  horner-sum [] low = sym (sum-zero L (λ i. o .mul (getD {A = ℕ} [] i 0) (pow o x i)))
+  horner-sum (v ∷ c) low =
+      rw (sum-shift L (λ i. o .mul (getD (v ∷ c) i 0) (pow o x i)) (length c), pow-zero L x, L .zero-add (o .mul v (o .one)) (L .low-mul v (o .one)), mul-one L v (low 0 (omega arith)))
+      (L .add-comm (o .mul (horner o x c) x) v
+      ∙ ap (o .add v)
+      (L .mul-comm (horner o x c) x
+      ∙ (ap (o .mul x) (horner-sum c (λ i h. low (suc i) (omega arith)))
+      ∙ (sym (sum-scale L x (λ i. o .mul (getD c i 0) (pow o x i)) (length c))
+      ∙ sum-cong L (λ i. o .mul x (o .mul (getD c i 0) (pow o x i))) (λ i. o .mul (getD c i 0) (pow o x (suc i))) (length c)
+      (λ i _. left-comm (o .mul) (L .mul-comm) (L .mul-assoc) x (getD c i 0) (pow o x i) ∙ ap (o .mul (getD c i 0)) (sym (pow-suc L x i)))))))
+
+-- from the end down to place i
+horner-next : (o : Ops ℕ) (x : ℕ) (c : List ℕ) (i : ℕ) → i < length c → horner o x (drop i c) ≡ o .add (o .mul (horner o x (drop (suc i) c)) x) (getD c i 0)
+unfolding horner
+horner-next o x c i h = rw (drop-cons c i 0 h)
+
+pub horner-down : (x : ℕ) (c : List ℕ) (i v y r : ℕ) → 0 < i → i ≤ length c → v ≡ horner felt x (drop i c) → y ≡ felt .mul v x → r ≡ felt .add y (getD c (i - 1) 0) → r ≡ horner felt x (drop (i - 1) c)
+horner-down x c i v y r pos le ev ey er =
+    er ∙ (ap (λ z. felt .add z (getD c (i - 1) 0)) (ey ∙ ap (λ z. felt .mul z x) (ev ∙ ap (λ j. horner felt x (drop j c)) back)) ∙ sym (horner-next felt x c (i - 1) (omega arith)))
+  where
+    back : i ≡ suc (i - 1)
+    back = omega arith
+
+pub horner-start : (x : ℕ) (c : List ℕ) → 0 ≡ horner felt x (drop (length c) c)
+unfolding horner felt
+horner-start x c = rw (drop-of-length-le c {i = length c} (omega arith))
+
+-- a dense coefficient
+pub dense-told : (c : List ℕ) (j v x h s r : ℕ) → allBelow p c ≡ true → v ≡ rootInverse felt generator half c → x ≡ pow felt v j → h ≡ horner felt x c → s ≡ sizeInverse felt generator half c → r ≡ felt .mul h s
+    → r ≡ dense felt generator half c j
+unfolding dense
+dense-told c j v x h s r low ev ex eh es er =
+    er ∙ ap₂ (felt .mul)
+    (eh ∙ (horner-sum felt-laws x c (λ i h. below-at p c i low h)
+    ∙ sum-cong felt-laws (λ i. felt .mul (getD c i 0) (pow felt x i)) (λ i. felt .mul (getD c i 0) (pow felt (rootInverse felt generator half c) (j * i))) (length c)
+    (λ i _. ap (felt .mul (getD c i 0)) (rw (ex, ev) (sym (pow-mul felt-laws (rootInverse felt generator half c) j i))))))
+    es
+
+pub pow-start : (a : ℕ) → 1 ≡ pow felt a 0
+unfolding felt
+pow-start a = sym (pow-zero felt-laws a)
+
+pub pow-next : (a x j r : ℕ) → x ≡ pow felt a j → r ≡ felt .mul a x → r ≡ pow felt a (j + 1)
+pow-next a x j r ex er = rw (add-one j) (er ∙ (ap (felt .mul a) ex ∙ sym (pow-suc felt-laws a j)))
+
+-- squaring
+pub square-start : (a : ℕ) → a < p → a ≡ pow felt a (2 ^ 0)
+square-start a h = sym (Rattle.ring.specs.Power.pow-one felt-laws a h)
+
+pub square-next : (a x i r : ℕ) → x ≡ pow felt a (2 ^ i) → r ≡ felt .mul x x → r ≡ pow felt a (2 ^ (i + 1))
+square-next a x i r ex er = rw (add-one i, two-pow-succ i) (er ∙ (ap₂ (felt .mul) ex ex ∙ sym (pow-add felt-laws a (2 ^ i) (2 ^ i))))
+
+upTo-cong : {A : Type 0} (f g : ℕ → A) (n : ℕ) → ((i : ℕ) → f i ≡ g i) → upTo f n ≡ upTo g n
+unfolding upTo
+upTo-cong f g zero h = refl
+upTo-cong f g (suc n) h = ap₂ (λ l x. l ++ (x ∷ [])) (upTo-cong f g n h) (h n)
+
+-- the twiddles of the term at place j
+pub row-told : (c : List ℕ) (k j v b L : ℕ) (row : List ℕ) → j ≡ getD (support c) k 0 → v ≡ rootInverse felt generator half c → b ≡ pow felt v j → L ≡ logLength c → row ≡ squares felt b L
+    → row ≡ twiddles felt generator half c k
+unfolding squares twiddles twiddle
+row-told c k j v b L row ej ev eb eL er =
+    er ∙ (ap (λ n. squares felt b n) eL ∙ ap (padded 0 7) (upTo-cong (λ i. pow felt b (2 ^ i)) (λ i. pow felt (rootInverse felt generator half c) (getD (support c) k 0 * 2 ^ i)) (logLength c) one))
+  where
+    one : (i : ℕ) → pow felt b (2 ^ i) ≡ pow felt (rootInverse felt generator half c) (getD (support c) k 0 * 2 ^ i)
+    one i = rw (eb, ev, ej) (sym (pow-mul felt-laws (rootInverse felt generator half c) (getD (support c) k 0) (2 ^ i)))
+
+-- the places found before place j, and those from there on
+module _ (c : List ℕ) (j : ℕ) (h : j < length c) where
+  places-next : placesFrom (λ v. not (eqb v 0)) j (drop j c) ≡ placed j (getD c j 0) ++ placesFrom (λ v. not (eqb v 0)) (j + 1) (drop (j + 1) c)
+  unfolding placesFrom placed
+  places-next = rw (drop-cons c j 0 h, add-one j) (go (eqb (getD c j 0) 0) (placesFrom (λ v. not (eqb v 0)) (suc j) (drop (suc j) c)))
+    where
+      go : (t : Bool) (l : List ℕ) → cond (not t) (j ∷ l) l ≡ cond t [] (j ∷ []) ++ l
+      go true l = refl
+      go false l = refl
+
+  pub place-next : (ps qs t : List ℕ) → qs ≡ ps ++ placed j (getD c j 0) → ps ++ placesFrom (λ v. not (eqb v 0)) j (drop j c) ≡ t → qs ++ placesFrom (λ v. not (eqb v 0)) (j + 1) (drop (j + 1) c) ≡ t
+  place-next ps qs t e inv = rw (e, append-assoc ps (placed j (getD c j 0)) (placesFrom (λ v. not (eqb v 0)) (j + 1) (drop (j + 1) c)), ← places-next) inv
+
+  -- a nonzero entry needs one more word
+  pub place-room : (ps : List ℕ) (n k : ℕ) → length ps ≡ n → ps ++ placesFrom (λ v. not (eqb v 0)) j (drop j c) ≡ support c → length (support c) ≤ k → (getD c j 0 ≡ 0 → ⊥) → n < k
+  unfolding placed
+  place-room ps n k e inv le nz =
+      let one = rw (places-next, ne-eqb (getD c j 0) 0 nz) at inv in
+      let two = length-append ps (j ∷ placesFrom (λ v. not (eqb v 0)) (j + 1) (drop (j + 1) c)) in
+      omega (arith, ap length one)
+
+pub place-end : (c ps t : List ℕ) (j : ℕ) → length c ≤ j → ps ++ placesFrom (λ v. not (eqb v 0)) j (drop j c) ≡ t → ps ≡ t
+unfolding placesFrom
+place-end c ps t j h inv = rw (drop-of-length-le c {i = j} h, append-nil ps) at inv
+
+-- a store whose first n words are the places found
+module _ (s : List ℕ) (n j v : ℕ) where
+  pub place-none : v ≡ 0 → take n s ≡ take n s ++ placed j v
+  unfolding placed
+  place-none e = rw (eq-eqb v 0 e) (sym (append-nil (take n s)))
+
+  pub place-one : (v ≡ 0 → ⊥) → n < length s → take (n + 1) (set s n j) ≡ take n s ++ placed j v
+  unfolding placed
+  place-one e h = rw (ne-eqb v 0 e, add-one n) (take-suc-set s n j h)
+
+-- each place is inside, and there are as many as nonzero entries
+places-inside : (c : List ℕ) (i k : ℕ) → k < length (placesFrom (λ v. not (eqb v 0)) i c) → getD (placesFrom (λ v. not (eqb v 0)) i c) k 0 < i + length c
+unfolding placesFrom
+places-inside [] i k h = absurd (omega arith)
+places-inside (v ∷ c) i k h = go (eqb v 0) k (λ k l. places-inside c (suc i) k l) h
+  where
+    go : (t : Bool) (k : ℕ) → ((k : ℕ) → k < length (placesFrom (λ v. not (eqb v 0)) (suc i) c) → getD (placesFrom (λ v. not (eqb v 0)) (suc i) c) k 0 < suc i + length c)
+        → k < length (cond (not t) (i ∷ placesFrom (λ v. not (eqb v 0)) (suc i) c) (placesFrom (λ v. not (eqb v 0)) (suc i) c))
+        → getD (cond (not t) (i ∷ placesFrom (λ v. not (eqb v 0)) (suc i) c) (placesFrom (λ v. not (eqb v 0)) (suc i) c)) k 0 < i + suc (length c)
+    go true k rest h = omega (arith, rest k h)
+    go false zero rest h = omega arith
+    go false (suc k) rest h = omega (arith, rest k (omega arith))
+
+pub support-inside : (c ps : List ℕ) (k : ℕ) → ps ≡ support c → k < length ps → getD ps k 0 < length c
+support-inside c ps k e h = rw e (omega (arith, places-inside c 0 k (rw (← e) h)))
+
+places-many : (c : List ℕ) (i : ℕ) → length (placesFrom (λ v. not (eqb v 0)) i c) + count 0 c ≡ length c
+unfolding placesFrom count
+places-many [] i = refl
+places-many (v ∷ c) i = go (eqb v 0) (places-many c (suc i))
+  where
+    go : (t : Bool) → length (placesFrom (λ v. not (eqb v 0)) (suc i) c) + count 0 c ≡ length c
+        → length (cond (not t) (i ∷ placesFrom (λ v. not (eqb v 0)) (suc i) c) (placesFrom (λ v. not (eqb v 0)) (suc i) c)) + cond t (suc (count 0 c)) (count 0 c) ≡ suc (length c)
+    go true e = omega arith
+    go false e = omega arith
+
+pub length-support : (c : List ℕ) → length (support c) ≡ others c 0
+length-support c = omega (arith, places-many c 0)
+
+-- the scaled value of the term at a place of the list ps
+pub value-told : (c ps : List ℕ) (k s r : ℕ) → ps ≡ support c → s ≡ sizeInverse felt generator half c → r ≡ felt .mul (getD c (getD ps k 0) 0) s → r ≡ scaledValue felt generator half c (getD (support c) k 0)
+unfolding scaledValue
+value-told c ps k s r ep es er = er ∙ rw (ep, es)
+
+pub horner-end : (x : ℕ) (c : List ℕ) (i v : ℕ) → i ≤ 0 → v ≡ horner felt x (drop i c) → v ≡ horner felt x c
+horner-end x c zero v h e = e
+horner-end x c (suc i) v h e = absurd (omega arith)

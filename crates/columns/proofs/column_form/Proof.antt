@@ -1,0 +1,68 @@
+use mathlib.Core.Path.{_≡_, refl, sym, _∙_, ap}
+use borrow.Author.Tests.{not-true, not-false}
+use Rattle.field.specs.Field.{p}
+use Rattle.dag.specs.Told.{told}
+use Rattle.columns.specs.Columns as Columns
+use Rattle.columns.specs.PrepareLaws.{column-short}
+use Rattle.columns.specs.SavingLaws.{weighed-asks, weighed-room, weighed-alone, weighed-dear, weighed-basis}
+use borrow.Author.Needs.{needs}
+use Rattle.columns.proofs.column_form.Statement.{statement}
+use Rattle.columns.proofs.column_form.Tie as tie
+use Rattle.columns.proofs.column_form.Reads as reads
+use Rattle.columns.proofs.column_form.Lts as lts
+use Rattle.columns.proofs.alone.Reads as alone-reads
+use Rattle.columns.proofs.column.Reads as column-reads
+use Rattle.columns.proofs.goes_over.Reads as goes-over-reads
+
+mul-goes-over : tie.Need-mul-goes-over
+mul-goes-over c = search needs
+
+shared-slice-read-goes-over : tie.Need-shared-slice-read-goes-over
+shared-slice-read-goes-over c = search needs
+
+goes-over-requires : tie.Need-goes-over-requires
+goes-over-requires c κs = weighed-asks p _ _ _ _ _ (c .before .before .before .before .before .pre .1) (c .before .before .before .before .before .pre .0)
+
+column-requires : tie.Need-column-requires
+column-requires c κs = search needs
+
+alone-requires : tie.Need-alone-requires
+alone-requires c κs = rw (c .column .ensures) (column-short p _ _ _ (c .before .before .before .before .before .before .before .before .pre .1) (c .before .before .before .before .before .before .before .before .pre .0 .tested .handed))
+
+returns : tie.Need-returns
+returns c = c .alone .ensures ∙ rw (c .before .column .ensures) (weighed-alone p _ _ _ _ _ (c .before .before .before .before .before .before .before .before .before .pre .1) (c .before .before .before .before .before .before .before .before .before .pre .0) (told (c .before .before .before .goes-over .ensures) (not-true _ (c .before .before .if1 .taken))))
+
+mul-if2 : tie.Need-mul-if2
+mul-if2 c = search needs
+
+shared-slice-read-if2 : tie.Need-shared-slice-read-if2
+shared-slice-read-if2 c = weighed-room p _ _ _ _ _ (c .before .before .before .before .before .before .before .before .pre .1) (c .before .before .before .before .before .before .before .before .pre .0)
+
+column-requires-2 : tie.Need-column-requires-2
+column-requires-2 c κs = search needs
+
+alone-requires-2 : tie.Need-alone-requires-2
+alone-requires-2 c κs = rw (c .column2 .ensures) (column-short p _ _ _ (c .before .before .before .before .before .before .before .before .before .before .pre .1) (c .before .before .before .before .before .before .before .before .before .before .pre .0 .tested .handed))
+
+returns-2 : tie.Need-returns-2
+returns-2 c = c .alone2 .ensures ∙ rw (c .before .column2 .ensures) (weighed-dear p _ _ _ _ _ (c .before .before .before .before .before .before .before .before .before .before .before .pre .1) (c .before .before .before .before .before .before .before .before .before .before .before .pre .0) (c .before .before .if2 .taken))
+
+returns-3 : tie.Need-returns-3
+returns-3 c = weighed-basis p _ _ _ _ _ (c .before .before .before .before .before .before .before .before .before .pre .1) (c .before .before .before .before .before .before .before .before .before .pre .0) (told (c .before .before .before .goes-over .ensures) (not-false _ (c .before .before .if1 .left))) (c .if2 .left)
+
+pub column-form-spec : {M : Type 1} → statement M
+column-form-spec =
+    tie.close
+    (tie.spec
+    mul-goes-over
+    shared-slice-read-goes-over
+    goes-over-requires
+    column-requires
+    alone-requires
+    returns
+    mul-if2
+    shared-slice-read-if2
+    column-requires-2
+    alone-requires-2
+    returns-2
+    returns-3)

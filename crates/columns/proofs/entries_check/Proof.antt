@@ -1,0 +1,63 @@
+use borrow.Author.Tests.{not-true, not-false}
+-- The invariant: the columns before place j are good.
+use Prim.Native.Nat.{_-_, _≤_}
+use mathlib.Core.Path.{_≡_, refl, sym, _∙_, ap}
+use native.Mathlib.Omega.{arith}
+use borrow.Author.Needs.{needs}
+use lib.ListN.{length}
+use Rattle.field.specs.Field.{p}
+use Rattle.dag.specs.Told.{told}
+use Rattle.dag.specs.declared.Checked.the-variants.{Good}
+use Rattle.columns.specs.Prepare as Prepare
+use Rattle.columns.specs.PrepareLaws.{first-none, first-next, first-stop, first-all, entries-good, entries-bad}
+use Rattle.columns.proofs.entries_check.Statement.{statement}
+use Rattle.columns.proofs.entries_check.Tie as tie
+use Rattle.columns.proofs.entries_check.Reads as reads
+use Rattle.columns.proofs.entries_check.Lts as lts
+use Rattle.columns.proofs.all_below.Reads as all-below-reads
+use Rattle.columns.proofs.column.Reads as column-reads
+
+abbrev Inv-loop : tie.InvT-loop
+Inv-loop lengths entries j₀ j = (j ≤ length lengths) × (Prepare.firstOf (Prepare.entriesCheck p (Prepare.columns lengths entries)) j ≡ Good)
+
+abbrev μ-loop : tie.MeasureT-loop
+μ-loop lengths entries j₀ j = length lengths - j
+
+loop-holds : tie.Need-loop-holds Inv-loop μ-loop
+loop-holds c = (omega arith, first-none _)
+
+column-requires : tie.Need-column-requires Inv-loop μ-loop
+column-requires c κs = (c .before .before .before .before .pre, c .loop-test .taken)
+
+all-below-requires : tie.Need-all-below-requires Inv-loop μ-loop
+all-below-requires c κs = search needs
+
+returns : tie.Need-returns Inv-loop μ-loop
+returns c = first-stop _ _ _ _ (c .before .before .before .before .loop .inv .1) (entries-bad _ _ _ (ap (Prepare.allBelow p) (sym (c .before .before .column .ensures)) ∙ told (c .before .all-below .ensures) (not-true _ (c .if1 .taken)))) (c .before .before .before .loop-test .taken)
+
+add-j : tie.Need-add-j Inv-loop μ-loop
+add-j c = omega arith
+
+loop-less : tie.Need-loop-less Inv-loop μ-loop
+loop-less c = omega arith
+
+loop-again : tie.Need-loop-again Inv-loop μ-loop
+loop-again c = (omega arith, first-next _ _ (c .before .before .before .before .loop .inv .1) (entries-good _ _ _ (ap (Prepare.allBelow p) (sym (c .before .before .column .ensures)) ∙ told (c .before .all-below .ensures) (not-false _ (c .if1 .left)))))
+
+returns-2 : tie.Need-returns-2 Inv-loop μ-loop
+returns-2 c = first-all _ _ _ (c .before .loop .inv .1) (c .before .loop .inv .0) (c .loop-test .left)
+
+pub entries-check-spec : {M : Type 1} → statement M
+entries-check-spec =
+    tie.close
+    (tie.spec
+    Inv-loop
+    μ-loop
+    loop-holds
+    column-requires
+    all-below-requires
+    returns
+    add-j
+    loop-less
+    loop-again
+    returns-2)

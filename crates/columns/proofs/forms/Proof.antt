@@ -1,0 +1,92 @@
+use Rattle.columns.specs.SavingLaws.{length-gains, length-each}
+-- The invariant: the places before j are filled.
+use Prim.Native.Nat.{_-_, _≤_}
+use mathlib.Core.Path.{_≡_, refl, sym, _∙_, ap}
+use native.Mathlib.Nat.{lt-of-lt-of-le}
+use native.Mathlib.Omega.{arith}
+use borrow.Author.Needs.{needs}
+use lib.ListN.{length}
+use Rattle.field.specs.Field.{p}
+use Rattle.columns.specs.Columns as Columns
+use Rattle.columns.specs.Prepare as Prepare
+use Rattle.columns.specs.ColumnLaws.{length-columns}
+use Rattle.columns.specs.ArrayLaws.{fill-next, fill-all}
+use Rattle.columns.proofs.forms.Statement.{statement}
+use Rattle.columns.proofs.forms.Tie as tie
+use Rattle.columns.proofs.forms.Reads as reads
+use Rattle.columns.proofs.forms.Lts as lts
+use Rattle.columns.proofs.column_form.Reads as column-form-reads
+use Rattle.columns.proofs.form_number.Reads as form-number-reads
+use Rattle.columns.proofs.gains.Reads as gains-reads
+use Rattle.columns.proofs.savings_each.Reads as savings-each-reads
+
+abbrev Inv-loop : tie.InvT-loop
+Inv-loop lengths entries gains each forms₀ j₀ forms j = (j ≤ length lengths) × (forms ≡ Prepare.padded 0 16 (Prepare.upTo (λ i. Columns.formNumber (Columns.form p (Prepare.columns lengths entries) i)) j))
+
+abbrev μ-loop : tie.MeasureT-loop
+μ-loop lengths entries gains each forms₀ j₀ forms j = length lengths - j
+
+gains-requires : tie.Need-gains-requires Inv-loop μ-loop
+gains-requires c κs = c .before .before .pre
+
+slice-aggregate-savings-each : tie.Need-slice-aggregate-savings-each Inv-loop μ-loop
+slice-aggregate-savings-each c = sym (ap length (c .before .gains .ensures) ∙ length-gains p _ _ (c .before .before .before .before .pre .handed))
+
+savings-each-requires : tie.Need-savings-each-requires Inv-loop μ-loop
+savings-each-requires c κs = (c .before .before .before .before .pre .handed, c .before .gains .ensures)
+
+loop-holds : tie.Need-loop-holds Inv-loop μ-loop
+unfolding Prepare.padded Prepare.upTo
+loop-holds c = (omega arith, refl)
+
+slice-aggregate-column-form : tie.Need-slice-aggregate-column-form Inv-loop μ-loop
+slice-aggregate-column-form c = sym (ap length (c .before .before .before .before .before .gains .ensures) ∙ length-gains p _ _ (c .before .before .before .before .before .before .before .before .pre .handed))
+
+slice-aggregate-column-form-2 : tie.Need-slice-aggregate-column-form-2 Inv-loop μ-loop
+slice-aggregate-column-form-2 c = sym (ap length (c .before .before .before .before .savings-each .ensures) ∙ length-each p _ _ (c .before .before .before .before .before .before .before .before .before .pre .handed))
+
+column-form-requires : tie.Need-column-form-requires Inv-loop μ-loop
+column-form-requires c κs = (record { tested = c .before .before .before .before .before .before .before .before .before .pre; gained = c .before .before .before .before .before .before .gains .ensures; saved = c .before .before .before .before .savings-each .ensures }, c .before .before .loop-test .taken)
+
+form-number-requires : tie.Need-form-number-requires Inv-loop μ-loop
+form-number-requires c κs = search needs
+
+mul-forms : tie.Need-mul-forms Inv-loop μ-loop
+mul-forms c = omega (arith, lt-of-lt-of-le (c .before .before .before .before .loop-test .taken) (c .before .before .before .before .before .before .before .before .before .before .before .pre .handed .few))
+
+array-write-forms : tie.Need-array-write-forms Inv-loop μ-loop
+array-write-forms c = lt-of-lt-of-le (c .before .before .before .before .loop-test .taken) (c .before .before .before .before .before .before .before .before .before .before .before .pre .handed .few)
+
+add-j : tie.Need-add-j Inv-loop μ-loop
+add-j c = omega arith
+
+loop-less : tie.Need-loop-less Inv-loop μ-loop
+loop-less c = omega arith
+
+loop-again : tie.Need-loop-again Inv-loop μ-loop
+loop-again c = (omega arith, fill-next _ _ _ _ _ _ (lt-of-lt-of-le (c .before .before .before .before .loop-test .taken) (c .before .before .before .before .before .before .before .before .before .before .before .pre .handed .few)) (c .before .before .before .before .before .loop .inv .1) (c .form-number .ensures ∙ ap Columns.formNumber (c .before .column-form .ensures)))
+
+returns : tie.Need-returns Inv-loop μ-loop
+unfolding Prepare.forms
+returns c = fill-all _ _ _ _ _ _ _ (c .before .loop .inv .1) (c .before .loop .inv .0) (c .loop-test .left) (length-columns _ _)
+
+pub forms-spec : {M : Type 1} → statement M
+forms-spec =
+    tie.close
+    (tie.spec
+    Inv-loop
+    μ-loop
+    gains-requires
+    slice-aggregate-savings-each
+    savings-each-requires
+    loop-holds
+    slice-aggregate-column-form
+    slice-aggregate-column-form-2
+    column-form-requires
+    form-number-requires
+    mul-forms
+    array-write-forms
+    add-j
+    loop-less
+    loop-again
+    returns)

@@ -1,0 +1,64 @@
+-- The invariant: an equal column among the first i is one among the first j.
+use Prim.Native.Nat.{_-_, _≤_}
+use mathlib.Core.Path.{_≡_, refl, sym, _∙_, ap, ap₂}
+use native.Mathlib.Omega.{arith}
+use borrow.Author.Needs.{needs}
+use Rattle.dag.specs.Told.{told}
+use Rattle.columns.specs.Columns as Columns
+use Rattle.columns.specs.Prepare as Prepare
+use Rattle.columns.specs.ColumnLaws.{among-hit, among-on, among-none}
+use Rattle.columns.proofs.is_repeated.Statement.{statement}
+use Rattle.columns.proofs.is_repeated.Tie as tie
+use Rattle.columns.proofs.is_repeated.Reads as reads
+use Rattle.columns.proofs.is_repeated.Lts as lts
+use Rattle.columns.proofs.column.Reads as column-reads
+use Rattle.columns.proofs.same.Reads as same-reads
+
+abbrev Inv-loop : tie.InvT-loop
+Inv-loop lengths entries j i₀ i = (i ≤ j) × (Columns.isAmong (Prepare.columns lengths entries) j i ≡ Columns.isAmong (Prepare.columns lengths entries) j j)
+
+abbrev μ-loop : tie.MeasureT-loop
+μ-loop lengths entries j i₀ i = i
+
+loop-holds : tie.Need-loop-holds Inv-loop μ-loop
+loop-holds c = (omega arith, refl)
+
+sub-i : tie.Need-sub-i Inv-loop μ-loop
+sub-i c = omega arith
+
+column-requires : tie.Need-column-requires Inv-loop μ-loop
+column-requires c κs = (c .before .before .before .before .pre .0, omega arith)
+
+column-requires-2 : tie.Need-column-requires-2 Inv-loop μ-loop
+column-requires-2 c κs = (c .before .before .before .before .before .pre .0, omega arith)
+
+same-requires : tie.Need-same-requires Inv-loop μ-loop
+same-requires c κs = search needs
+
+returns : tie.Need-returns Inv-loop μ-loop
+returns c = among-hit _ _ _ _ (c .before .before .before .before .loop-test .taken) (sym (ap₂ Columns.sameEntries (c .before .before .before .column .ensures) (c .before .before .column2 .ensures)) ∙ told (c .before .same .ensures) (c .if1 .taken)) (c .before .before .before .before .before .loop .inv .1)
+
+loop-less : tie.Need-loop-less Inv-loop μ-loop
+loop-less c = omega arith
+
+loop-again : tie.Need-loop-again Inv-loop μ-loop
+loop-again c = (omega arith, among-on _ _ _ _ (c .before .before .before .before .loop-test .taken) (sym (ap₂ Columns.sameEntries (c .before .before .before .column .ensures) (c .before .before .column2 .ensures)) ∙ told (c .before .same .ensures) (c .if1 .left)) (c .before .before .before .before .before .loop .inv .1))
+
+returns-2 : tie.Need-returns-2 Inv-loop μ-loop
+returns-2 c = among-none _ _ _ _ (c .loop-test .left) (c .before .loop .inv .1)
+
+pub is-repeated-spec : {M : Type 1} → statement M
+is-repeated-spec =
+    tie.close
+    (tie.spec
+    Inv-loop
+    μ-loop
+    loop-holds
+    sub-i
+    column-requires
+    column-requires-2
+    same-requires
+    returns
+    loop-less
+    loop-again
+    returns-2)

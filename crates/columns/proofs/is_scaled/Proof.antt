@@ -1,0 +1,28 @@
+use Rattle.columns.specs.CostLaws.{unit-told, scaled-told}
+use borrow.Author.Tests.{eq-eqb, ne-eqb}
+use Rattle.columns.specs.Columns as Columns
+use borrow.Author.Needs.{needs}
+use Rattle.columns.proofs.is_scaled.Statement.{statement}
+use Rattle.columns.proofs.is_scaled.Tie as tie
+use Rattle.columns.proofs.is_scaled.Reads as reads
+use Rattle.columns.proofs.is_scaled.Lts as lts
+use Rattle.field.proofs.felt.sub.Reads as sub-reads
+
+returns : tie.Need-returns
+unfolding Columns.isScaled
+returns c = rw (eq-eqb _ _ (c .if1 .taken))
+
+sub-requires : tie.Need-sub-requires
+sub-requires c κs = search needs
+
+returns-2 : tie.Need-returns-2
+returns-2 c = unit-told _ _ _ (c .before .before .if1 .left) (c .before .sub .ensures .0) (c .if2 .taken)
+
+sub-result : tie.Need-sub-result
+sub-result c = search needs
+
+returns-3 : tie.Need-returns-3
+returns-3 c = scaled-told _ _ _ (c .before .before .if1 .left) (c .before .sub .ensures .0) (c .if2 .left)
+
+pub is-scaled-spec : {M : Type 1} → statement M
+is-scaled-spec = tie.close (tie.spec returns sub-requires returns-2 sub-result returns-3)

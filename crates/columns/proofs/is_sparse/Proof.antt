@@ -1,0 +1,45 @@
+use Rattle.columns.specs.CostLaws.{sparse-told}
+use native.Mathlib.Omega.{arith}
+use borrow.Author.Tests.{eq-eqb, ne-eqb}
+use Rattle.dag.specs.Told.{told}
+use Rattle.columns.specs.Columns as Columns
+use Rattle.columns.specs.CostLaws.{log-length-le}
+use borrow.Author.Needs.{needs}
+use Rattle.columns.proofs.is_sparse.Statement.{statement}
+use Rattle.columns.proofs.is_sparse.Tie as tie
+use Rattle.columns.proofs.is_sparse.Reads as reads
+use Rattle.columns.proofs.is_sparse.Lts as lts
+use Rattle.columns.proofs.dense_ops.Reads as dense-ops-reads
+use Rattle.columns.proofs.log_length.Reads as log-length-reads
+use Rattle.columns.proofs.others.Reads as others-reads
+use Rattle.columns.proofs.sparse_ops.Reads as sparse-ops-reads
+
+others-requires : tie.Need-others-requires
+others-requires c κs = search needs
+
+returns : tie.Need-returns
+unfolding Columns.isSparse
+returns c = rw (eq-eqb _ _ (told (c .before .others .ensures) (c .if1 .taken)))
+
+log-length-requires : tie.Need-log-length-requires
+log-length-requires c κs = search needs
+
+sparse-ops-requires : tie.Need-sparse-ops-requires
+sparse-ops-requires c κs = (omega arith, c .log-length .ensures .1)
+
+dense-ops-requires : tie.Need-dense-ops-requires
+dense-ops-requires c κs = search needs
+
+returns-2 : tie.Need-returns-2
+returns-2 c = sparse-told _ _ _ _ (c .before .before .before .before .others .ensures) (c .before .before .log-length .ensures .0) (c .before .sparse-ops .ensures) _ (c .dense-ops .ensures) (c .before .before .before .if1 .left)
+
+pub is-sparse-spec : {M : Type 1} → statement M
+is-sparse-spec =
+    tie.close
+    (tie.spec
+    others-requires
+    returns
+    log-length-requires
+    sparse-ops-requires
+    dense-ops-requires
+    returns-2)

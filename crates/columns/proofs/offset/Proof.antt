@@ -1,0 +1,43 @@
+use lib.Dec.{lit<}
+use Rattle.field.specs.Field.{p}
+use Rattle.columns.specs.ClassLaws.{dominant-below, offset-dominant, offset-zero}
+use borrow.Author.Needs.{needs}
+use Rattle.columns.proofs.offset.Statement.{statement}
+use Rattle.columns.proofs.offset.Tie as tie
+use Rattle.columns.proofs.offset.Reads as reads
+use Rattle.columns.proofs.offset.Lts as lts
+use Rattle.columns.proofs.combination_cost.Reads as combination-cost-reads
+use Rattle.columns.proofs.dominant.Reads as dominant-reads
+
+dominant-requires : tie.Need-dominant-requires
+dominant-requires c κs = search needs
+
+combination-cost-requires : tie.Need-combination-cost-requires
+combination-cost-requires c κs =
+    let pre = c .before .before .before .pre in
+    (pre, dominant-below p _ _ _ (lit< tt) (pre .low) (pre .are) (c .dominant .ensures))
+
+combination-cost-requires-2 : tie.Need-combination-cost-requires-2
+combination-cost-requires-2 c κs = search needs
+
+returns : tie.Need-returns
+returns c =
+    let pre = c .before .before .before .before .before .before .pre in (
+      offset-dominant _ _ _ _ _ _ (pre .are) (c .before .before .before .dominant .ensures) (c .before .before .combination-cost .ensures) (c .before .combination-cost2 .ensures) (c .if1 .taken),
+      dominant-below p _ _ _ (lit< tt) (pre .low) (pre .are) (c .before .before .before .dominant .ensures),
+    )
+
+returns-2 : tie.Need-returns-2
+returns-2 c =
+    let pre = c .before .before .before .before .before .before .pre in
+    (offset-zero _ _ _ _ _ _ (pre .are) (c .before .before .before .dominant .ensures) (c .before .before .combination-cost .ensures) (c .before .combination-cost2 .ensures) (c .if1 .left), lit< tt)
+
+pub offset-spec : {M : Type 1} → statement M
+offset-spec =
+    tie.close
+    (tie.spec
+    dominant-requires
+    combination-cost-requires
+    combination-cost-requires-2
+    returns
+    returns-2)

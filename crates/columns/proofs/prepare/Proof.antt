@@ -1,0 +1,34 @@
+use Rattle.columns.specs.PrepareLaws.{prepare-refused, prepare-good}
+use mathlib.Core.Path.{_≡_, refl, sym, _∙_, ap}
+use borrow.Author.Needs.{needs}
+use Rattle.dag.specs.CheckLaws.{good-told, bad-told}
+use Rattle.columns.specs.Prepare as Prepare
+use Rattle.columns.specs.PrepareLaws.{prepared}
+use Rattle.columns.proofs.prepare.Statement.{statement}
+use Rattle.columns.proofs.prepare.Tie as tie
+use Rattle.columns.proofs.prepare.Reads as reads
+use Rattle.columns.proofs.prepare.Lts as lts
+use Rattle.columns.proofs.forms.Reads as forms-reads
+use Rattle.columns.proofs.prepare_check.Reads as prepare-check-reads
+use Rattle.dag.proofs.is_refused.Reads as is-refused-reads
+
+prepare-check-requires : tie.Need-prepare-check-requires
+prepare-check-requires c κs = search needs
+
+is-refused-requires : tie.Need-is-refused-requires
+is-refused-requires c κs = search needs
+
+returns : tie.Need-returns
+unfolding Prepare.padded
+returns c = prepare-refused _ _ _ _ (c .before .before .prepare-check .ensures) (bad-told (c .before .before .prepare-check .ensures) (c .before .is-refused .ensures) (c .if1 .taken))
+
+forms-requires : tie.Need-forms-requires
+forms-requires c κs = prepared _ _ _ (good-told (c .before .before .prepare-check .ensures) (c .before .is-refused .ensures) (c .if1 .left))
+
+returns-2 : tie.Need-returns-2
+returns-2 c = prepare-good _ _ _ _ _ (c .before .before .before .prepare-check .ensures) (good-told (c .before .before .before .prepare-check .ensures) (c .before .before .is-refused .ensures) (c .before .if1 .left)) (c .forms .ensures)
+
+pub prepare-spec : {M : Type 1} → statement M
+prepare-spec =
+    tie.close
+    (tie.spec prepare-check-requires is-refused-requires returns forms-requires returns-2)

@@ -1,0 +1,54 @@
+use Rattle.field.specs.Field.{p}
+use Rattle.columns.specs.PrepareLaws.{lengths-small, check-lengths, check-store, check-handed, check-entries}
+use native.Mathlib.Omega.{arith}
+use mathlib.Core.Path.{_≡_, refl, sym, _∙_, ap}
+use borrow.Author.Tests.{le-leb, lt-leb}
+use Rattle.dag.specs.CheckLaws.{good-told, bad-told}
+use Rattle.columns.specs.Prepare as Prepare
+use borrow.Author.Needs.{needs}
+use Rattle.columns.proofs.prepare_check.Statement.{statement}
+use Rattle.columns.proofs.prepare_check.Tie as tie
+use Rattle.columns.proofs.prepare_check.Reads as reads
+use Rattle.columns.proofs.prepare_check.Lts as lts
+use Rattle.columns.proofs.entries_check.Reads as entries-check-reads
+use Rattle.columns.proofs.lengths_check.Reads as lengths-check-reads
+use Rattle.columns.proofs.start.Reads as start-reads
+use Rattle.dag.proofs.is_refused.Reads as is-refused-reads
+
+returns : tie.Need-returns
+unfolding Prepare.prepareCheck
+returns c = rw (lt-leb _ _ (c .if1 .taken))
+
+lengths-check-requires : tie.Need-lengths-check-requires
+lengths-check-requires c κs = search needs
+
+is-refused-requires : tie.Need-is-refused-requires
+is-refused-requires c κs = search needs
+
+returns-2 : tie.Need-returns-2
+returns-2 c = check-lengths _ _ _ (c .before .before .before .if1 .left) _ (c .before .before .lengths-check .ensures) (bad-told (c .before .before .lengths-check .ensures) (c .before .is-refused .ensures) (c .if2 .taken))
+
+start-requires : tie.Need-start-requires
+start-requires c κs = (omega arith, lengths-small _ (c .before .before .before .if1 .left) (good-told (c .before .before .lengths-check .ensures) (c .before .is-refused .ensures) (c .if2 .left)))
+
+returns-3 : tie.Need-returns-3
+returns-3 c = check-store _ _ _ (c .before .before .before .before .before .if1 .left) (good-told (c .before .before .before .before .lengths-check .ensures) (c .before .before .before .is-refused .ensures) (c .before .before .if2 .left)) _ (c .before .start .ensures) (c .if3 .taken)
+
+entries-check-requires : tie.Need-entries-check-requires
+entries-check-requires c κs = check-handed p _ _ (c .before .before .before .before .before .if1 .left) (good-told (c .before .before .before .before .lengths-check .ensures) (c .before .before .before .is-refused .ensures) (c .before .before .if2 .left)) _ (c .before .start .ensures) (c .if3 .left)
+
+returns-4 : tie.Need-returns-4
+returns-4 c = check-entries _ _ _ (c .before .before .before .before .before .before .if1 .left) (good-told (c .before .before .before .before .before .lengths-check .ensures) (c .before .before .before .before .is-refused .ensures) (c .before .before .before .if2 .left)) _ (c .before .before .start .ensures) _ (c .before .if3 .left) (c .entries-check .ensures)
+
+pub prepare-check-spec : {M : Type 1} → statement M
+prepare-check-spec =
+    tie.close
+    (tie.spec
+    returns
+    lengths-check-requires
+    is-refused-requires
+    returns-2
+    start-requires
+    returns-3
+    entries-check-requires
+    returns-4)

@@ -1,0 +1,67 @@
+use Rattle.columns.specs.ArrayLaws.{fill-all}
+use native.Mathlib.Nat.{lt-of-lt-of-le, le-of-eq}
+-- The invariant: the places before j are filled.
+use Prim.Native.Nat.{_-_, _≤_}
+use mathlib.Core.Path.{_≡_, refl, sym, _∙_, ap}
+use native.Mathlib.Omega.{arith}
+use borrow.Author.Needs.{needs}
+use lib.ListN.{length}
+use Rattle.field.specs.Field.{p}
+use Rattle.columns.specs.Columns as Columns
+use Rattle.columns.specs.Prepare as Prepare
+use Rattle.columns.specs.Contracts as Said
+use Rattle.columns.specs.ColumnLaws.{length-columns}
+use Rattle.columns.specs.ArrayLaws.{fill-next}
+use Rattle.columns.specs.SavingLaws.{counted-is, length-gains}
+use Rattle.columns.proofs.savings_each.Statement.{statement}
+use Rattle.columns.proofs.savings_each.Tie as tie
+use Rattle.columns.proofs.savings_each.Reads as reads
+use Rattle.columns.proofs.savings_each.Lts as lts
+use Rattle.columns.proofs.saving.Reads as saving-reads
+
+abbrev Inv-loop : tie.InvT-loop
+Inv-loop lengths entries gains each₀ j₀ each j = (j ≤ length lengths) × (each ≡ Prepare.padded 0 16 (Prepare.upTo (Columns.saving p (Prepare.columns lengths entries)) j))
+
+abbrev μ-loop : tie.MeasureT-loop
+μ-loop lengths entries gains each₀ j₀ each j = length lengths - j
+
+loop-holds : tie.Need-loop-holds Inv-loop μ-loop
+unfolding Prepare.padded Prepare.upTo
+loop-holds c = (omega arith, refl)
+
+saving-requires : tie.Need-saving-requires Inv-loop μ-loop
+saving-requires c κs = (c .before .before .before .before .before .pre .0, c .loop-test .taken, lt-of-lt-of-le (lt-of-lt-of-le (c .loop-test .taken) (c .before .before .before .before .before .pre .0 .few)) (le-of-eq (sym (ap length (c .before .before .before .before .before .pre .1) ∙ length-gains p _ _ (c .before .before .before .before .before .pre .0)))))
+
+mul-each : tie.Need-mul-each Inv-loop μ-loop
+mul-each c = omega (arith, lt-of-lt-of-le (c .before .loop-test .taken) (c .before .before .before .before .before .before .pre .0 .few))
+
+array-write-each : tie.Need-array-write-each Inv-loop μ-loop
+array-write-each c = lt-of-lt-of-le (c .before .loop-test .taken) (c .before .before .before .before .before .before .pre .0 .few)
+
+add-j : tie.Need-add-j Inv-loop μ-loop
+add-j c = omega arith
+
+loop-less : tie.Need-loop-less Inv-loop μ-loop
+loop-less c = omega arith
+
+loop-again : tie.Need-loop-again Inv-loop μ-loop
+loop-again c = (omega arith, fill-next _ _ _ _ _ _ (lt-of-lt-of-le (c .before .loop-test .taken) (c .before .before .before .before .before .before .pre .0 .few)) (c .before .before .loop .inv .1) (c .saving .ensures ∙ counted-is _ _ _ (c .before .before .before .before .before .before .pre .0) _ _ (c .before .before .before .before .before .before .pre .1) (c .before .loop-test .taken)))
+
+returns : tie.Need-returns Inv-loop μ-loop
+unfolding Said.savingsEach
+returns c = fill-all _ _ _ _ _ _ _ (c .before .loop .inv .1) (c .before .loop .inv .0) (c .loop-test .left) (length-columns _ _)
+
+pub savings-each-spec : {M : Type 1} → statement M
+savings-each-spec =
+    tie.close
+    (tie.spec
+    Inv-loop
+    μ-loop
+    loop-holds
+    saving-requires
+    mul-each
+    array-write-each
+    add-j
+    loop-less
+    loop-again
+    returns)

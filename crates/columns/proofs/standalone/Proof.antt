@@ -1,0 +1,68 @@
+use Rattle.columns.specs.CostLaws.{standalone-sparse, standalone-dense}
+use Rattle.dag.specs.Told.{told}
+use native.Mathlib.Omega.{arith}
+use Rattle.columns.specs.Columns as Columns
+use Rattle.columns.specs.CostLaws.{log-length-le, ops-fit}
+use borrow.Author.Needs.{needs}
+use Rattle.columns.proofs.standalone.Statement.{statement}
+use Rattle.columns.proofs.standalone.Tie as tie
+use Rattle.columns.proofs.standalone.Reads as reads
+use Rattle.columns.proofs.standalone.Lts as lts
+use Rattle.columns.proofs.dense_ops.Reads as dense-ops-reads
+use Rattle.columns.proofs.is_sparse.Reads as is-sparse-reads
+use Rattle.columns.proofs.log_length.Reads as log-length-reads
+use Rattle.columns.proofs.others.Reads as others-reads
+use Rattle.columns.proofs.sparse_ops.Reads as sparse-ops-reads
+
+is-sparse-requires : tie.Need-is-sparse-requires
+is-sparse-requires c κs = search needs
+
+others-requires : tie.Need-others-requires
+others-requires c κs = search needs
+
+log-length-requires : tie.Need-log-length-requires
+log-length-requires c κs = search needs
+
+sparse-ops-requires : tie.Need-sparse-ops-requires
+sparse-ops-requires c κs = (omega arith, c .log-length .ensures .1)
+
+add-result : tie.Need-add-result
+add-result c = omega arith
+
+mul-result : tie.Need-mul-result
+mul-result c = omega arith
+
+add-result-2 : tie.Need-add-result-2
+add-result-2 c = omega (arith, ops-fit (c .before .before .others .result) (c .before .log-length .result) (omega arith) (c .before .log-length .ensures .1))
+
+returns : tie.Need-returns
+returns c = standalone-sparse _ _ _ _ (c .before .before .others .ensures) (c .before .log-length .ensures .0) (c .sparse-ops .ensures) (told (c .before .before .before .before .is-sparse .ensures) (c .before .before .before .if1 .taken))
+
+dense-ops-requires : tie.Need-dense-ops-requires
+dense-ops-requires c κs = search needs
+
+mul-result-2 : tie.Need-mul-result-2
+mul-result-2 c = search needs
+
+add-result-3 : tie.Need-add-result-3
+add-result-3 c = search needs
+
+returns-2 : tie.Need-returns-2
+returns-2 c = standalone-dense _ _ (c .dense-ops .ensures) (told (c .before .before .is-sparse .ensures) (c .before .if1 .left))
+
+pub standalone-spec : {M : Type 1} → statement M
+standalone-spec =
+    tie.close
+    (tie.spec
+    is-sparse-requires
+    others-requires
+    log-length-requires
+    sparse-ops-requires
+    add-result
+    mul-result
+    add-result-2
+    returns
+    dense-ops-requires
+    mul-result-2
+    add-result-3
+    returns-2)

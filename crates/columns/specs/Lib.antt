@@ -1,0 +1,11 @@
+pub mod Columns
+pub mod Prepare
+pub mod Contracts
+pub mod LogLaws
+pub mod CountLaws
+pub mod ClassLaws
+pub mod CostLaws
+pub mod ColumnLaws
+pub mod ArrayLaws
+pub mod PrepareLaws
+pub mod SavingLaws

@@ -1,0 +1,73 @@
+use Rattle.compact.specs.LoopLaws.{sweep-none}
+use Rattle.dag.specs.NodeLaws.{at-nodes}
+use Rattle.compact.specs.LoopLaws.{operands-inside, sweep-marked, sweep-unmarked}
+use Rattle.compact.specs.Reach.{marked, sweep}
+use Rattle.dag.specs.Nodes.{nodes}
+use lib.ListN.{length, length-set}
+use native.Mathlib.Omega.{arith}
+use mathlib.Core.Path.{_≡_, refl, sym, _∙_, ap}
+use Prim.Native.Nat.{_≤_, _-_}
+use Rattle.compact.proofs.mark_reachable.Statement.{statement}
+use Rattle.compact.proofs.mark_reachable.Tie as tie
+
+abbrev Inv-loop : tie.InvT-loop
+Inv-loop list n root reachable₀ i₀ reachable i = (i ≤ n) × (length reachable ≡ length reachable₀) × (sweep (nodes list n) n reachable₀ ≡ sweep (nodes list n) i reachable)
+
+abbrev μ-loop : tie.MeasureT-loop
+μ-loop list n root reachable₀ i₀ reachable i = i
+
+slice-write-reachable : tie.Need-slice-write-reachable Inv-loop μ-loop
+slice-write-reachable c = omega (arith, c .before .before .pre .inside, c .before .before .pre .fits)
+
+loop-holds : tie.Need-loop-holds Inv-loop μ-loop
+loop-holds c = (omega arith, refl, refl)
+
+sub-i : tie.Need-sub-i Inv-loop μ-loop
+sub-i c = omega arith
+
+slice-read-if1 : tie.Need-slice-read-if1 Inv-loop μ-loop
+slice-read-if1 c = omega (arith, simp length-set at (c .before .before .loop .inv .1), c .before .before .before .before .before .pre .fits)
+
+node-at-requires : tie.Need-node-at-requires Inv-loop μ-loop
+node-at-requires c κs = omega (arith, c .before .before .before .before .before .before .before .pre .sound .room)
+
+mark-operands-requires : tie.Need-mark-operands-requires Inv-loop μ-loop
+mark-operands-requires c κs = operands-inside _ _ _ _ _ (c .before .before .before .before .before .before .before .before .pre .sound) (omega arith) (omega (arith, simp length-set at (c .before .before .before .before .before .loop .inv .1), c .before .before .before .before .before .before .before .before .pre .fits)) (c .node-at .ensures)
+
+loop-less : tie.Need-loop-less Inv-loop μ-loop
+loop-less c = omega arith
+
+loop-again : tie.Need-loop-again Inv-loop μ-loop
+loop-again c = (omega arith, c .before .before .mark-operands .kept .0 ∙ c .before .before .before .before .before .before .before .before .loop .inv .1, c .before .before .before .before .before .before .before .before .loop .inv .2 ∙ (sweep-marked _ _ _ (c .before .before .before .before .before .before .before .loop-test .taken) _ (c .before .before .before .before .before .if1 .taken) (c .before .before .before .node-at .ensures ∙ sym (at-nodes _ _ _ (omega arith))) ∙ ap (sweep _ _) (sym (c .before .before .mark-operands .ensures))))
+
+loop-less-2 : tie.Need-loop-less-2 Inv-loop μ-loop
+loop-less-2 c = omega arith
+
+loop-again-2 : tie.Need-loop-again-2 Inv-loop μ-loop
+loop-again-2 c = (omega arith, c .before .before .before .loop .inv .1, c .before .before .before .loop .inv .2 ∙ sweep-unmarked _ _ _ (c .before .before .loop-test .taken) (c .if1 .left))
+
+same-length : tie.Need-same-length Inv-loop μ-loop
+same-length c = simp length-set at (c .before .loop .inv .1)
+
+returns : tie.Need-returns Inv-loop μ-loop
+unfolding marked
+returns c = sym (c .before .loop .inv .2 ∙ sweep-none _ _ _ (c .loop-test .left))
+
+pub mark-reachable-spec : {M : Type 1} → statement M
+mark-reachable-spec =
+    tie.close
+    (tie.spec
+    Inv-loop
+    μ-loop
+    slice-write-reachable
+    loop-holds
+    sub-i
+    slice-read-if1
+    node-at-requires
+    mark-operands-requires
+    loop-less
+    loop-again
+    loop-less-2
+    loop-again-2
+    same-length
+    returns)

@@ -1,0 +1,31 @@
+-- What the functions of compaction ask of their stores.
+use Prim.Native.Nat.{ℕ, _*_, _≤_, _<_}
+use mathlib.Core.Bool.{Bool}
+use mathlib.Core.List.{List}
+use mathlib.Core.Path.{_≡_}
+use lib.ListN.{getD, length}
+use Rattle.field.specs.Field.{p}
+use Rattle.dag.specs.Store.{Sound}
+use Rattle.compact.specs.Compact.{rank}
+
+-- a mark for each record of a round's list
+abbrev pub mostMarks : ℕ
+mostMarks = 8192
+
+-- n records that pass the list check, a root among them, and k marks for them
+pub record Markable (s : List ℕ) (n root k : ℕ) : Type 0 where
+  pub sound : Sound p s n
+  pub inside : root < n
+  pub fits : n ≤ k
+
+-- the first n new places that the marks m give stand in a map
+pub record Remaps (map : List ℕ) (m : List Bool) (n : ℕ) : Type 0 where
+  pub fits : n ≤ length map
+  pub places : (i : ℕ) → i < n → getD map i 0 ≡ rank m i
+
+-- n records that pass the list check, marks and new places for each, and room for those marked in a store of k words
+pub record Writing (s : List ℕ) (n : ℕ) (m : List Bool) (map : List ℕ) (k : ℕ) : Type 0 where
+  pub sound : Sound p s n
+  pub marks : n ≤ length m
+  pub remaps : Remaps map m n
+  pub room : 3 * rank m n ≤ k

@@ -1,0 +1,110 @@
+-- From the marks in an array to the compacted list, and what Compact answers.
+use Prim.Native.Nat.{ℕ, _*_, _-_, _≤_}
+use mathlib.Core.Bool.{Bool, false}
+use mathlib.Core.List.{List, [], _∷_, _++_}
+use mathlib.Core.Path.{_≡_, _∙_, ap}
+use native.Mathlib.Omega.{arith}
+use borrow.Author.Tests.{leb-true}
+use lib.Dec.{leb}
+use lib.ListN.{getD, length, take, drop, replicate}
+use Rattle.field.specs.Field.{p}
+use Rattle.dag.specs.Nodes.{nodes, blank}
+use Rattle.dag.specs.NodeLaws.{length-nodes}
+use Rattle.dag.specs.Refusals.{need}
+use Rattle.dag.specs.Check.{listCheck}
+use Rattle.dag.specs.CheckLaws.{Within, then-good, need-good}
+use Rattle.dag.specs.PassLaws.{rooted}
+use Rattle.dag.specs.StoreLaws.{sound-well-formed}
+use Rattle.dag.specs.declared.Refusal.{Refusal}
+use Rattle.dag.specs.declared.Refusal.the-variants.{StoreTooShort}
+use Rattle.dag.specs.declared.Checked.the-variants as Checked'
+use Rattle.compact.specs.Reach.{marked, sweep, marks}
+use Rattle.compact.specs.Compact.{rank, ranks, kept, compact}
+use Rattle.compact.specs.Operands.{one-below}
+use Rattle.compact.specs.ArrayLaws.{Same, sweep-same, rank-same, kept-same, getD-ranks}
+use Rattle.compact.specs.CompactLaws.{compact-length, compact-short}
+use Rattle.compact.specs.Written.{written, length-written, written-filled}
+use Rattle.compact.specs.Asked.{mostMarks, Markable, Writing}
+use Rattle.compact.specs.Calls.{compacted, keptOf, compactCheck, compactAnswer, compactResult}
+use Rattle.compact.specs.declared.Kept.{Kept}
+use Rattle.compact.specs.declared.Compacted.the-variants.{Done, Refused}
+
+abbrev pub kept-of : ℕ → ℕ → Kept
+kept-of count root = record { count = count; root = root }
+
+module _ (s : List ℕ) (n root k : ℕ) (g : Markable s n root k) (m : List Bool) (e : m ≡ sweep (nodes s n) n (marked (replicate k false) (root ∷ []))) where
+  same : Same m (marks (nodes s n) (root ∷ []))
+  same =
+      sweep-same (Within p) (nodes s n) (sound-well-formed p s n (g .sound)) (root ∷ [])
+      (one-below (length (nodes s n)) root (omega (arith, length-nodes s n, g .inside))) k (omega (arith, length-nodes s n, g .fits)) m
+      (rw (length-nodes s n) e)
+
+  pub kept-list : kept (nodes s n) m n ≡ compacted s n root .list
+  unfolding compacted compact
+  kept-list = rw (length-nodes s n) (kept-same m (marks (nodes s n) (root ∷ [])) same (nodes s n) n)
+
+  pub kept-count : rank m n ≡ length (compacted s n root .list)
+  unfolding compacted
+  kept-count = rank-same m (marks (nodes s n) (root ∷ [])) same n ∙ rw (compact-length (nodes s n) (root ∷ []), length-nodes s n)
+
+  pub kept-root : rank m root ≡ keptOf (compacted s n root) .root
+  unfolding compacted compact keptOf
+  kept-root = rank-same m (marks (nodes s n) (root ∷ [])) same root
+
+  module _ (map z : List ℕ) (f : map ≡ ranks m n ++ drop n z) where
+    pub root-place : getD map root 0 ≡ keptOf (compacted s n root) .root
+    root-place = rw (f, getD-ranks m (drop n z) n root (g .inside)) kept-root
+
+    pub may-write : n ≤ length m → n ≤ length map → (d : ℕ) → 3 * length (compacted s n root .list) ≤ d → Writing s n m map d
+    may-write hm hp d h =
+        record {
+          sound = g .sound;
+          marks = hm;
+          remaps = record { fits = hp; places = λ i q. rw f (getD-ranks m (drop n z) n i q) };
+          room = rw kept-count h;
+        }
+
+module _ (s : List ℕ) (n root : ℕ) (result : List ℕ) where
+  -- where Compact refuses
+  module _ (r : Refusal) (e : compactCheck s n root (length result) ≡ Checked'.Refused r) where
+    pub answer-refused : Refused r ≡ compactAnswer s n root (length result)
+    unfolding compactAnswer
+    answer-refused = rw e
+
+    pub result-refused : result ≡ compactResult s n root result
+    unfolding compactResult
+    result-refused = rw e
+
+  -- where Compact accepts
+  module _ (e : compactCheck s n root (length result) ≡ Checked'.Good) where
+    pub tests : (listCheck p s n root ≡ Checked'.Good) × (need (leb (3 * n) (length result)) StoreTooShort ≡ Checked'.Good)
+    unfolding compactCheck
+    tests = then-good (listCheck p s n root) (need (leb (3 * n) (length result)) StoreTooShort) e
+
+    pub room : 3 * length (compacted s n root .list) ≤ length result
+    unfolding compacted
+    room =
+        let h = leb-true (3 * n) (length result) (need-good (leb (3 * n) (length result)) StoreTooShort (tests .1)) in
+        omega (arith, compact-short (nodes s n) (root ∷ []), length-nodes s n)
+
+    pub may-compact : Markable s n root mostMarks × (3 * length (compacted s n root .list) ≤ length result)
+    may-compact =
+        let h = rooted p s n root (tests .0) in
+        (record { sound = h .list .sound; inside = h .inside; fits = omega (arith, h .list .most) }, room)
+
+    module _ (k : Kept) (q : k ≡ keptOf (compacted s n root)) where
+      pub answer-done : Done (k .count) (k .root) ≡ compactAnswer s n root (length result)
+      unfolding compactAnswer
+      answer-done = rw (e, q)
+
+      count-is : k .count ≡ length (compacted s n root .list)
+      unfolding keptOf
+      count-is = ap (λ k. k .count) q
+
+      module _ (mid : List ℕ) (w : mid ≡ written result (compacted s n root .list)) where
+        pub may-blank : 3 * k .count ≤ length mid
+        may-blank = rw (w, count-is, length-written result (compacted s n root .list) room) room
+
+        pub result-done : (after : List ℕ) → after ≡ take (3 * k .count) mid ++ replicate (length mid - 3 * k .count) blank → after ≡ compactResult s n root result
+        unfolding compactResult
+        result-done after f = f ∙ rw (e, w, count-is) (written-filled result (compacted s n root .list) room)

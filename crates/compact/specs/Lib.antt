@@ -1,0 +1,13 @@
+pub mod Reach
+pub mod Compact
+pub mod ReachLaws
+pub mod Operands
+pub mod RankLaws
+pub mod CompactLaws
+pub mod Written
+pub mod ArrayLaws
+pub mod Asked
+pub mod LoopLaws
+pub mod Calls
+pub mod CallLaws
+pub mod AnswerLaws

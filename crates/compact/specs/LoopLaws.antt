@@ -1,0 +1,72 @@
+-- The turns of each loop of the code.
+use Prim.Native.Nat.{ℕ, zero, suc, _+_, _*_, _-_, _≤_, _<_}
+use mathlib.Core.Bool.{Bool, false, cond}
+use mathlib.Core.List.{List}
+use mathlib.Core.Path.{_≡_, refl, _∙_}
+use native.Mathlib.Numerals.{add-one, sub-one}
+use native.Mathlib.Omega.{arith}
+use lib.ListN.{getD, length}
+use Rattle.field.specs.Field.{p}
+use Rattle.dag.specs.Nodes.{nodes, at, operands, rename, recordAt}
+use Rattle.dag.specs.NodeLaws.{at-nodes}
+use Rattle.dag.specs.CheckLaws.{Within}
+use Rattle.dag.specs.Store.{Sound, put}
+use Rattle.dag.specs.StoreLaws.{sound-well-formed}
+use Rattle.dag.specs.WellFormed.{WellFormed}
+use Rattle.dag.specs.declared.NodeKind.{NodeKind}
+use Rattle.compact.specs.Reach.{marked, sweep}
+use Rattle.compact.specs.Compact.{rank, kept}
+use Rattle.compact.specs.Operands.{AllBelow, operands-below, rename-cong}
+use Rattle.compact.specs.ReachLaws.{Marked}
+use Rattle.compact.specs.RankLaws.{rank-lt, length-kept}
+use Rattle.compact.specs.Written.{written, written-put}
+use Rattle.compact.specs.Asked.{Writing}
+
+-- the operands of a record that passes are inside a longer array
+pub operands-inside : (s : List ℕ) (n i k : ℕ) (x : NodeKind) → Sound p s n → i < n → n ≤ k → x ≡ recordAt s i → AllBelow k (operands x)
+unfolding WellFormed
+operands-inside s n i k x sound h long e =
+    rw (e, ← at-nodes s n i h)
+    λ j q. let b = operands-below (Within p) i (at (nodes s n) i) (sound-well-formed p s n sound i) j q in omega arith
+
+-- one place of the sweep
+sweep-step : (l : List NodeKind) (i : ℕ) (m : List Bool) → 0 < i
+    → sweep l i m ≡ sweep l (i - 1) (cond (getD m (i - 1) false) (marked m (operands (at l (i - 1)))) m)
+unfolding sweep
+sweep-step l zero m h = absurd (omega arith)
+sweep-step l (suc i) m h = rw (sub-one (suc i))
+
+module _ (l : List NodeKind) (i : ℕ) (m : List Bool) (h : 0 < i) where
+  pub sweep-marked : (x : NodeKind) → Marked m (i - 1) → x ≡ at l (i - 1) → sweep l i m ≡ sweep l (i - 1) (marked m (operands x))
+  sweep-marked x q e = sweep-step l i m h ∙ rw (q, e)
+
+  pub sweep-unmarked : getD m (i - 1) false ≡ false → sweep l i m ≡ sweep l (i - 1) m
+  sweep-unmarked q = sweep-step l i m h ∙ rw q
+
+pub sweep-none : (l : List NodeKind) (i : ℕ) (m : List Bool) → i ≤ 0 → sweep l i m ≡ m
+unfolding sweep
+sweep-none l zero m h = refl
+sweep-none l (suc i) m h = absurd (omega arith)
+
+-- one record of the write
+module _ (s : List ℕ) (n : ℕ) (m : List Bool) (map d : List ℕ) (w : Writing s n m map (length d)) (i : ℕ) (h : i < n) where
+  pub place-room : Marked m i → 3 * getD map i 0 + 2 < length d
+  place-room q = let r = rank-lt m i n q h in rw (w .remaps .places i h) (omega (arith, w .room))
+
+  renamed : (x y : NodeKind) → x ≡ recordAt s i → y ≡ rename (λ j. getD map j 0) x → y ≡ rename (rank m) (at (nodes s n) i)
+  unfolding WellFormed
+  renamed x y e f =
+      f ∙ (rw (e, ← at-nodes s n i h)
+      (rename-cong (λ j. getD map j 0) (rank m) (at (nodes s n) i)
+      λ j q. let b = operands-below (Within p) i (at (nodes s n) i) (sound-well-formed p s n (w .sound) i) j q in w .remaps .places j (omega arith)))
+
+  pub write-kept : (r : List ℕ) (x y : NodeKind) → r ≡ written d (kept (nodes s n) m i) → Marked m i → x ≡ recordAt s i → y ≡ rename (λ j. getD map j 0) x
+      → put r (getD map i 0) y ≡ written d (kept (nodes s n) m (i + 1))
+  unfolding kept
+  write-kept r x y e q ex ey =
+      rw (add-one i, q, e, renamed x y ex ey, w .remaps .places i h, ← length-kept (nodes s n) m i)
+      (written-put d (kept (nodes s n) m i) (rename (rank m) (at (nodes s n) i)) (let b = rank-lt m i n q h in omega (arith, length-kept (nodes s n) m i, w .room)))
+
+  pub write-skipped : (r : List ℕ) → r ≡ written d (kept (nodes s n) m i) → getD m i false ≡ false → r ≡ written d (kept (nodes s n) m (i + 1))
+  unfolding kept
+  write-skipped r e q = rw (add-one i, q) e

@@ -1,0 +1,120 @@
+-- A list's words at the start of a store: the store holds the list, and passes the tests that the list meets.
+use Prim.Native.Nat.{ℕ, zero, suc, _+_, _*_, _-_, _≤_, _<_}
+use mathlib.Core.List.{List, [], _∷_, _++_, append-assoc}
+use mathlib.Core.Path.{_≡_, refl, _∙_}
+use native.Mathlib.Omega.{arith}
+use lib.ListN.{getD, length, take, drop, set, replicate, length-append, length-drop}
+use lib.Seq.{drop-cons, set-at, take-at, append-snoc, ext-getD}
+use borrow.Author.Tests.{le-leb, lt-ltb}
+use Rattle.dag.specs.Nodes.{tag, first, second, recordAt, nodes, at, words, wordsOf, filled, blank, mostRecords}
+use Rattle.dag.specs.NodeLaws.{decode-words, length-nodes, at-nodes, length-snoc}
+use Rattle.dag.specs.Check.{checkAt, recordsCheck, rootlessCheck, listCheck}
+use Rattle.dag.specs.CheckLaws.{Within, passes, fine-passes}
+use Rattle.dag.specs.Store.{put, Sound}
+use Rattle.dag.specs.StoreLaws.{words-snoc, length-words}
+use Rattle.dag.specs.WellFormed.{WellFormed}
+use Rattle.dag.specs.declared.NodeKind.{NodeKind}
+use Rattle.dag.specs.declared.NodeKind.the-variants.{Input}
+use Rattle.dag.specs.declared.Checked.the-variants.{Good}
+
+-- a store that begins with a list's words, and is as it was behind them
+unfoldable pub written : List ℕ → List NodeKind → List ℕ
+written s l = wordsOf l ++ drop (3 * length l) s
+
+pub written-nil : (s : List ℕ) → written s [] ≡ s
+unfolding written wordsOf
+written-nil s = refl
+
+-- the three words of the record at place i
+record WordsAt (s : List ℕ) (i : ℕ) (x : NodeKind) : Type 0 where
+  tag-is : getD s (3 * i) 0 ≡ tag x
+  first-is : getD s (3 * i + 1) 0 ≡ first x
+  second-is : getD s (3 * i + 2) 0 ≡ second x
+
+module _ (t : List ℕ) where
+  words-at : (l : List NodeKind) (i : ℕ) → i < length l → WordsAt (wordsOf l ++ t) i (at l i)
+  unfolding wordsOf words at
+  words-at [] i h = absurd (omega arith)
+  words-at (x ∷ l) zero h = record { tag-is = refl; first-is = refl; second-is = refl }
+  words-at (x ∷ l) (suc i) h =
+      let e₀ : 3 * suc i ≡ suc (suc (suc (3 * i))) = omega arith in
+      let e₁ : 3 * suc i + 1 ≡ suc (suc (suc (3 * i + 1))) = omega arith in
+      let e₂ : 3 * suc i + 2 ≡ suc (suc (suc (3 * i + 2))) = omega arith in
+      let w = words-at l i (omega arith) in
+      record { tag-is = rw e₀ (w .tag-is); first-is = rw e₁ (w .first-is); second-is = rw e₂ (w .second-is) }
+
+  -- the store holds the list
+  pub nodes-words : (l : List NodeKind) → nodes (wordsOf l ++ t) (length l) ≡ l
+  unfolding at recordAt
+  nodes-words l =
+      ext-getD (Input 0) (nodes (wordsOf l ++ t) (length l)) l (length-nodes (wordsOf l ++ t) (length l)) λ i h.
+      let k : i < length l = omega (arith, length-nodes (wordsOf l ++ t) (length l)) in
+      let w = words-at l i k in
+      at-nodes (wordsOf l ++ t) (length l) i k ∙ rw (w .tag-is, w .first-is, w .second-is) (decode-words (at l i))
+
+  module _ (m : ℕ) (l : List NodeKind) (f : WellFormed (Within m) l) where
+    check-words : (i : ℕ) → i < length l → checkAt m (wordsOf l ++ t) i ≡ Good
+    unfolding checkAt WellFormed
+    check-words i h =
+        let w = words-at l i h in
+        rw (w .tag-is, w .first-is, w .second-is) (passes m _ _ _ i (fine-passes m i (at l i) (f i)))
+
+    checks-words : (n : ℕ) → n ≤ length l → recordsCheck m (wordsOf l ++ t) n ≡ Good
+    unfolding recordsCheck
+    checks-words zero h = refl
+    checks-words (suc n) h = rw (checks-words n (omega arith)) (check-words n h)
+
+    -- the store passes the tests of records
+    pub sound-words : Sound m (wordsOf l ++ t) (length l)
+    sound-words =
+        record {
+          room = omega (arith, length-append (wordsOf l) t, length-words l);
+          good = checks-words (length l) (omega arith);
+        }
+
+    -- the store passes the list check
+    pub words-pass : (root : ℕ) → root < length l → length l ≤ mostRecords → listCheck m (wordsOf l ++ t) (length l) root ≡ Good
+    unfolding listCheck rootlessCheck
+    words-pass root h k =
+        simp (le-leb 1 (length l) (omega arith), le-leb (length l) mostRecords k, le-leb _ _ (sound-words .room), sound-words .good, lt-ltb root (length l) h)
+
+-- three words stored one after the other
+set-three : (p ys : List ℕ) (a b c x y z n : ℕ) → length p ≡ n
+    → set (set (set (p ++ a ∷ b ∷ c ∷ ys) n x) (n + 1) y) (n + 2) z ≡ (p ++ (x ∷ y ∷ z ∷ [])) ++ ys
+set-three p ys a b c x y z n e =
+    rw (set-at p a (b ∷ c ∷ ys) x n e, ← append-snoc p x (b ∷ c ∷ ys))
+    (rw (set-at (p ++ (x ∷ [])) b (c ∷ ys) y (n + 1) (omega (arith, length-snoc p x)), ← append-snoc (p ++ (x ∷ [])) y (c ∷ ys))
+    (rw (set-at ((p ++ (x ∷ [])) ++ (y ∷ [])) c ys z (n + 2) (omega (arith, length-snoc p x, length-snoc (p ++ (x ∷ [])) y)))
+    (simp append-assoc)))
+
+-- a record written behind the last one
+pub written-put : (s : List ℕ) (l : List NodeKind) (x : NodeKind) → 3 * length l + 2 < length s → put (written s l) (length l) x ≡ written s (l ++ (x ∷ []))
+unfolding written put words
+written-put s l x h =
+    rw (split, length-snoc l x, words-snoc l x, three)
+    (set-three (wordsOf l) (drop (suc (suc (suc (3 * length l)))) s) _ _ _ (tag x) (first x) (second x) (3 * length l) (length-words l))
+  where
+    split : drop (3 * length l) s ≡ getD s (3 * length l) 0 ∷ getD s (suc (3 * length l)) 0 ∷ getD s (suc (suc (3 * length l))) 0 ∷ drop (suc (suc (suc (3 * length l)))) s
+    split = rw (drop-cons s (3 * length l) 0 (omega arith), drop-cons s (suc (3 * length l)) 0 (omega arith), drop-cons s (suc (suc (3 * length l))) 0 (omega arith))
+
+    three : 3 * suc (length l) ≡ suc (suc (suc (3 * length l)))
+    three = omega arith
+
+module _ (s : List ℕ) (l : List NodeKind) (h : 3 * length l ≤ length s) where
+  pub length-written : length (written s l) ≡ length s
+  unfolding written
+  length-written = omega (arith, length-append (wordsOf l) (drop (3 * length l) s), length-words l, length-drop (3 * length l) s)
+
+  -- with blanks behind the list, a result store
+  pub written-filled : take (3 * length l) (written s l) ++ replicate (length (written s l) - 3 * length l) blank ≡ filled (length s) (wordsOf l)
+  unfolding written filled
+  written-filled =
+      rw (length-written, take-at (wordsOf l) (drop (3 * length l) s) (3 * length l) (length-words l), length-words l)
+
+pub nodes-written : (s : List ℕ) (l : List NodeKind) → nodes (written s l) (length l) ≡ l
+unfolding written
+nodes-written s l = nodes-words (drop (3 * length l) s) l
+
+pub sound-written : (m : ℕ) (s : List ℕ) (l : List NodeKind) → WellFormed (Within m) l → Sound m (written s l) (length l)
+unfolding written
+sound-written m s l f = sound-words (drop (3 * length l) s) m l f

@@ -1,0 +1,168 @@
+// `AceDag::compact`: reachability marks, new places, Compact.
+use dag::Checked;
+use dag::NodeKind;
+use dag::Refusal;
+ghost use mathlib.Core.Path.{_≡_};
+ghost use mathlib.Core.List.{[], _∷_, _++_};
+ghost use Prim.Native.Nat.{_*_, _≤_};
+ghost use lib.ListN.{length, getD, drop};
+ghost use Rattle.dag.specs.Nodes as Nodes;
+ghost use Rattle.compact.specs.Reach as Reach;
+ghost use Rattle.compact.specs.Operands.{AllBelow};
+ghost use Rattle.compact.specs.Compact as Places;
+ghost use Rattle.compact.specs.Written.{written};
+ghost use Rattle.compact.specs.Asked.{mostMarks, Markable, Writing};
+ghost use Rattle.compact.specs.Calls as Calls;
+
+// How many records are kept, and the root's new place.
+pub struct Kept {
+    pub count: usize,
+    pub root: usize,
+}
+
+// Compact's answer.
+pub enum Compacted {
+    Done { count: usize, root: usize },
+    Refused(Refusal),
+}
+
+// Marks the operands of the record x.
+fn mark_operands(reachable: &mut [bool], x: NodeKind)
+    requires { ⌜ AllBelow (length (now reachable)) (Nodes.operands x) ⌝ }
+    ensures { λ _. ⌜ now (reachable .exit) ≡ Reach.marked (now (reachable .entry)) (Nodes.operands x) ⌝ }
+{
+    match x {
+        NodeKind::Add(a, b) | NodeKind::Sub(a, b) | NodeKind::Mul(a, b) => {
+            reachable[a] = true;
+            reachable[b] = true;
+        }
+        NodeKind::Neg(a) => reachable[a] = true,
+        NodeKind::Input(_) | NodeKind::Constant(_) => {}
+    }
+}
+
+// Marks what the root reaches: the root, then from the last place down the operands of each marked record.
+pub fn mark_reachable(list: &[u64], n: usize, root: usize, reachable: &mut [bool])
+    requires { ⌜ Markable (now list) n root (length (now reachable)) ⌝ }
+    ensures { λ _. ⌜ now (reachable .exit) ≡ Reach.sweep (Nodes.nodes (now (list .entry)) n) n (Reach.marked (now (reachable .entry)) (root ∷ [])) ⌝ }
+{
+    reachable[root] = true;
+    let mut i = n;
+    while 0 < i {
+        i -= 1;
+        if reachable[i] {
+            mark_operands(reachable, dag::node_at(list, i));
+        }
+    }
+}
+
+// Fills in the new places of the first n records, and answers how many of them are marked.
+pub fn number_marked(reachable: &[bool], n: usize, remap: &mut [usize]) -> usize
+    requires { ⌜ (n ≤ length (now reachable)) × (n ≤ length (now remap)) ⌝ }
+    ensures { λ r. ⌜ r ≡ Places.rank (now (reachable .entry)) n ⌝ }
+    ensures { λ _. ⌜ now (remap .exit) ≡ Places.ranks (now (reachable .entry)) n ++ drop n (now (remap .entry)) ⌝ }
+{
+    let mut count = 0;
+    let mut i = 0;
+    while i < n {
+        let marked = reachable[i];
+        remap[i] = count;
+        i += 1;
+        if marked {
+            count += 1;
+        }
+    }
+    count
+}
+
+// A record with its operands' new places.
+fn remapped(x: NodeKind, remap: &[usize]) -> NodeKind
+    requires { ⌜ AllBelow (length (now remap)) (Nodes.operands x) ⌝ }
+    ensures { λ r. ⌜ r ≡ Nodes.rename (λ i. getD (now (remap .entry)) i 0) x ⌝ }
+{
+    match x {
+        NodeKind::Input(k) => NodeKind::Input(k),
+        NodeKind::Constant(v) => NodeKind::Constant(v),
+        NodeKind::Add(a, b) => NodeKind::Add(remap[a], remap[b]),
+        NodeKind::Sub(a, b) => NodeKind::Sub(remap[a], remap[b]),
+        NodeKind::Mul(a, b) => NodeKind::Mul(remap[a], remap[b]),
+        NodeKind::Neg(a) => NodeKind::Neg(remap[a]),
+    }
+}
+
+// Writes the marked ones of the first n records, renamed, to the start of the result store.
+pub fn write_marked(list: &[u64], n: usize, reachable: &[bool], remap: &[usize], result: &mut [u64])
+    requires { ⌜ Writing (now list) n (now reachable) (now remap) (length (now result)) ⌝ }
+    ensures { λ _. ⌜ now (result .exit) ≡ written (now (result .entry)) (Places.kept (Nodes.nodes (now (list .entry)) n) (now (reachable .entry)) n) ⌝ }
+{
+    let mut next = 0;
+    while next < n {
+        let i = next;
+        next += 1;
+        if reachable[i] {
+            dag::put_node(result, remap[i], remapped(dag::node_at(list, i), remap));
+        }
+    }
+}
+
+// How many of the first n records the root reaches.
+pub fn reachable_count(list: &[u64], n: usize, root: usize) -> usize
+    requires { ⌜ Markable (now list) n root mostMarks ⌝ }
+    ensures { λ r. ⌜ r ≡ length (Calls.compacted (now (list .entry)) n root .list) ⌝ }
+{
+    let mut reachable = [false; 8192];
+    mark_reachable(list, n, root, &mut reachable);
+    let mut remap = [0usize; 8192];
+    number_marked(&reachable, n, &mut remap)
+}
+
+// Writes what the root reaches, renamed, to the start of the result store.
+pub fn compact_into(list: &[u64], n: usize, root: usize, result: &mut [u64]) -> Kept
+    requires { ⌜ Markable (now list) n root mostMarks ⌝ }
+    requires { ⌜ 3 * length (Calls.compacted (now list) n root .list) ≤ length (now result) ⌝ }
+    ensures { λ r. ⌜ r ≡ Calls.keptOf (Calls.compacted (now (list .entry)) n root) ⌝ }
+    ensures { λ _. ⌜ now (result .exit) ≡ written (now (result .entry)) (Calls.compacted (now (list .entry)) n root .list) ⌝ }
+{
+    let mut reachable = [false; 8192];
+    mark_reachable(list, n, root, &mut reachable);
+    let mut remap = [0usize; 8192];
+    let count = number_marked(&reachable, n, &mut remap);
+    write_marked(list, n, &reachable, &remap, result);
+    Kept {
+        count,
+        root: remap[root],
+    }
+}
+
+// Compact's tests.
+fn compact_check(list: &[u64], n: usize, root: usize, result_words: usize) -> Checked
+    ensures { λ r. ⌜ r ≡ Calls.compactCheck (now (list .entry)) n root «result_words» ⌝ }
+{
+    let checked = dag::list_check(list, n, root);
+    if dag::is_refused(checked) {
+        return checked;
+    }
+    if result_words < 3 * n {
+        return Checked::Refused(Refusal::StoreTooShort);
+    }
+    Checked::Good
+}
+
+// Compact: the records that the root reaches, in order, into the result store.
+pub fn compact(list: &[u64], n: usize, root: usize, result: &mut [u64]) -> Compacted
+    ensures answer { λ r. ⌜ r ≡ Calls.compactAnswer (now (list .entry)) n root (length (now (result .entry))) ⌝ }
+    ensures store { λ _. ⌜ now (result .exit) ≡ Calls.compactResult (now (list .entry)) n root (now (result .entry)) ⌝ }
+{
+    let checked = compact_check(list, n, root, result.len());
+    match checked {
+        Checked::Refused(r) => Compacted::Refused(r),
+        Checked::Good => {
+            let kept = compact_into(list, n, root, result);
+            dag::blank_from(result, 3 * kept.count);
+            Compacted::Done {
+                count: kept.count,
+                root: kept.root,
+            }
+        }
+    }
+}

@@ -1,0 +1,38 @@
+-- A store filled with blanks from a place on, one word a turn.
+use Prim.Native.Nat.{ℕ, suc, _+_, _-_, _≤_, _<_}
+use mathlib.Core.List.{List, [], _∷_, _++_, append-nil, append-assoc}
+use mathlib.Core.Path.{_≡_, refl, sym, _∙_, ap}
+use native.Mathlib.Nat.{sub-self}
+use native.Mathlib.Numerals.{add-one}
+use native.Mathlib.Omega.{arith}
+use lib.ListN.{length, take, drop, set, replicate, length-append, length-replicate, take-append-drop, replicate-append-replicate, drop-of-length-le}
+use lib.Seq.{drop-cons, set-at, length-take-le}
+
+module _ (s : List ℕ) (from v : ℕ) where
+  -- s with v from `from` up to i
+  pub blanked : ℕ → List ℕ
+  blanked i = (take from s ++ replicate (i - from) v) ++ drop i s
+
+  pub blank-none : s ≡ blanked from
+  unfolding blanked
+  blank-none = rw (sub-self from, append-nil (take from s)) (sym (take-append-drop from s))
+
+  front-length : (i : ℕ) → from ≤ i → i ≤ length s → length (take from s ++ replicate (i - from) v) ≡ i
+  front-length i h k =
+      length-append (take from s) (replicate (i - from) v)
+      ∙ (rw (length-take-le from s (omega arith), length-replicate (i - from) v) (omega arith))
+
+  pub blank-more : (i : ℕ) → from ≤ i → i < length s → set (blanked i) i v ≡ blanked (i + 1)
+  unfolding blanked
+  blank-more i h k =
+      rw (drop-cons s i 0 k, set-at (take from s ++ replicate (i - from) v) _ (drop (suc i) s) v i (front-length i h (omega arith)))
+      (rw (add-one i, next) (sym (append-assoc (take from s ++ replicate (i - from) v) (v ∷ []) (drop (suc i) s)) ∙ ap (λ l. l ++ drop (suc i) s) (append-assoc (take from s) (replicate (i - from) v) (v ∷ []) ∙ ap (λ l. take from s ++ l) (replicate-append-replicate (i - from) 1 v))))
+    where
+      next : suc i - from ≡ i - from + 1
+      next = omega arith
+
+  pub blank-all : (i : ℕ) → i ≤ length s → length s ≤ i → blanked i ≡ take from s ++ replicate (length s - from) v
+  unfolding blanked
+  blank-all i h k =
+      let e : i ≡ length s = omega arith in
+      rw (drop-of-length-le s {i = i} k, append-nil, e)

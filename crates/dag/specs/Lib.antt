@@ -1,0 +1,17 @@
+pub mod Keys
+pub mod Nodes
+pub mod Refusals
+pub mod Check
+pub mod Lookup
+pub mod WellFormed
+pub mod Store
+pub mod Told
+pub mod Cases
+pub mod KeyLaws
+pub mod NodeLaws
+pub mod LookupLaws
+pub mod WellFormedLaws
+pub mod CheckLaws
+pub mod StoreLaws
+pub mod BlankLaws
+pub mod PassLaws

@@ -1,0 +1,31 @@
+-- Stores of records: what a store holds once a record or a list is written into it, and what the tests of a list give.
+use Prim.Native.Nat.{ℕ, zero, suc, _+_, _*_, _≤_}
+use mathlib.Core.Bool.{Bool, cond, _&&_}
+use mathlib.Core.List.{List}
+use lib.Dec.{eqb}
+use mathlib.Core.Path.{_≡_}
+use lib.ListN.{getD, length, set}
+use Rattle.dag.specs.Nodes.{tag, first, second}
+use Rattle.dag.specs.Check.{recordsCheck}
+use Rattle.dag.specs.declared.NodeKind.{NodeKind}
+use Rattle.dag.specs.declared.Found.{Found}
+use Rattle.dag.specs.declared.Found.the-variants.{At, Missing}
+use Rattle.dag.specs.declared.Checked.the-variants.{Good}
+
+-- a store with the record x at place i
+unfoldable pub put : List ℕ → ℕ → NodeKind → List ℕ
+put s i x = set (set (set s (3 * i) (tag x)) (3 * i + 1) (first x)) (3 * i + 2) (second x)
+
+-- the record at place i has the words t, a, b
+unfoldable pub wordsAre : List ℕ → ℕ → ℕ → ℕ → ℕ → Bool
+wordsAre s i t a b = eqb (getD s (3 * i) 0) t && eqb (getD s (3 * i + 1) 0) a && eqb (getD s (3 * i + 2) 0) b
+
+-- the greatest place below n whose words are t, a, b
+unfoldable pub lookupWords : List ℕ → ℕ → ℕ → ℕ → ℕ → Found
+lookupWords s t a b zero = Missing
+lookupWords s t a b (suc n) = cond (wordsAre s n t a b) (At n) (lookupWords s t a b n)
+
+-- the first n records of a store pass the tests at the modulus m
+pub record Sound (m : ℕ) (s : List ℕ) (n : ℕ) : Type 0 where
+  pub room : 3 * n ≤ length s
+  pub good : recordsCheck m s n ≡ Good

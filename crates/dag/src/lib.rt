@@ -1,0 +1,390 @@
+// The constraint DAG's records: key numbers, `NodeKind` and its three words, refusals, the list check and the lookup.
+use field::QuadFelt;
+ghost use mathlib.Core.Path.{_≡_};
+ghost use Prim.Native.Nat.{ℕ, _+_, _*_, _-_, _<_, _≤_};
+ghost use mathlib.Core.List.{_++_};
+ghost use lib.ListN.{length, take, replicate};
+ghost use Rattle.field.specs.Field.{p};
+ghost use Rattle.dag.specs.Keys as Keys;
+ghost use Rattle.dag.specs.Nodes as Nodes;
+ghost use Rattle.dag.specs.Refusals as Refusals;
+ghost use Rattle.dag.specs.Check as Check;
+ghost use Rattle.dag.specs.Store as Store;
+ghost use Rattle.dag.specs.Lookup as Lookup;
+
+// The word behind the last one filled.
+pub const BLANK: u64 = 0;
+
+// The most records that a list has.
+pub const MOST_RECORDS: usize = 4096;
+
+// One record of a list. An input holds its key number; operands are places.
+pub enum NodeKind {
+    Input(u64),
+    Constant(QuadFelt),
+    Add(usize, usize),
+    Sub(usize, usize),
+    Mul(usize, usize),
+    Neg(usize),
+}
+
+// Why a call says no, with the record, entry or column at fault where there is one.
+pub enum Refusal {
+    CountOutOfRange,
+    StoreTooShort,
+    UnknownTag(usize),
+    Malformed(usize),
+    OperandNotEarlier(usize),
+    RootOutside,
+    NoRoom,
+    TooManyEntries,
+    Unassigned(usize),
+    TooManyColumns,
+    ColumnLength(usize),
+    SharedPeriod,
+    FileTooShort,
+    FileVersion,
+    FileCount,
+    FileLength,
+}
+
+// What a test of the input says.
+pub enum Checked {
+    Good,
+    Refused(Refusal),
+}
+
+// Where a search found its record.
+pub enum Found {
+    At(usize),
+    Missing,
+}
+
+// What the number below a variant's 2^48 stays under: 2^16 for each of its fields, in the order of `InputKey`.
+const FIELD_LIMITS: [u64; 22] = [
+    65536,
+    1,
+    1,
+    65536,
+    4294967296,
+    4294967296,
+    281474976710656,
+    65536,
+    1,
+    1,
+    1,
+    1,
+    1,
+    1,
+    1,
+    65536,
+    65536,
+    65536,
+    1,
+    1,
+    1,
+    281474976710656,
+];
+
+// Whether a key has this number.
+pub fn is_key(k: u64) -> bool
+    ensures { λ r. ⌜ r ≡ Keys.isKey k ⌝ }
+{
+    let variant = (k / 281474976710656) as usize;
+    if 22 <= variant {
+        return false;
+    }
+    k % 281474976710656 < FIELD_LIMITS[variant]
+}
+
+// Whether the words of a record with tag t are those of a record.
+fn formed(t: u64, a: u64, b: u64) -> bool
+    ensures { λ r. ⌜ r ≡ Check.formed p t a b ⌝ }
+{
+    if t == 0 {
+        if is_key(a) {
+            return b == 0;
+        }
+        return false;
+    }
+    if t == 1 {
+        if a < QuadFelt::MODULUS {
+            return b < QuadFelt::MODULUS;
+        }
+        return false;
+    }
+    if t == 5 {
+        return b == 0;
+    }
+    true
+}
+
+// Whether the operands of a record with tag t come before place i.
+fn earlier(t: u64, a: u64, b: u64, i: usize) -> bool
+    ensures { λ r. ⌜ r ≡ Check.earlier t a b i ⌝ }
+{
+    let place = i as u64;
+    if t < 2 {
+        return true;
+    }
+    if t == 5 {
+        return a < place;
+    }
+    if a < place {
+        return b < place;
+    }
+    false
+}
+
+// The tests of one record at place i: 3, 4, 5.
+pub fn record_check(t: u64, a: u64, b: u64, i: usize) -> Checked
+    ensures { λ r. ⌜ r ≡ Check.recordCheck p t a b i ⌝ }
+{
+    if 5 < t {
+        return Checked::Refused(Refusal::UnknownTag(i));
+    }
+    if !formed(t, a, b) {
+        return Checked::Refused(Refusal::Malformed(i));
+    }
+    if !earlier(t, a, b, i) {
+        return Checked::Refused(Refusal::OperandNotEarlier(i));
+    }
+    Checked::Good
+}
+
+// Whether a test refuses.
+pub fn is_refused(c: Checked) -> bool
+    ensures { λ r. ⌜ r ≡ Refusals.isRefused c ⌝ }
+{
+    match c {
+        Checked::Good => false,
+        Checked::Refused(_) => true,
+    }
+}
+
+// The tests of the record at place i.
+fn check_at(list: &[u64], i: usize) -> Checked
+    requires { ⌜ 3 * i + 2 < length (now list) ⌝ }
+    ensures { λ r. ⌜ r ≡ Check.checkAt p (now (list .entry)) i ⌝ }
+{
+    record_check(list[3 * i], list[3 * i + 1], list[3 * i + 2], i)
+}
+
+// The first bad record among the first n.
+fn records_check(list: &[u64], n: usize) -> Checked
+    requires { ⌜ 3 * n ≤ length (now list) ⌝ }
+    ensures { λ r. ⌜ r ≡ Check.recordsCheck p (now (list .entry)) n ⌝ }
+{
+    let mut i = 0;
+    while i < n {
+        let checked = check_at(list, i);
+        if is_refused(checked) {
+            return checked;
+        }
+        i += 1;
+    }
+    Checked::Good
+}
+
+// The tests of a list of at least `least` records without a root: 1, 2, then the records.
+pub fn rootless_check(list: &[u64], n: usize, least: usize) -> Checked
+    ensures { λ r. ⌜ r ≡ Check.rootlessCheck p least (now (list .entry)) n ⌝ }
+{
+    if n < least {
+        return Checked::Refused(Refusal::CountOutOfRange);
+    }
+    if MOST_RECORDS < n {
+        return Checked::Refused(Refusal::CountOutOfRange);
+    }
+    if list.len() < 3 * n {
+        return Checked::Refused(Refusal::StoreTooShort);
+    }
+    records_check(list, n)
+}
+
+// The list check, with a root.
+pub fn list_check(list: &[u64], n: usize, root: usize) -> Checked
+    ensures { λ r. ⌜ r ≡ Check.listCheck p (now (list .entry)) n root ⌝ }
+{
+    let checked = rootless_check(list, n, 1);
+    if is_refused(checked) {
+        return checked;
+    }
+    if root < n {
+        return Checked::Good;
+    }
+    Checked::Refused(Refusal::RootOutside)
+}
+
+// The record that three words stand for.
+pub fn decode(t: u64, a: u64, b: u64) -> NodeKind
+    ensures { λ r. ⌜ r ≡ Nodes.decode t a b ⌝ }
+{
+    if t == 0 {
+        return NodeKind::Input(a);
+    }
+    if t == 1 {
+        return NodeKind::Constant(QuadFelt { c0: a, c1: b });
+    }
+    if t == 2 {
+        return NodeKind::Add(a as usize, b as usize);
+    }
+    if t == 3 {
+        return NodeKind::Sub(a as usize, b as usize);
+    }
+    if t == 4 {
+        return NodeKind::Mul(a as usize, b as usize);
+    }
+    NodeKind::Neg(a as usize)
+}
+
+// The record at place i.
+pub fn node_at(list: &[u64], i: usize) -> NodeKind
+    requires { ⌜ 3 * i + 2 < length (now list) ⌝ }
+    ensures { λ r. ⌜ r ≡ Nodes.recordAt (now (list .entry)) i ⌝ }
+{
+    decode(list[3 * i], list[3 * i + 1], list[3 * i + 2])
+}
+
+// A record's first word.
+pub fn tag_of(x: NodeKind) -> u64
+    ensures { λ r. ⌜ r ≡ Nodes.tag x ⌝ }
+{
+    match x {
+        NodeKind::Input(_) => 0,
+        NodeKind::Constant(_) => 1,
+        NodeKind::Add(_, _) => 2,
+        NodeKind::Sub(_, _) => 3,
+        NodeKind::Mul(_, _) => 4,
+        NodeKind::Neg(_) => 5,
+    }
+}
+
+// A record's second word.
+pub fn first_of(x: NodeKind) -> u64
+    ensures { λ r. ⌜ r ≡ Nodes.first x ⌝ }
+{
+    match x {
+        NodeKind::Input(k) => k,
+        NodeKind::Constant(c) => c.c0,
+        NodeKind::Add(a, _) => a as u64,
+        NodeKind::Sub(a, _) => a as u64,
+        NodeKind::Mul(a, _) => a as u64,
+        NodeKind::Neg(a) => a as u64,
+    }
+}
+
+// A record's third word.
+pub fn second_of(x: NodeKind) -> u64
+    ensures { λ r. ⌜ r ≡ Nodes.second x ⌝ }
+{
+    match x {
+        NodeKind::Input(_) => 0,
+        NodeKind::Constant(c) => c.c1,
+        NodeKind::Add(_, b) => b as u64,
+        NodeKind::Sub(_, b) => b as u64,
+        NodeKind::Mul(_, b) => b as u64,
+        NodeKind::Neg(_) => 0,
+    }
+}
+
+// Writes the record x at place i.
+pub fn put_node(list: &mut [u64], i: usize, x: NodeKind)
+    requires { ⌜ 3 * i + 2 < length (now list) ⌝ }
+    ensures { λ _. ⌜ now (list .exit) ≡ Store.put (now (list .entry)) i x ⌝ }
+{
+    list[3 * i] = tag_of(x);
+    list[3 * i + 1] = first_of(x);
+    list[3 * i + 2] = second_of(x);
+}
+
+// Whether the record at place i has the words t, a, b.
+fn words_are(list: &[u64], i: usize, t: u64, a: u64, b: u64) -> bool
+    requires { ⌜ 3 * i + 2 < length (now list) ⌝ }
+    ensures { λ r. ⌜ r ≡ Store.wordsAre (now (list .entry)) i t a b ⌝ }
+{
+    if list[3 * i] == t {
+        if list[3 * i + 1] == a {
+            return list[3 * i + 2] == b;
+        }
+    }
+    false
+}
+
+// The greatest place of a record equal to x among the first n.
+pub fn lookup(list: &[u64], n: usize, x: NodeKind) -> Found
+    requires { ⌜ Store.Sound p (now list) n ⌝ }
+    ensures { λ r. ⌜ r ≡ Lookup.lookup (Nodes.nodes (now (list .entry)) n) x n ⌝ }
+{
+    let t = tag_of(x);
+    let a = first_of(x);
+    let b = second_of(x);
+    let mut i = n;
+    while 0 < i {
+        i -= 1;
+        if words_are(list, i, t, a, b) {
+            return Found::At(i);
+        }
+    }
+    Found::Missing
+}
+
+// Fills a store with blanks from a place on.
+pub fn blank_from(store: &mut [u64], from: usize)
+    requires { ⌜ from ≤ length (now store) ⌝ }
+    ensures { λ _. ⌜ now (store .exit) ≡ take from (now (store .entry)) ++ replicate (length (now (store .entry)) - from) Nodes.blank ⌝ }
+{
+    let mut i = from;
+    while i < store.len() {
+        store[i] = BLANK;
+        i += 1;
+    }
+}
+
+// A refusal's number.
+pub fn number_of(r: Refusal) -> u64
+    ensures { λ n. ⌜ n ≡ Refusals.number r ⌝ }
+{
+    match r {
+        Refusal::CountOutOfRange => 1,
+        Refusal::StoreTooShort => 2,
+        Refusal::UnknownTag(_) => 3,
+        Refusal::Malformed(_) => 4,
+        Refusal::OperandNotEarlier(_) => 5,
+        Refusal::RootOutside => 6,
+        Refusal::NoRoom => 7,
+        Refusal::TooManyEntries => 11,
+        Refusal::Unassigned(_) => 12,
+        Refusal::TooManyColumns => 13,
+        Refusal::ColumnLength(_) => 14,
+        Refusal::SharedPeriod => 15,
+        Refusal::FileTooShort => 21,
+        Refusal::FileVersion => 22,
+        Refusal::FileCount => 23,
+        Refusal::FileLength => 24,
+    }
+}
+
+// The record, entry or column at fault, else 0.
+pub fn place_of(r: Refusal) -> usize
+    ensures { λ n. ⌜ n ≡ Refusals.place r ⌝ }
+{
+    match r {
+        Refusal::UnknownTag(i) => i,
+        Refusal::Malformed(i) => i,
+        Refusal::OperandNotEarlier(i) => i,
+        Refusal::Unassigned(i) => i,
+        Refusal::ColumnLength(i) => i,
+        Refusal::CountOutOfRange => 0,
+        Refusal::StoreTooShort => 0,
+        Refusal::RootOutside => 0,
+        Refusal::NoRoom => 0,
+        Refusal::TooManyEntries => 0,
+        Refusal::TooManyColumns => 0,
+        Refusal::SharedPeriod => 0,
+        Refusal::FileTooShort => 0,
+        Refusal::FileVersion => 0,
+        Refusal::FileCount => 0,
+        Refusal::FileLength => 0,
+    }
+}

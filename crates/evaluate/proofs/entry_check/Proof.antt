@@ -1,0 +1,50 @@
+use Rattle.evaluate.specs.EntryLaws.{bad-key, bad-words, good-entry}
+use Rattle.dag.specs.Keys.{isKey}
+use borrow.Author.Tests.{not-true, not-false}
+use Rattle.dag.specs.Told.{told}
+use mathlib.Core.Path.{_∙_, ap}
+use Prim.Native.Nat.{_-_}
+use borrow.Author.Needs.{needs}
+use Rattle.evaluate.proofs.entry_check.Statement.{statement}
+use Rattle.evaluate.proofs.entry_check.Tie as tie
+
+mul-at : tie.Need-mul-at
+mul-at c = search needs
+
+key-at-requires : tie.Need-key-at-requires
+key-at-requires c κs = search needs
+
+is-key-requires : tie.Need-is-key-requires
+is-key-requires c κs = search needs
+
+returns : tie.Need-returns
+returns c = bad-key _ _ _ _ (told (c .before .is-key .ensures ∙ ap isKey (c .before .before .key-at .ensures)) (not-true _ (c .if1 .taken)))
+
+add-words-below : tie.Need-add-words-below
+add-words-below c = search needs
+
+add-words-below-2 : tie.Need-add-words-below-2
+add-words-below-2 c = search needs
+
+words-below-requires : tie.Need-words-below-requires
+words-below-requires c κs = search needs
+
+returns-2 : tie.Need-returns-2
+returns-2 c = bad-words _ _ _ _ (told (c .before .words-below .ensures) (not-true _ (c .if2 .taken)))
+
+returns-3 : tie.Need-returns-3
+returns-3 c = good-entry _ _ _ _ (told (c .before .before .before .is-key .ensures ∙ ap isKey (c .before .before .before .before .key-at .ensures)) (not-false _ (c .before .before .if1 .left))) (told (c .before .words-below .ensures) (not-false _ (c .if2 .left)))
+
+pub entry-check-spec : {M : Type 1} → statement M
+entry-check-spec =
+    tie.close
+    (tie.spec
+    mul-at
+    key-at-requires
+    is-key-requires
+    returns
+    add-words-below
+    add-words-below-2
+    words-below-requires
+    returns-2
+    returns-3)

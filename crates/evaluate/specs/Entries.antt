@@ -1,0 +1,73 @@
+-- Entries of keys (document 01, Evaluate): `width` words each, a key number and then coordinates; of a key's entries the last counts.
+use Prim.Native.Nat.{ℕ, zero, suc, _+_, _*_, _-_, _<_, _≤_}
+use mathlib.Core.Bool.{Bool, true, false, cond, _&&_}
+use mathlib.Core.List.{List}
+use lib.Dec.{leb, ltb, eqb}
+use lib.ListN.{getD, length}
+use Rattle.dag.specs.Keys.{isKey}
+use Rattle.dag.specs.Nodes.{at}
+use Rattle.dag.specs.Refusals.{need, _then_}
+use Rattle.dag.specs.declared.NodeKind.{NodeKind}
+use Rattle.dag.specs.declared.NodeKind.the-variants.{Input, Constant, Add, Sub, Mul, Neg}
+use Rattle.dag.specs.declared.Found.{Found}
+use Rattle.dag.specs.declared.Found.the-variants.{At, Missing}
+use Rattle.dag.specs.declared.Refusal.the-variants.{StoreTooShort, Malformed, TooManyEntries, Unassigned}
+use Rattle.dag.specs.declared.Checked.{Checked}
+use Rattle.dag.specs.declared.Checked.the-variants.{Good}
+
+-- the most entries
+abbrev pub mostEntries : ℕ
+mostEntries = 4096
+
+-- n entries of `width` words, in a store
+pub record Lent (width : ℕ) (e : List ℕ) (n : ℕ) : Type 0 where
+  pub wide : 0 < width
+  pub room : width * n ≤ length e
+
+-- the first refusal of a test at the places below n
+unfoldable pub firstRefused : (ℕ → Checked) → ℕ → Checked
+firstRefused test zero = Good
+firstRefused test (suc n) = firstRefused test n then test n
+
+-- the key number of entry i
+abbrev pub keyAt : ℕ → List ℕ → ℕ → ℕ
+keyAt width e i = getD e (width * i) 0
+
+-- k words from a place on are below m
+unfoldable pub wordsBelow : ℕ → List ℕ → ℕ → ℕ → Bool
+wordsBelow m e from zero = true
+wordsBelow m e from (suc k) = wordsBelow m e from k && ltb (getD e (from + k) 0) m
+
+-- 4: a number no key has, or a coordinate not below m
+unfoldable pub entryCheck : ℕ → ℕ → List ℕ → ℕ → Checked
+entryCheck m width e i = need (isKey (keyAt width e i) && wordsBelow m e (width * i + 1) (width - 1)) (Malformed i)
+
+-- the tests of n entries: 11, 2, then the first bad entry
+unfoldable pub entriesCheck : ℕ → ℕ → List ℕ → ℕ → Checked
+entriesCheck m width e n =
+    need (leb n mostEntries) TooManyEntries
+    then need (leb (width * n) (length e)) StoreTooShort
+    then firstRefused (entryCheck m width e) n
+
+-- the last entry of a key among the first n
+unfoldable pub entryOf : ℕ → List ℕ → ℕ → ℕ → Found
+entryOf width e zero key = Missing
+entryOf width e (suc n) key = cond (eqb (keyAt width e n) key) (At n) (entryOf width e n key)
+
+-- something was found
+abbrev pub isFound : Found → Bool
+isFound (At i) = true
+isFound Missing = false
+
+-- an input's key has an entry; other records need none
+abbrev pub hasEntry : (ℕ → Found) → NodeKind → Bool
+hasEntry find (Input k) = isFound (find k)
+hasEntry find (Constant c) = true
+hasEntry find (Add a b) = true
+hasEntry find (Sub a b) = true
+hasEntry find (Mul a b) = true
+hasEntry find (Neg a) = true
+
+-- 12: the first input among the first n records, reachable or not, whose key has no entry
+unfoldable pub inputsCheck : (ℕ → Found) → List NodeKind → ℕ → Checked
+inputsCheck find l = firstRefused (λ i. need (hasEntry find (at l i)) (Unassigned i))

@@ -1,0 +1,186 @@
+-- The turns of the loops over entries, and what entries that pass are known to be.
+use Prim.Native.Nat.{ℕ, zero, suc, _+_, _*_, _-_, _≤_, _<_}
+use mathlib.Core.Bool.{Bool, true, false, cond, _&&_, true≢false}
+use mathlib.Core.List.{List}
+use mathlib.Core.Logic.{_⊎_, inl, inr}
+use mathlib.Core.Path.{_≡_, refl, sym, _∙_, ap}
+use native.Mathlib.Nat.{mul-suc, mul-le-mul-left}
+use native.Mathlib.Numerals.{add-one, sub-one}
+use native.Mathlib.Omega.{arith}
+use borrow.Author.Tests.{lt-ltb, ltb-true, eq-eqb, ne-eqb, eqb-true, eqb-false}
+use lib.Dec.{ltb, eqb}
+use lib.ListN.{getD, length}
+use Rattle.dag.specs.Keys.{isKey}
+use Rattle.dag.specs.Nodes.{nodes, at, recordAt}
+use Rattle.dag.specs.NodeLaws.{at-nodes}
+use Rattle.dag.specs.declared.NodeKind.{NodeKind}
+use Rattle.dag.specs.Cases.{and-true, below-suc, below-suc-elim}
+use Rattle.dag.specs.Refusals.{need, _then_, isRefused}
+use Rattle.dag.specs.CheckLaws.{then-good, refused-then}
+use Rattle.dag.specs.declared.Found.{Found}
+use Rattle.dag.specs.declared.Found.the-variants.{At, Missing}
+use Rattle.dag.specs.declared.Refusal.the-variants.{Malformed, Unassigned}
+use Rattle.dag.specs.declared.Checked.{Checked}
+use Rattle.dag.specs.declared.Checked.the-variants.{Good, Refused}
+use Rattle.evaluate.specs.Entries.{Lent, firstRefused, keyAt, wordsBelow, entryCheck, entryOf, isFound, hasEntry, inputsCheck}
+
+-- a test at the places below n, one by one
+module _ (test : ℕ → Checked) where
+  pub refused-next : (i : ℕ) → firstRefused test i ≡ Good → test i ≡ Good → firstRefused test (i + 1) ≡ Good
+  unfolding firstRefused
+  refused-next i e f = rw (add-one i, e) f
+
+  pub refused-here : (i n : ℕ) → firstRefused test i ≡ Good → isRefused (test i) ≡ true → i < n → test i ≡ firstRefused test n
+  unfolding firstRefused
+  refused-here i zero good bad h = absurd (omega arith)
+  refused-here i (suc n) good bad h = go (λ k. refused-here i n good bad k) (below-suc i n h)
+    where
+      go : (i < n → test i ≡ firstRefused test n) → (i < n) ⊎ (i ≡ n) → test i ≡ firstRefused test n then test n
+      go before (inl k) = refused-then (test i) (test n) bad ∙ ap (λ c. c then test n) (before k)
+      go before (inr e) = rw (← e, good)
+
+  pub good-below : (n : ℕ) → firstRefused test n ≡ Good → (i : ℕ) → i < n → test i ≡ Good
+  unfolding firstRefused
+  good-below zero e i h = absurd (omega arith)
+  good-below (suc n) e i h =
+      let both = then-good (firstRefused test n) (test n) e in
+      below-suc-elim (λ i. test i ≡ Good) n (good-below n (both .0)) (both .1) i h
+
+-- words below m, one by one
+module _ (m : ℕ) (e : List ℕ) (from : ℕ) where
+  pub words-none : wordsBelow m e from (from - from) ≡ true
+  unfolding wordsBelow
+  words-none = let z : from - from ≡ 0 = omega arith in rw z
+
+  pub words-next : (i : ℕ) → from ≤ i → wordsBelow m e from (i - from) ≡ true → getD e i 0 < m → wordsBelow m e from (i + 1 - from) ≡ true
+  unfolding wordsBelow
+  words-next i h w b =
+      let next : i + 1 - from ≡ suc (i - from) = omega arith in
+      let here : from + (i - from) ≡ i = omega arith in
+      rw (next, w, here) (lt-ltb (getD e i 0) m b)
+
+  pub word-below : (k j : ℕ) → j < k → wordsBelow m e from k ≡ true → getD e (from + j) 0 < m
+  unfolding wordsBelow
+  word-below zero j h w = absurd (omega arith)
+  word-below (suc k) j h w =
+      let both = and-true (wordsBelow m e from k) (ltb (getD e (from + k) 0) m) w in
+      below-suc-elim (λ j. getD e (from + j) 0 < m) k (λ j q. word-below k j q (both .0)) (ltb-true (getD e (from + k) 0) m (both .1)) j h
+
+  pub words-fail : (i to : ℕ) → from ≤ i → i < to → m ≤ getD e i 0 → false ≡ wordsBelow m e from (to - from)
+  words-fail i to h k bad = go (wordsBelow m e from (to - from)) refl
+    where
+      go : (b : Bool) → wordsBelow m e from (to - from) ≡ b → false ≡ b
+      go false w = refl
+      go true w =
+          let here : from + (i - from) ≡ i = omega arith in
+          absurd (let q = rw here at (word-below (to - from) (i - from) (omega arith) w) in omega arith)
+
+-- the test of one entry
+module _ (m width : ℕ) (e : List ℕ) (i : ℕ) where
+  pub bad-key : isKey (keyAt width e i) ≡ false → Refused (Malformed i) ≡ entryCheck m width e i
+  unfolding entryCheck
+  bad-key k = rw k
+
+  rest : width * i + width - (width * i + 1) ≡ width - 1
+  rest = omega arith
+
+  bad-rest : (k w : Bool) → w ≡ false → Refused (Malformed i) ≡ need (k && w) (Malformed i)
+  bad-rest true w e = rw e
+  bad-rest false w e = refl
+
+  pub bad-words : wordsBelow m e (width * i + 1) (width * i + width - (width * i + 1)) ≡ false → Refused (Malformed i) ≡ entryCheck m width e i
+  unfolding entryCheck
+  bad-words w = bad-rest (isKey (keyAt width e i)) (wordsBelow m e (width * i + 1) (width - 1)) (rw rest at w)
+
+  pub good-entry : isKey (keyAt width e i) ≡ true → wordsBelow m e (width * i + 1) (width * i + width - (width * i + 1)) ≡ true → Good ≡ entryCheck m width e i
+  unfolding entryCheck
+  good-entry k w = rw (k, rw rest at w)
+
+-- the words of an entry are in the store
+module _ (width : ℕ) (e : List ℕ) (n : ℕ) (lent : Lent width e n) where
+  pub entry-room : (i : ℕ) → i < n → width * i + width ≤ length e
+  entry-room i h = omega (arith, mul-suc width i, mul-le-mul-left width h, lent .room)
+
+  pub key-room : (i : ℕ) → i < n → width * i < length e
+  key-room i h = omega (arith, entry-room i h, lent .wide)
+
+-- the search for a key's last entry, one entry a turn
+module _ (width : ℕ) (e : List ℕ) (key : ℕ) where
+  entry-step : (i : ℕ) → 0 < i → entryOf width e i key ≡ cond (eqb (keyAt width e (i - 1)) key) (At (i - 1)) (entryOf width e (i - 1) key)
+  unfolding entryOf
+  entry-step zero h = absurd (omega arith)
+  entry-step (suc i) h = rw (sub-one (suc i))
+
+  module _ (n i : ℕ) (h : 0 < i) (inv : entryOf width e n key ≡ entryOf width e i key) where
+    pub entry-hit : keyAt width e (i - 1) ≡ key → At (i - 1) ≡ entryOf width e n key
+    entry-hit q = sym (inv ∙ (entry-step i h ∙ rw (eq-eqb (keyAt width e (i - 1)) key q)))
+
+    pub entry-miss : (keyAt width e (i - 1) ≡ key → ⊥) → entryOf width e n key ≡ entryOf width e (i - 1) key
+    entry-miss q = inv ∙ (entry-step i h ∙ rw (ne-eqb (keyAt width e (i - 1)) key q))
+
+  pub entry-none : (n i : ℕ) → i ≤ 0 → entryOf width e n key ≡ entryOf width e i key → Missing ≡ entryOf width e n key
+  unfolding entryOf
+  entry-none n zero h inv = sym inv
+  entry-none n (suc i) h inv = absurd (omega arith)
+
+  -- what is found is an entry
+  pub entry-inside : (n i : ℕ) → entryOf width e n key ≡ At i → i < n
+  unfolding entryOf
+  entry-inside zero i q = let z : _≡_ {A = ℕ} 0 1 = cc in absurd (omega arith)
+  entry-inside (suc n) i q = go (eqb (keyAt width e n) key) q (entry-inside n i)
+    where
+      go : (b : Bool) → cond b (At n) (entryOf width e n key) ≡ At i → (entryOf width e n key ≡ At i → i < n) → i < suc n
+      go true q before = let f : n ≡ i = cc in omega arith
+      go false q before = let k = before q in omega arith
+
+-- entry i is the last one of a key among the first n
+pub record Last (width : ℕ) (e : List ℕ) (n key i : ℕ) : Type 0 where
+  pub inside : i < n
+  pub its-key : keyAt width e i ≡ key
+  pub none-later : (j : ℕ) → i < j → j < n → keyAt width e j ≡ key → ⊥
+
+-- what a search for a key's last entry says
+abbrev Says : ℕ → List ℕ → ℕ → ℕ → Found → Type 0
+Says width e n key (At i) = Last width e n key i
+Says width e n key Missing = (j : ℕ) → j < n → keyAt width e j ≡ key → ⊥
+
+pub entry-says : (width : ℕ) (e : List ℕ) (n key : ℕ) → Says width e n key (entryOf width e n key)
+unfolding entryOf
+entry-says width e zero key = λ j h q. absurd (omega arith)
+entry-says width e (suc n) key = go (eqb (keyAt width e n) key) refl (entryOf width e n key) (entry-says width e n key)
+  where
+    go : (b : Bool) → eqb (keyAt width e n) key ≡ b → (f : Found) → Says width e n key f → Says width e (suc n) key (cond b (At n) f)
+    go true q f says =
+        record { inside = omega arith; its-key = eqb-true (keyAt width e n) key q; none-later = λ j h k r. absurd (omega arith) }
+    go false q (At i) says =
+        record {
+          inside = omega (arith, says .inside);
+          its-key = says .its-key;
+          none-later = λ j h k. below-suc-elim (λ j. i < j → keyAt width e j ≡ key → ⊥) n (λ j k h. says .none-later j h k) (λ h. eqb-false (keyAt width e n) key q) j k h;
+        }
+    go false q Missing says = below-suc-elim (λ j. keyAt width e j ≡ key → ⊥) n says (eqb-false (keyAt width e n) key q)
+
+-- a found entry is the key's last one
+pub found-last : (width : ℕ) (e : List ℕ) (n key : ℕ) → isFound (entryOf width e n key) ≡ true → (i : ℕ) × (entryOf width e n key ≡ At i) × Last width e n key i
+found-last width e n key q = go (entryOf width e n key) refl (entry-says width e n key) q
+  where
+    go : (f : Found) → entryOf width e n key ≡ f → Says width e n key f → isFound f ≡ true → (i : ℕ) × (entryOf width e n key ≡ At i) × Last width e n key i
+    go (At i) r says q = (i, r, says)
+    go Missing r says q = absurd (true≢false (sym q))
+
+-- the inputs, one record a turn
+module _ (find : ℕ → Found) (s : List ℕ) (n i : ℕ) (x : NodeKind) (h : i < n) (before : inputsCheck find (nodes s n) i ≡ Good) (e : x ≡ recordAt s i) where
+  here : hasEntry find x ≡ hasEntry find (at (nodes s n) i)
+  here = ap (hasEntry find) (e ∙ sym (at-nodes s n i h))
+
+  refused : hasEntry find x ≡ false → need (hasEntry find (at (nodes s n) i)) (Unassigned i) ≡ Refused (Unassigned i)
+  refused q = rw (← here, q)
+
+  pub no-entry : hasEntry find x ≡ false → Refused (Unassigned i) ≡ inputsCheck find (nodes s n) n
+  unfolding inputsCheck
+  no-entry q =
+      sym (refused q) ∙ refused-here (λ i. need (hasEntry find (at (nodes s n) i)) (Unassigned i)) i n before (rw (refused q)) h
+
+  pub an-entry : hasEntry find x ≡ true → inputsCheck find (nodes s n) (i + 1) ≡ Good
+  unfolding inputsCheck
+  an-entry q = refused-next (λ i. need (hasEntry find (at (nodes s n) i)) (Unassigned i)) i before (rw (← here, q))

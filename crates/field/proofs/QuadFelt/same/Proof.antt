@@ -1,0 +1,16 @@
+-- `field::QuadFelt::same` meets its contract.
+use borrow.Author.Tests.{eq-eqb, ne-eqb}
+use Rattle.field.specs.Field.{same}
+use Rattle.field.proofs.QuadFelt.same.Statement.{statement}
+use Rattle.field.proofs.QuadFelt.same.Tie as tie
+
+returns : tie.Need-returns
+unfolding same
+returns c = simp (eq-eqb _ _ (c .before .before .if1 .taken))
+
+returns-2 : tie.Need-returns-2
+unfolding same
+returns-2 c = simp (ne-eqb _ _ (c .if1 .left))
+
+pub same-spec : {M : Type 1} → statement M
+same-spec = tie.close (tie.spec returns returns-2)

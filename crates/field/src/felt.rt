@@ -1,0 +1,176 @@
+// Coordinates: numbers below p, with the operations of the residues modulo p.
+ghost use mathlib.Core.Path.{_≡_};
+ghost use Prim.Native.Nat.{_+_, _*_, _%_, _^_, _≤_, _<_};
+ghost use Rattle.ring.specs.Power.{pow};
+ghost use Rattle.field.specs.Field.{felt, p};
+ghost use Rattle.field.specs.Generators.{generator};
+use crate::QuadFelt;
+
+// 2^32, the base of a word's halves.
+const BASE: u64 = 4294967296;
+
+// 2^64 modulo p.
+const EPSILON: u64 = 4294967295;
+
+// The sum modulo p of two words whose sum is below 2p: 2^64 = 2^32 − 1 modulo p.
+pub fn fold(a: u64, b: u64) -> u64
+    requires { ⌜ a + b < 2 * p ⌝ }
+    ensures { λ r. ⌜ (r ≡ (a + b) % p) × (r < p) ⌝ }
+{
+    let s = std::num::wrapping_add_u64(a, b);
+    if s < a {
+        return s + EPSILON;
+    }
+    if s < QuadFelt::MODULUS {
+        return s;
+    }
+    std::num::wrapping_add_u64(s, EPSILON)
+}
+
+// The sum.
+pub fn add(a: u64, b: u64) -> u64
+    requires { ⌜ (a < p) × (b < p) ⌝ }
+    ensures { λ r. ⌜ (r ≡ felt .add a b) × (r < p) ⌝ }
+{
+    fold(a, b)
+}
+
+// The difference.
+pub fn sub(a: u64, b: u64) -> u64
+    requires { ⌜ (a < p) × (b < p) ⌝ }
+    ensures { λ r. ⌜ (r ≡ felt .sub a b) × (r < p) ⌝ }
+{
+    if a < b {
+        QuadFelt::MODULUS - b + a
+    } else {
+        a - b
+    }
+}
+
+// The negative.
+pub fn neg(a: u64) -> u64
+    requires { ⌜ a < p ⌝ }
+    ensures { λ r. ⌜ (r ≡ felt .neg a) × (r < p) ⌝ }
+{
+    if a == 0 { 0 } else { QuadFelt::MODULUS - a }
+}
+
+// A number of two words, high · 2^64 + low.
+pub struct Wide {
+    pub high: u64,
+    pub low: u64,
+}
+
+// The whole product, by halves of 32 bits.
+pub fn wide_mul(a: u64, b: u64) -> Wide
+    ensures { λ r. ⌜ r .high * 2 ^ 64 + r .low ≡ a * b ⌝ }
+{
+    let a1 = a / BASE;
+    let a0 = a % BASE;
+    let b1 = b / BASE;
+    let b0 = b % BASE;
+    let low = a0 * b0;
+    let middle = a1 * b0 + low / BASE;
+    let cross = a0 * b1 + middle % BASE;
+    Wide {
+        high: a1 * b1 + middle / BASE + cross / BASE,
+        low: cross % BASE * BASE + low % BASE,
+    }
+}
+
+// high · 2^64 + low modulo p: 2^64 = 2^32 − 1 and 2^96 = −1.
+pub fn reduce(high: u64, low: u64) -> u64
+    ensures { λ r. ⌜ (r ≡ (high * 2 ^ 64 + low) % p) × (r < p) ⌝ }
+{
+    let top = high / BASE;
+    let middle = high % BASE * EPSILON;
+    if low < top {
+        return fold(QuadFelt::MODULUS - top + low, middle);
+    }
+    fold(low - top, middle)
+}
+
+// The product.
+pub fn mul(a: u64, b: u64) -> u64
+    requires { ⌜ (a < p) × (b < p) ⌝ }
+    ensures { λ r. ⌜ (r ≡ felt .mul a b) × (r < p) ⌝ }
+{
+    let n = wide_mul(a, b);
+    reduce(n.high, n.low)
+}
+
+// The generators of the subgroups of order 2^0, 2^1, .., 2^32: each is the square of the next.
+const GENERATORS: [u64; 33] = [
+    1,
+    18446744069414584320,
+    281474976710656,
+    18446744069397807105,
+    17293822564807737345,
+    70368744161280,
+    549755813888,
+    17870292113338400769,
+    13797081185216407910,
+    1803076106186727246,
+    11353340290879379826,
+    455906449640507599,
+    17492915097719143606,
+    1532612707718625687,
+    16207902636198568418,
+    17776499369601055404,
+    6115771955107415310,
+    12380578893860276750,
+    9306717745644682924,
+    18146160046829613826,
+    3511170319078647661,
+    17654865857378133588,
+    5416168637041100469,
+    16905767614792059275,
+    9713644485405565297,
+    5456943929260765144,
+    17096174751763063430,
+    1213594585890690845,
+    6414415596519834757,
+    16116352524544190054,
+    9123114210336311365,
+    4614640910117430873,
+    1753635133440165772,
+];
+
+// The generator of the subgroup of order 2^k.
+pub fn two_adic_generator(k: usize) -> u64
+    requires { ⌜ k ≤ 32 ⌝ }
+    ensures { λ r. ⌜ (r ≡ generator k) × (r < p) ⌝ }
+{
+    GENERATORS[k]
+}
+
+// One half.
+pub const HALF: u64 = 9223372034707292161;
+
+// The product of `result` with `square` where the exponent is odd; `result` where it is even.
+fn times_odd(result: u64, square: u64, exponent: u64) -> u64
+    requires { ⌜ (result < p) × (square < p) ⌝ }
+    ensures { λ r. ⌜ (r ≡ felt .mul result (pow felt square (exponent % 2))) × (r < p) ⌝ }
+{
+    if exponent % 2 == 0 {
+        result
+    } else {
+        mul(result, square)
+    }
+}
+
+// The power, by squaring.
+pub fn pow(base: u64, exponent: u64) -> u64
+    requires { ⌜ base < p ⌝ }
+    ensures { λ r. ⌜ (r ≡ pow felt base exponent) × (r < p) ⌝ }
+{
+    let mut result: u64 = 1;
+    let mut square = base;
+    let mut left = exponent;
+    while 0 < left {
+        result = times_odd(result, square, left);
+        square = mul(square, square);
+        left = left / 2;
+    }
+    result
+}

@@ -1,0 +1,113 @@
+// Holds the field to vectors of ordinary whole-number arithmetic, made by tools/field_vectors.py and read from standard input.
+ghost use mathlib.Core.Path.{_≡_};
+ghost use Prim.Native.Nat.{_+_, _≤_, _<_};
+ghost use lib.ListN.{length};
+ghost use Rattle.field.specs.Field.{Below};
+use field::QuadFelt;
+use libc::STDOUT_FILENO;
+
+// The bytes of a line: a sign, and six words of 16 hexadecimal digits.
+const LINE: usize = 104;
+
+// How many vectors there are, and how many the field agrees with.
+struct Tally {
+    vectors: u64,
+    matched: u64,
+}
+
+// The value of a hexadecimal digit.
+fn nibble(b: u8) -> u64
+    ensures { λ r. ⌜ r < 16 ⌝ }
+{
+    match b {
+        b'0'..=b'9' => (b - 48) as u64,
+        b'a'..=b'f' => (b - 87) as u64,
+        _ => 0,
+    }
+}
+
+// The word of 16 digits at a place.
+fn word(s: &[u8], at: usize) -> u64
+    requires { ⌜ at + 16 ≤ length (now s) ⌝ }
+{
+    let mut n: u64 = 0;
+    let mut i = 0;
+    while i < 16 {
+        n = n % 1152921504606846976 * 16 + nibble(s[at + i]);
+        i += 1;
+    }
+    n
+}
+
+// The element of two words at a place.
+fn element(s: &[u8], at: usize) -> QuadFelt
+    requires { ⌜ at + 33 ≤ length (now s) ⌝ }
+{
+    QuadFelt::new(word(s, at), word(s, at + 17))
+}
+
+// The generator of a number, and 0 past the table.
+fn generator(k: u64) -> u64 {
+    if k <= 32 {
+        field::felt::two_adic_generator(k as usize)
+    } else {
+        0
+    }
+}
+
+// What the field answers for a sign.
+fn answer(sign: u8, a: QuadFelt, b: QuadFelt) -> QuadFelt
+    requires { ⌜ Below a × Below b ⌝ }
+{
+    match sign {
+        b'+' => a.add(b),
+        b'-' => a.sub(b),
+        b'*' => a.mul(b),
+        b'^' => QuadFelt::from_base(field::felt::pow(a.c0, b.c0)),
+        b'g' => QuadFelt::from_base(generator(a.c0)),
+        _ => a.neg(),
+    }
+}
+
+// 1 where the field agrees with the vector at a place, and else 0.
+fn score(s: &[u8], at: usize) -> u64
+    requires { ⌜ at + 104 ≤ length (now s) ⌝ }
+    ensures { λ r. ⌜ r ≤ 1 ⌝ }
+{
+    let a = element(s, at + 2);
+    let b = element(s, at + 36);
+    if QuadFelt::MODULUS <= a.c0 || QuadFelt::MODULUS <= a.c1 {
+        return 0;
+    }
+    if QuadFelt::MODULUS <= b.c0 || QuadFelt::MODULUS <= b.c1 {
+        return 0;
+    }
+    if answer(s[at], a, b).same(element(s, at + 70)) {
+        1
+    } else {
+        0
+    }
+}
+
+// The field against every whole line.
+fn compare(s: &[u8]) -> Tally {
+    let mut vectors: u64 = 0;
+    let mut matched: u64 = 0;
+    let mut at = 0;
+    while LINE <= s.len() - at {
+        matched += score(s, at);
+        vectors += 1;
+        at += LINE;
+    }
+    Tally { vectors, matched }
+}
+
+fn main() {
+    let mut buffer = [0u8; 65536];
+    let n = io::read_full(0, &mut buffer);
+    let t = compare(&buffer[..n]);
+    io::print_decimal(STDOUT_FILENO, t.matched);
+    io::write_all(STDOUT_FILENO, b" of ");
+    io::print_decimal(STDOUT_FILENO, t.vectors);
+    io::write_all(STDOUT_FILENO, b" vectors match\n");
+}

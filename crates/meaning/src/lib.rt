@@ -1,0 +1,1 @@
+// The values of a list: definitions and laws stand in specs/.

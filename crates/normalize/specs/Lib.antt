@@ -1,0 +1,17 @@
+pub mod Rounds
+pub mod SearchLaws
+pub mod PlanLaws
+pub mod PlanValues
+pub mod RoundLaws
+pub mod RepeatLaws
+pub mod Demand3
+pub mod Fanouts
+pub mod Asked
+pub mod FactorSearch
+pub mod ReadLaws
+pub mod PlanReads
+pub mod EnterLaws
+pub mod TurnLaws
+pub mod OnceLaws
+pub mod Calls
+pub mod CallLaws

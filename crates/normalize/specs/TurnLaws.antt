@@ -1,0 +1,109 @@
+-- A round's turn: the record at place i planned and entered.
+use Prim.Native.Nat.{ℕ, suc, _+_, _*_, _<_, _≤_}
+use mathlib.Core.Bool.{Bool, true, cond}
+use mathlib.Core.List.{List}
+use mathlib.Core.Path.{_≡_, refl, sym, _∙_, ap, ap₂, subst}
+use native.Mathlib.Numerals.{add-one}
+use native.Mathlib.Omega.{arith}
+use lib.ListN.{length, set}
+use Rattle.field.specs.Field.{p, quad, quad-laws, Below}
+use Rattle.dag.specs.Nodes.{nodes, at, rename, like}
+use Rattle.dag.specs.Store.{Sound}
+use Rattle.dag.specs.WellFormed.{Fine, WellFormed}
+use Rattle.dag.specs.declared.NodeKind.{NodeKind}
+use Rattle.dag.specs.declared.NodeKind.the-variants.{Mul}
+use Rattle.builder.specs.Steps.{Replay, placeOf, recorded, step}
+use Rattle.builder.specs.OutcomeLaws.{list-fine}
+use Rattle.builder.specs.Holds.{read, rename-agree, Holds, holds-nothing, count-is, place-read, holds-more}
+use Rattle.builder.specs.declared.Entered.{Entered}
+use Rattle.normalize.specs.Rounds.{planOf, planned, round, fires, fired}
+use Rattle.normalize.specs.PlanLaws.{PlanFine, plan-fine}
+use Rattle.normalize.specs.RoundLaws.{round-replayed, round-length}
+use Rattle.normalize.specs.Asked.{Planning}
+use Rattle.normalize.specs.EnterLaws.{Entering, held, Planned}
+use Rattle.normalize.specs.declared.Plan.{Plan}
+use Rattle.normalize.specs.declared.Plan.the-variants.{Factored, Rotated, Plain}
+
+-- results that agree before place i give the same list by a plan
+planned-agree : (r q : Replay) (i : ℕ) (x : NodeKind) (plan : Plan) → r .list ≡ q .list → ((j : ℕ) → j < i → placeOf r j ≡ placeOf q j) → Fine Below i x → PlanFine i plan
+    → planned quad r x plan ≡ planned quad q x plan
+unfolding planned
+planned-agree r q i x (Factored f a b) l m h (k, s, t) =
+    let inner = ap₂ (step quad) l (ap₂ (like x) (m a s) (m b t)) in
+    ap₂ (step quad) (ap (λ b. b .list) inner) (ap₂ Mul (m f k) (ap (λ b. b .place) inner))
+planned-agree r q i x (Rotated e y) l m h (s, t) = ap₂ (step quad) l (ap₂ (like x) (m e s) (m y t))
+planned-agree r q i x Plain l m h k = ap₂ (step quad) l (rename-agree Below (placeOf r) (placeOf q) i x h m)
+
+-- what a round asks of its stores
+pub record Rounding (s : List ℕ) (n : ℕ) (fan work map : List ℕ) : Type 0 where
+  pub sound : Sound p s n
+  pub few : n ≤ 4096
+  pub fan-fits : n ≤ length fan
+  pub work-fits : 6 * n ≤ length work
+  pub map-fits : n ≤ length map
+
+-- what it leaves there
+pub record RoundHeld (s : List ℕ) (n : ℕ) (fan : List ℕ) (i : ℕ) (work map : List ℕ) (count : ℕ) (t : Bool) : Type 0 where
+  pub holds : Holds (round quad (nodes s n) (read fan) i) i work map count
+  pub fired-is : t ≡ fired (nodes s n) (read fan) i
+
+pub round-begins : (s : List ℕ) (n : ℕ) (fan work map : List ℕ) → RoundHeld s n fan 0 work map 0 (mathlib.Core.Bool.false)
+unfolding round fired
+round-begins s n fan work map = record { holds = holds-nothing work map; fired-is = refl }
+
+module _ (s : List ℕ) (n : ℕ) (fan work₀ map₀ : List ℕ) (g : Rounding s n fan work₀ map₀) (i : ℕ) (work map : List ℕ) (count : ℕ) (t : Bool)
+    (ew : length work ≡ length work₀) (em : length map ≡ length map₀) (h : RoundHeld s n fan i work map count t) where
+  r : Replay
+  r = round quad (nodes s n) (read fan) i
+
+  w : WellFormed Below (nodes s n)
+  w = list-fine s n (g .sound)
+
+  pub round-count : count ≤ i + i
+  unfolding r w
+  round-count = let a = count-is r i work map count (h .holds) in let b = round-length quad quad-laws (nodes s n) w (read fan) i in omega arith
+
+  module _ (k : i < n) (x : NodeKind) (ex : x ≡ at (nodes s n) i) where
+    fine-here : Fine Below i x
+    unfolding WellFormed w
+    fine-here = rw ex (w i)
+
+    pub turn-planning : Planning s n fan i x
+    turn-planning = record { sound = g .sound; fits = g .fan-fits; inside = omega arith; fine = fine-here }
+
+    module _ (plan : Plan) (ep : plan ≡ planOf (nodes s n) (read fan) i x) where
+      plan-here : PlanFine i plan
+      unfolding w
+      plan-here = rw ep (plan-fine Below (nodes s n) w (read fan) i x fine-here)
+
+      pub turn-entering : Entering work count map i x plan
+      unfolding r w
+      turn-entering =
+          let f = g .map-fits in
+          let b = g .work-fits in
+          let c = round-count in
+          record {
+            sound = h .holds .sound;
+            places = λ j m.
+                let a = place-read r i work map count (h .holds) j m in
+                let d = round-replayed quad quad-laws (nodes s n) w (read fan) i .inside j m in
+                let e = count-is r i work map count (h .holds) in
+                omega arith;
+            fits = omega arith;
+            fine = fine-here;
+            plan-fine = plan-here;
+            room = omega arith;
+          }
+
+      pub turn-held : (after : List ℕ) (e : Entered) (u : Bool) → Planned work count (planned quad (held work count map) x plan) after e → u ≡ cond t true (fires plan)
+          → RoundHeld s n fan (i + 1) after (set map i (e .place)) (e .count) u
+      unfolding round fired placeOf r
+      turn-held after e u q eu =
+          let same = planned-agree (held work count map) r i x plan (h .holds .list-is) (place-read r i work map count (h .holds)) fine-here plan-here in
+          let here = ap₂ (planned quad r) ex (ep ∙ ap (planOf (nodes s n) (read fan) i) ex) in
+          rw (add-one i)
+          (record {
+            holds = holds-more r i work map count (h .holds) (planned quad r (at (nodes s n) i) (planOf (nodes s n) (read fan) i (at (nodes s n) i))) after (e .place) (e .count)
+                (q .sound) (q .list-is ∙ ap (λ b. b .list) (same ∙ here)) (q .place-is ∙ ap (λ b. b .place) (same ∙ here)) (let f = g .map-fits in omega arith);
+            fired-is = eu ∙ ap₂ (λ a b. cond a true (fires b)) (h .fired-is) (ep ∙ ap (planOf (nodes s n) (read fan) i) ex);
+          })

@@ -1,0 +1,7 @@
+pub mod Ring
+pub mod Solver
+pub mod Identities
+pub mod Residue
+pub mod Pair
+pub mod Power
+pub mod Sums

@@ -1,0 +1,267 @@
+//! The proved calls on ACE constraint lists, for Rust.
+//!
+//! Every call lends its stores as slices of words and answers its values or a [`Refusal`]. Nothing
+//! is tested here: what the calls say of all inputs, refused ones among them, is proved where they
+//! are written. A list has `n` records of three words: tag, first word, second word.
+//!
+//! | tag | record   | words                                          |
+//! |-----|----------|------------------------------------------------|
+//! | 0   | input    | key number, 0                                  |
+//! | 1   | constant | c0, c1, each below p = 2^64 − 2^32 + 1         |
+//! | 2   | add      | two places, each before the record's own       |
+//! | 3   | sub      | two places                                     |
+//! | 4   | mul      | two places                                     |
+//! | 5   | neg      | a place, 0                                     |
+//!
+//! After a call that accepts, the words of a result, map or place store behind the last one filled
+//! are blank, and a work store is blank throughout. A refusal changes no store, save that the 7 of
+//! `lower` leaves its work store blank.
+//!
+//! Each call is behind the feature of its name. They link with `target/staticlib/libace.a` of the
+//! repository, which `rt staticlib ace` writes.
+//!
+//! A list of requests, where the second sum is the first one again:
+#![cfg_attr(all(archive, feature = "build"), doc = "```")]
+#![cfg_attr(not(all(archive, feature = "build")), doc = "```ignore")]
+//! let requests = [
+//!     0, 0, 0, // input 0
+//!     0, 1, 0, // input 1
+//!     2, 0, 1, // add 0 1
+//!     2, 1, 0, // add 1 0
+//! ];
+//! let mut result = [7; 12];
+//! let mut map = [7; 4];
+//! let built = ace::build(&requests, 4, 3, &mut result, &mut map).unwrap();
+//! assert_eq!((built.count, built.root), (3, 2));
+//! assert_eq!(result, [0, 0, 0, 0, 1, 0, 2, 0, 1, 0, 0, 0]);
+//! assert_eq!(map, [0, 1, 2, 2]);
+//!
+//! let refused = ace::build(&requests, 4, 4, &mut result, &mut map).unwrap_err();
+//! assert_eq!((refused.number, refused.place), (6, 0));
+//! ```
+
+use std::fmt;
+
+pub mod words;
+
+/// Whether the archive was there when this crate was built.
+pub const LINKED: bool = cfg!(archive);
+
+/// Why a call said no.
+#[derive(Clone, Copy, Debug, PartialEq, Eq)]
+pub struct Refusal {
+    /// The number of the reason.
+    pub number: u64,
+    /// The record, entry or column at fault for 3, 4, 5, 12 and 14, else 0.
+    pub place: u64,
+}
+
+impl Refusal {
+    /// The reason in words.
+    pub fn reason(self) -> &'static str {
+        match self.number {
+            1 => "the number of records is 0 or above 4,096",
+            2 => "a lent store is too short",
+            3 => "a tag is above 5",
+            4 => "a word is not below p, no key's number, or unused and not 0",
+            5 => "an operand does not come before its record",
+            6 => "the root is outside the list",
+            7 => "a new record has no room",
+            11 => "the assignment has more than 4,096 entries",
+            12 => "an input has no entry",
+            13 => "there are more than 16 columns",
+            14 => "a column's length is no power of two in 1 to 128",
+            15 => "the period is no power of two in 1 to 2^32, or is below the longest column",
+            _ => "no reason of this library",
+        }
+    }
+}
+
+impl fmt::Display for Refusal {
+    fn fmt(&self, f: &mut fmt::Formatter) -> fmt::Result {
+        write!(f, "refused {} {}: {}", self.number, self.place, self.reason())
+    }
+}
+
+impl std::error::Error for Refusal {}
+
+/// The answer words, or the refusal that they tell.
+#[allow(dead_code)]
+fn told<const N: usize>(answer: [u64; N]) -> Result<[u64; N], Refusal> {
+    match answer[0] {
+        0 => Ok(answer),
+        number => Err(Refusal { number, place: answer[1] }),
+    }
+}
+
+/// What one request came to.
+#[derive(Clone, Copy, Debug, PartialEq, Eq)]
+pub struct Stepped {
+    /// The result's place.
+    pub place: u64,
+    /// The number of records now.
+    pub n: u64,
+}
+
+/// One request on a list, which may be empty. Only an appended record is written.
+#[cfg(feature = "step")]
+#[cfg_attr(archive, doc = "```")]
+#[cfg_attr(not(archive), doc = "```ignore")]
+/// let mut list = [9; 6];
+/// assert_eq!(ace::step(&mut list, 0, 0, 1, 0), Ok(ace::Stepped { place: 0, n: 1 }));
+/// assert_eq!(list, [0, 1, 0, 9, 9, 9]);
+/// ```
+pub fn step(
+    list: &mut [u64],
+    n: u64,
+    tag: u64,
+    first: u64,
+    second: u64,
+) -> Result<Stepped, Refusal> {
+    let [_, place, n, _] = told(words::step(list, n, tag, first, second))?;
+    Ok(Stepped { place, n })
+}
+
+/// How many records a list has now, and where its root is.
+#[derive(Clone, Copy, Debug, PartialEq, Eq)]
+pub struct Rooted {
+    /// The number of records.
+    pub count: u64,
+    /// The root's place.
+    pub root: u64,
+}
+
+/// A list built from requests; `map` holds each request's place.
+#[cfg(feature = "build")]
+pub fn build(
+    list: &[u64],
+    n: u64,
+    root: u64,
+    result: &mut [u64],
+    map: &mut [u64],
+) -> Result<Rooted, Refusal> {
+    let [_, count, root, _] = told(words::build(list, n, root, result, map))?;
+    Ok(Rooted { count, root })
+}
+
+/// The records that the root reaches.
+#[cfg(feature = "compact")]
+#[cfg_attr(archive, doc = "```")]
+#[cfg_attr(not(archive), doc = "```ignore")]
+/// let mut result = [9; 6];
+/// let compacted = ace::compact(&[0, 0, 0, 0, 1, 0], 2, 1, &mut result).unwrap();
+/// assert_eq!((compacted.count, compacted.root), (1, 0));
+/// assert_eq!(result, [0, 1, 0, 0, 0, 0]);
+/// ```
+pub fn compact(list: &[u64], n: u64, root: u64, result: &mut [u64]) -> Result<Rooted, Refusal> {
+    let [_, count, root, _] = told(words::compact(list, n, root, result))?;
+    Ok(Rooted { count, root })
+}
+
+/// What normalising came to.
+#[derive(Clone, Copy, Debug, PartialEq, Eq)]
+pub struct Normalized {
+    /// The number of records.
+    pub count: u64,
+    /// The root's place.
+    pub root: u64,
+    /// The rounds kept.
+    pub rounds: u64,
+}
+
+/// The normalised list.
+#[cfg(feature = "normalize")]
+#[cfg_attr(archive, doc = "```")]
+#[cfg_attr(not(archive), doc = "```ignore")]
+/// let list = [0, 0, 0, 0, 1, 0, 0, 2, 0, 4, 0, 1, 4, 0, 2, 2, 3, 4];
+/// let (mut result, mut work) = ([9; 18], [9; 36]);
+/// let normal = ace::normalize(&list, 6, 5, &mut result, &mut work).unwrap();
+/// assert_eq!((normal.count, normal.root, normal.rounds), (5, 4, 1));
+/// assert_eq!(result[9..], [2, 1, 2, 4, 0, 3, 0, 0, 0]);
+/// ```
+pub fn normalize(
+    list: &[u64],
+    n: u64,
+    root: u64,
+    result: &mut [u64],
+    work: &mut [u64],
+) -> Result<Normalized, Refusal> {
+    let [_, count, root, rounds] = told(words::normalize(list, n, root, result, work))?;
+    Ok(Normalized { count, root, rounds })
+}
+
+/// A field element c0 + c1·u.
+#[derive(Clone, Copy, Debug, PartialEq, Eq)]
+pub struct Value {
+    pub c0: u64,
+    pub c1: u64,
+}
+
+/// The root's value under `m` entries of key number, c0, c1.
+#[cfg(feature = "evaluate")]
+#[cfg_attr(archive, doc = "```")]
+#[cfg_attr(not(archive), doc = "```ignore")]
+/// let square = [0, 0, 0, 4, 0, 0];
+/// let value = ace::evaluate(&square, 2, 1, &[0, 0, 1], 1).unwrap();
+/// assert_eq!((value.c0, value.c1), (7, 0));
+/// ```
+pub fn evaluate(
+    list: &[u64],
+    n: u64,
+    root: u64,
+    assignment: &[u64],
+    m: u64,
+) -> Result<Value, Refusal> {
+    let [_, c0, c1, _] = told(words::evaluate(list, n, root, assignment, m))?;
+    Ok(Value { c0, c1 })
+}
+
+/// How a column is evaluated.
+#[derive(Clone, Copy, Debug, PartialEq, Eq)]
+pub enum Form {
+    Sparse,
+    Dense,
+    Basis,
+}
+
+/// The form of each column.
+#[cfg(feature = "prepare")]
+#[cfg_attr(archive, doc = "```")]
+#[cfg_attr(not(archive), doc = "```ignore")]
+/// let forms = ace::prepare(&[8, 1], &[1, 0, 0, 0, 0, 0, 0, 0, 5]).unwrap();
+/// assert_eq!(forms, [ace::Form::Sparse, ace::Form::Dense]);
+/// ```
+pub fn prepare(lengths: &[u64], entries: &[u64]) -> Result<Vec<Form>, Refusal> {
+    let answer = told(words::prepare(lengths, entries))?;
+    let form = |&word: &u64| match word {
+        0 => Form::Sparse,
+        1 => Form::Dense,
+        _ => Form::Basis,
+    };
+    Ok(answer[2..].iter().take(answer[1] as usize).map(form).collect())
+}
+
+/// The list with the columns' nodes behind it; `places` holds the place of each column's node.
+/// Answers the number of records.
+#[cfg(feature = "lower")]
+#[cfg_attr(archive, doc = "```")]
+#[cfg_attr(not(archive), doc = "```ignore")]
+/// let (mut result, mut work, mut places) = ([9; 9], [9; 12_288], [9; 1]);
+/// let count = ace::lower(&[], 0, &[1], &[5], 1, &mut result, &mut work, &mut places).unwrap();
+/// assert_eq!((count, places), (3, [1]));
+/// assert_eq!(result, [0, 11 << 48, 0, 1, 5, 0, 1, 0, 0]);
+/// ```
+#[allow(clippy::too_many_arguments)]
+pub fn lower(
+    list: &[u64],
+    n: u64,
+    lengths: &[u64],
+    entries: &[u64],
+    period: u64,
+    result: &mut [u64],
+    work: &mut [u64],
+    places: &mut [u64],
+) -> Result<u64, Refusal> {
+    let answer = words::lower(list, n, lengths, entries, period, result, work, places);
+    told(answer).map(|[_, count, ..]| count)
+}

@@ -1,0 +1,171 @@
+//! One case on all sides: document 01, the Rust of docs/src, and the proved call.
+
+use std::collections::BTreeMap;
+
+use model::field::{Pair, generator, power};
+use model::{
+    Call, Case, Judge, Outcome, Paper, Record, ZK, check_columns, expected, records, values,
+};
+
+use crate::cases::list_case;
+use crate::{Rng, Rust, ours};
+
+/// A case on which two sides differ, ready to send.
+pub struct Difference {
+    /// Every word.
+    pub whole: String,
+    /// With long stores cut, if any is long.
+    pub short: Option<String>,
+}
+
+/// A call's comparisons so far.
+pub struct Comparison {
+    pub call: Call,
+    /// Cases compared, follow-ups among them.
+    pub cases: u64,
+    /// Cases that differed.
+    pub failed: u64,
+    /// How often each refusal was met; 0 is acceptance.
+    pub outcomes: BTreeMap<u64, u64>,
+    /// Document 01's definitions, with the count of what they met.
+    pub paper: Paper,
+    /// Second checks made: on answers normalised again, values and column entries.
+    pub second: u64,
+    /// Whether the proved call is compared, or the other two sides alone.
+    pub ours: bool,
+    rng: Rng,
+}
+
+impl Comparison {
+    pub fn new(call: Call, seed: u64, ours: bool) -> Self {
+        Self {
+            call,
+            cases: 0,
+            failed: 0,
+            outcomes: BTreeMap::new(),
+            paper: Paper::default(),
+            second: 0,
+            ours,
+            rng: Rng::new(seed),
+        }
+    }
+
+    /// Compares one case and what follows from it.
+    pub fn take(&mut self, case: &Case) -> Vec<Difference> {
+        let mut found = Vec::new();
+        let outcome = self.sides(case, &mut found);
+        if outcome.accepted() {
+            match case.call {
+                Call::Normalize => self.again(case, &outcome, &mut found),
+                Call::Lower => self.entries(case, &outcome, &mut found),
+                _ => {}
+            }
+        }
+        self.failed += u64::from(!found.is_empty());
+        found
+    }
+
+    /// The Rust's outcome, with the differences of the other sides from it.
+    fn sides(&mut self, case: &Case, found: &mut Vec<Difference>) -> Outcome {
+        self.cases += 1;
+        let rust = expected(case, &mut Rust);
+        *self.outcomes.entry(rust.answer[0]).or_default() += 1;
+        let paper = expected(case, &mut self.paper);
+        if paper != rust {
+            found.push(told(case, ("document 01", &paper), ("the Rust", &rust)));
+        }
+        if self.ours {
+            match ours::run(case) {
+                Ok(outcome) if outcome == rust => {}
+                Ok(outcome) => found.push(told(case, ("ours", &outcome), ("the Rust", &rust))),
+                Err(damage) => found.push(said(case, &format!("ours {damage}"))),
+            }
+        }
+        rust
+    }
+
+    /// Normalises the answer again, holds the rounds to `normalize_dag` and the values to each
+    /// other.
+    fn again(&mut self, case: &Case, outcome: &Outcome, found: &mut Vec<Difference>) {
+        let [n, root] = case.scalars[..] else { panic!("two numbers") };
+        let [_, count, new_root, _] = outcome.answer[..] else { panic!("four words") };
+        let before = records(&case.stores[0][..3 * n as usize]);
+        let after = records(&outcome.after[0][..3 * count as usize]);
+        let next = list_case(Call::Normalize, &mut self.rng, &after, new_root);
+        let answer = self.sides(&next, found);
+        let unchanged = records(&answer.after[0][..3 * count as usize]) == after;
+        if answer.answer != [0, count, new_root, 0] || !unchanged {
+            found.push(said(&next, "an answer normalised again changed"));
+        }
+        if n <= 64 && oracle::normalize_whole(&before, root) != (after.clone(), new_root) {
+            found.push(said(case, "normalize_dag and its rounds one by one differ"));
+        }
+        let seed = self.rng.word();
+        if value(&before, root, seed) != value(&after, new_root, seed) {
+            found.push(said(case, "the root's value changed"));
+        }
+        self.second += 1;
+    }
+
+    /// Evaluates each column's node at a power of the shared generator: the column's entry.
+    fn entries(&mut self, case: &Case, outcome: &Outcome, found: &mut Vec<Difference>) {
+        let [_, period] = case.scalars[..] else { panic!("two numbers") };
+        let columns = check_columns(&case.stores[1], &case.stores[2]).expect("accepted columns");
+        if columns.is_empty() {
+            return;
+        }
+        let list = records(&outcome.after[0][..3 * outcome.answer[1] as usize]);
+        let row = self.rng.below(period);
+        let point = power(generator(period.ilog2()), row);
+        let seed = self.rng.word();
+        let element = |key| if key == ZK { [point, 0] } else { element(key, seed) };
+        let values = values(&list, element, 7);
+        for (column, &place) in columns.iter().zip(&outcome.after[2]) {
+            let entry = column[(row % column.len() as u64) as usize];
+            if values[place as usize] != [entry, 0] {
+                found.push(said(case, &format!("a column's node is not its entry at row {row}")));
+            }
+        }
+        self.second += 1;
+    }
+}
+
+/// An element for a key, different under each seed.
+fn element(key: u64, seed: u64) -> Pair {
+    let mut rng = Rng::new(key ^ seed.rotate_left(17));
+    [rng.below(model::field::P), rng.below(model::field::P)]
+}
+
+/// The root's value with the elements of this seed.
+fn value(list: &[Record], root: u64, seed: u64) -> Pair {
+    values(list, |key| element(key, seed), 7)[root as usize]
+}
+
+/// Whether a judge answers this case as the Rust does.
+pub fn agrees(case: &Case, judge: &mut dyn Judge) -> bool {
+    expected(case, judge) == expected(case, &mut Rust)
+}
+
+/// A difference of two outcomes.
+fn told(case: &Case, one: (&str, &Outcome), other: (&str, &Outcome)) -> Difference {
+    difference(case, |whole| {
+        format!(
+            "  {}:\n{}  {}:\n{}",
+            one.0,
+            one.1.text(case.call, other.1, whole),
+            other.0,
+            other.1.text(case.call, one.1, whole),
+        )
+    })
+}
+
+/// A case of which this is to be said.
+fn said(case: &Case, what: &str) -> Difference {
+    difference(case, |_| format!("  {what}\n"))
+}
+
+/// A case with what is said of it, in full and short.
+fn difference(case: &Case, said: impl Fn(bool) -> String) -> Difference {
+    let text = |whole: bool| case.text(whole) + &said(whole);
+    Difference { whole: text(true), short: case.is_long().then(|| text(false)) }
+}

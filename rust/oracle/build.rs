@@ -1,0 +1,97 @@
+//! Copies the Rust of docs/src into the output folder, where src/lib.rs mounts it.
+//!
+//! ACE_SRC names the folder; a relative one stands against the repository's root. It holds the
+//! files as docs/src names them, or is a clone of the repository that they come from.
+
+use std::env;
+use std::fs;
+use std::path::{Path, PathBuf};
+
+/// The folder taken where ACE_SRC is not set, from the repository's root.
+const DEFAULT: &str = "../shared/docs/src";
+
+/// The files mounted whole, below crates/ace/src.
+const MODULES: [&str; 6] = [
+    "layout/keys.rs",
+    "layout/plan.rs",
+    "compiler/dag/builder.rs",
+    "compiler/dag/ir.rs",
+    "compiler/dag/normalize.rs",
+    "compiler/dag/periodic.rs",
+];
+
+/// The file that `eval_dag` is cut out of.
+const TESTING: &str = "compiler/testing.rs";
+
+/// Added behind normalize.rs: a name for one round that stands outside it, so that rounds can be
+/// counted.
+const ONE_ROUND: &str = "
+pub(super) fn one_round<EF: Field>(dag: AceDag<EF>) -> (AceDag<EF>, bool) { normalize_once(dag) }
+";
+
+fn main() {
+    println!("cargo::rerun-if-changed=build.rs");
+    println!("cargo::rerun-if-env-changed=ACE_SRC");
+    if let Err(message) = mount() {
+        println!("cargo::error={message}");
+    }
+}
+
+/// Writes each module, and a line that declares it, to the output folder.
+fn mount() -> Result<(), String> {
+    let out = PathBuf::from(env::var("OUT_DIR").unwrap());
+    let folder = source_folder();
+    for module in MODULES {
+        let name = module.rsplit('/').next().unwrap();
+        let mut text = read(&folder, module)?;
+        if name == "normalize.rs" {
+            text.push_str(ONE_ROUND);
+        }
+        let visible = name.trim_end_matches(".rs");
+        let declaration = format!(
+            "#[allow(dead_code, unexpected_cfgs)] #[path = {:?}] pub mod {visible};\n",
+            out.join(name)
+        );
+        write(&out.join(name), &text)?;
+        write(&out.join(format!("{visible}_module.rs")), &declaration)?;
+    }
+    let testing = read(&folder, TESTING)?;
+    let evaluator = cut(&testing, "pub fn eval_dag")
+        .ok_or_else(|| format!("{TESTING} in {} has no eval_dag", folder.display()))?;
+    write(&out.join("eval_dag.rs"), evaluator)
+}
+
+/// The folder that ACE_SRC names, or the default one.
+fn source_folder() -> PathBuf {
+    let named = env::var("ACE_SRC").ok().filter(|name| !name.is_empty());
+    let manifest = PathBuf::from(env::var("CARGO_MANIFEST_DIR").unwrap());
+    let root = manifest.parent().and_then(Path::parent).unwrap().to_path_buf();
+    root.join(named.as_deref().unwrap_or(DEFAULT))
+}
+
+/// The text of a file of crates/ace/src, under either of its two names.
+fn read(folder: &Path, module: &str) -> Result<String, String> {
+    let flat = format!("src--crates--ace--src--{}.txt", module.replace('/', "--"));
+    for path in [folder.join(flat), folder.join("crates/ace/src").join(module)] {
+        if let Ok(text) = fs::read_to_string(&path) {
+            println!("cargo::rerun-if-changed={}", path.display());
+            return Ok(text);
+        }
+    }
+    Err(format!(
+        "the Rust to compare with is not in {} ({module} is missing): set ACE_SRC to docs/src, \
+         or to a clone of github.com/0xMiden/miden-vm at 614c9f3608",
+        folder.display()
+    ))
+}
+
+/// The item that begins at a line's start with `head`, to its closing line.
+fn cut<'a>(text: &'a str, head: &str) -> Option<&'a str> {
+    let begin = text.find(&format!("\n{head}"))? + 1;
+    let end = text[begin..].find("\n}\n")? + 3;
+    Some(&text[begin..begin + end])
+}
+
+fn write(path: &Path, text: &str) -> Result<(), String> {
+    fs::write(path, text).map_err(|error| format!("{}: {error}", path.display()))
+}

@@ -1,0 +1,289 @@
+//! Elements modulo p and pairs of them, always in lowest form.
+
+use core::fmt::Debug;
+use core::hash::Hash;
+use core::ops::{Add, AddAssign, Mul, MulAssign, Neg, Sub, SubAssign};
+
+/// The modulus p = 2^64 − 2^32 + 1.
+pub const MODULUS: u64 = 0xffff_ffff_0000_0001;
+
+/// 2^64 modulo p.
+const EPSILON: u64 = 0xffff_ffff;
+
+/// u², the square of the extension's generator.
+const U_SQUARED: Felt = Felt(7);
+
+/// The generator of order 2^32, entry 32 of the public Goldilocks table.
+const GENERATOR_32: Felt = Felt(1_753_635_133_440_165_772);
+
+/// The greatest power of two that divides p − 1.
+pub const TWO_ADICITY: usize = 32;
+
+/// What the builder and the rounds ask of a field.
+pub trait Field:
+    Copy
+    + Debug
+    + Eq
+    + Hash
+    + Add<Output = Self>
+    + Sub<Output = Self>
+    + Mul<Output = Self>
+    + Neg<Output = Self>
+    + AddAssign
+    + SubAssign
+    + MulAssign
+{
+    const ZERO: Self;
+    const ONE: Self;
+
+    /// The inverse of a nonzero element; 0 for 0.
+    fn inverse(&self) -> Self;
+}
+
+/// A field with generators of the subgroups of order 2^k.
+pub trait TwoAdicField: Field {
+    /// The generator of order 2^`bits`.
+    fn two_adic_generator(bits: usize) -> Self;
+}
+
+/// An element modulo p, below p.
+#[derive(Clone, Copy, Debug, Default, PartialEq, Eq, Hash)]
+pub struct Felt(u64);
+
+impl Felt {
+    /// The element of a word below p.
+    pub fn new(word: u64) -> Self {
+        assert!(word < MODULUS, "a coordinate is below the modulus");
+        Self(word)
+    }
+
+    /// The word of this element.
+    pub fn word(self) -> u64 {
+        self.0
+    }
+}
+
+/// A 128-bit number modulo p, by 2^64 = 2^32 − 1 and 2^96 = −1.
+#[inline]
+fn reduce(x: u128) -> u64 {
+    let (low, high) = (x as u64, (x >> 64) as u64);
+    let (difference, borrow) = low.overflowing_sub(high >> 32);
+    let difference = if borrow { difference.wrapping_sub(EPSILON) } else { difference };
+    let (sum, carry) = difference.overflowing_add((high & EPSILON) * EPSILON);
+    let sum = if carry { sum.wrapping_add(EPSILON) } else { sum };
+    if sum >= MODULUS { sum - MODULUS } else { sum }
+}
+
+impl Add for Felt {
+    type Output = Self;
+    #[inline]
+    fn add(self, other: Self) -> Self {
+        let (sum, carry) = self.0.overflowing_add(other.0);
+        let sum = if carry { sum.wrapping_add(EPSILON) } else { sum };
+        Self(if sum >= MODULUS { sum - MODULUS } else { sum })
+    }
+}
+
+impl Sub for Felt {
+    type Output = Self;
+    #[inline]
+    fn sub(self, other: Self) -> Self {
+        let (difference, borrow) = self.0.overflowing_sub(other.0);
+        Self(if borrow { difference.wrapping_add(MODULUS) } else { difference })
+    }
+}
+
+impl Mul for Felt {
+    type Output = Self;
+    #[inline]
+    fn mul(self, other: Self) -> Self {
+        Self(reduce(self.0 as u128 * other.0 as u128))
+    }
+}
+
+impl Neg for Felt {
+    type Output = Self;
+    #[inline]
+    fn neg(self) -> Self {
+        Self::ZERO - self
+    }
+}
+
+impl Field for Felt {
+    const ZERO: Self = Self(0);
+    const ONE: Self = Self(1);
+
+    fn inverse(&self) -> Self {
+        let (mut power, mut square, mut exponent) = (Self::ONE, *self, MODULUS - 2);
+        while exponent > 0 {
+            if exponent & 1 == 1 {
+                power *= square;
+            }
+            square *= square;
+            exponent >>= 1;
+        }
+        power
+    }
+}
+
+impl TwoAdicField for Felt {
+    fn two_adic_generator(bits: usize) -> Self {
+        assert!(bits <= TWO_ADICITY, "p − 1 has no such power of two");
+        (bits..TWO_ADICITY).fold(GENERATOR_32, |generator, _| generator * generator)
+    }
+}
+
+/// An element c0 + c1·u of the extension.
+#[derive(Clone, Copy, Debug, Default, PartialEq, Eq, Hash)]
+pub struct QuadFelt {
+    pub c0: Felt,
+    pub c1: Felt,
+}
+
+impl QuadFelt {
+    /// c0 + c1·u.
+    pub fn new(c0: Felt, c1: Felt) -> Self {
+        Self { c0, c1 }
+    }
+}
+
+impl From<Felt> for QuadFelt {
+    fn from(c0: Felt) -> Self {
+        Self { c0, c1: Felt::ZERO }
+    }
+}
+
+impl Add for QuadFelt {
+    type Output = Self;
+    #[inline]
+    fn add(self, other: Self) -> Self {
+        Self::new(self.c0 + other.c0, self.c1 + other.c1)
+    }
+}
+
+impl Sub for QuadFelt {
+    type Output = Self;
+    #[inline]
+    fn sub(self, other: Self) -> Self {
+        Self::new(self.c0 - other.c0, self.c1 - other.c1)
+    }
+}
+
+impl Mul for QuadFelt {
+    type Output = Self;
+    #[inline]
+    fn mul(self, other: Self) -> Self {
+        Self::new(
+            self.c0 * other.c0 + U_SQUARED * (self.c1 * other.c1),
+            self.c0 * other.c1 + self.c1 * other.c0,
+        )
+    }
+}
+
+impl Neg for QuadFelt {
+    type Output = Self;
+    #[inline]
+    fn neg(self) -> Self {
+        Self::new(-self.c0, -self.c1)
+    }
+}
+
+impl Field for QuadFelt {
+    const ZERO: Self = Self { c0: Felt::ZERO, c1: Felt::ZERO };
+    const ONE: Self = Self { c0: Felt::ONE, c1: Felt::ZERO };
+
+    fn inverse(&self) -> Self {
+        let norm = self.c0 * self.c0 - U_SQUARED * (self.c1 * self.c1);
+        let scale = norm.inverse();
+        Self::new(self.c0 * scale, -self.c1 * scale)
+    }
+}
+
+macro_rules! assigning {
+    ($($type:ty),*) => {$(
+        impl AddAssign for $type {
+            #[inline]
+            fn add_assign(&mut self, other: Self) {
+                *self = *self + other;
+            }
+        }
+        impl SubAssign for $type {
+            #[inline]
+            fn sub_assign(&mut self, other: Self) {
+                *self = *self - other;
+            }
+        }
+        impl MulAssign for $type {
+            #[inline]
+            fn mul_assign(&mut self, other: Self) {
+                *self = *self * other;
+            }
+        }
+    )*};
+}
+
+assigning!(Felt, QuadFelt);
+
+#[cfg(test)]
+mod tests {
+    use super::*;
+
+    /// Words at the corners of the reduction.
+    const WORDS: [u64; 10] =
+        [0, 1, 2, 7, EPSILON - 1, EPSILON, EPSILON + 1, 1 << 63, MODULUS - 2, MODULUS - 1];
+
+    #[test]
+    fn arithmetic_is_that_modulo_p() {
+        let p = MODULUS as u128;
+        for a in WORDS {
+            for b in WORDS {
+                let (x, y) = (Felt::new(a), Felt::new(b));
+                let (a, b) = (a as u128, b as u128);
+                assert_eq!((x + y).word() as u128, (a + b) % p);
+                assert_eq!((x - y).word() as u128, (a + p - b) % p);
+                assert_eq!((x * y).word() as u128, a * b % p);
+            }
+        }
+    }
+
+    #[test]
+    fn products_of_many_words() {
+        let mut state = 1u64;
+        for _ in 0..100_000 {
+            state = state.wrapping_mul(0x9e37_79b9_7f4a_7c15) ^ state >> 31;
+            let a = state % MODULUS;
+            state = state.wrapping_mul(0x9e37_79b9_7f4a_7c15).wrapping_add(1);
+            let b = state % MODULUS;
+            let product = (a as u128 * b as u128 % MODULUS as u128) as u64;
+            assert_eq!((Felt::new(a) * Felt::new(b)).word(), product);
+        }
+    }
+
+    #[test]
+    fn generators_are_those_of_the_table() {
+        assert_eq!(Felt::two_adic_generator(0), Felt::ONE);
+        assert_eq!(Felt::two_adic_generator(1), -Felt::ONE);
+        assert_eq!(Felt::two_adic_generator(8).word(), 0xbf79_143c_e60c_a966);
+        let seven = Felt::new(7);
+        let mut power = Felt::ONE;
+        for bit in (0..32).rev() {
+            power *= power;
+            if (MODULUS - 1) >> 32 >> bit & 1 == 1 {
+                power *= seven;
+            }
+        }
+        assert_eq!(Felt::two_adic_generator(32), power);
+    }
+
+    #[test]
+    fn inverses_and_the_square_of_u() {
+        for word in &WORDS[1..] {
+            let a = Felt::new(*word);
+            assert_eq!(a * a.inverse(), Felt::ONE);
+            let pair = QuadFelt::new(a, Felt::new(5));
+            assert_eq!(pair * pair.inverse(), QuadFelt::ONE);
+        }
+        let u = QuadFelt::new(Felt::ZERO, Felt::ONE);
+        assert_eq!(u * u, QuadFelt::from(Felt::new(7)));
+    }
+}
