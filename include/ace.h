@@ -12,6 +12,22 @@
  * A store is a pointer and its length in words. An empty store is a non-null pointer with
  * length 0. Stores that overlap, answer included, are outside this interface.
  *
+ * What a caller lends, at least, in words, for n records and m entries:
+ *   ace_step       list 3n, and 3 more where a record is new
+ *   ace_build      list 3n, result 3n, map n
+ *   ace_compact    list 3n, result 3n
+ *   ace_normalize  list 3n, result 3n, work 6n
+ *   ace_evaluate   list 3n, assignment 3m
+ *   ace_prepare    lengths a word a column, entries the sum of the lengths
+ *   ace_lower      as ace_prepare, list 3n, work 12,288, places a word a column, and a result of
+ *                  3 for each record that comes out, for which 12,288 are always enough
+ *   each of them   answer 4, but ace_prepare answer 18
+ * Less is refused, save for answer, whose length is not passed. More may be lent: words of a
+ * source behind those above are not read. A result, map, place or work store need hold nothing.
+ *
+ * The calls allocate nothing and keep nothing: they may run side by side on stores of their own.
+ * They take about half a megabyte of stack at most, by measurement.
+ *
  * answer[0] is 0 where the call accepts; its values start at answer[1], and words that no value
  * takes are 0. Otherwise answer[0] is the refusal's number, answer[1] the record, entry or column
  * at fault for 3, 4, 5, 12 and 14, else 0:
@@ -28,8 +44,8 @@
  *   14  a column's length is no power of two in 1 to 128
  *   15  the period is no power of two in 1 to 2^32, or is below the longest column
  * A refusal changes no store, save that ace_lower's 7 leaves its work store blank. After a call
- * that accepts, the words of a result, map or place store behind the last one filled are blank,
- * and a work store is blank throughout. The blank is the word 0.
+ * that accepts, the words of a result, map or place store behind the last one filled are
+ * ACE_BLANK, and a work store is so throughout.
  */
 
 #ifndef ACE_H
@@ -37,6 +53,9 @@
 
 #include <stddef.h>
 #include <stdint.h>
+
+/* The word behind what a call has filled. */
+#define ACE_BLANK UINT64_C(0)
 
 #ifdef __cplusplus
 extern "C" {

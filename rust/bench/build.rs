@@ -1,9 +1,10 @@
-//! Passes on whether the archive of the proved calls is there to be linked.
+//! Passes on which of the proved calls are linked.
 
 fn main() {
-    println!("cargo::rustc-check-cfg=cfg(archive)");
+    println!("cargo::rustc-check-cfg=cfg(linked, values(any()))");
     println!("cargo::rerun-if-changed=build.rs");
-    if std::env::var("DEP_ACE_ARCHIVE").as_deref() == Ok("present") {
-        println!("cargo::rustc-cfg=archive");
+    let calls = std::env::var("DEP_ACE_CALLS").unwrap_or_default();
+    for call in calls.split(',').filter(|call| !call.is_empty()) {
+        println!("cargo::rustc-cfg=linked=\"{call}\"");
     }
 }

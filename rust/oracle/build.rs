@@ -61,12 +61,13 @@ fn mount() -> Result<(), String> {
     write(&out.join("eval_dag.rs"), evaluator)
 }
 
-/// The folder that ACE_SRC names, or the default one.
+/// The folder that ACE_SRC names, or the default one; the crate is told its name.
 fn source_folder() -> PathBuf {
     let named = env::var("ACE_SRC").ok().filter(|name| !name.is_empty());
+    let named = named.as_deref().unwrap_or(DEFAULT);
+    println!("cargo::rustc-env=ORACLE_SOURCE={named}");
     let manifest = PathBuf::from(env::var("CARGO_MANIFEST_DIR").unwrap());
-    let root = manifest.parent().and_then(Path::parent).unwrap().to_path_buf();
-    root.join(named.as_deref().unwrap_or(DEFAULT))
+    manifest.parent().and_then(Path::parent).unwrap().join(named)
 }
 
 /// The text of a file of crates/ace/src, under either of its two names.

@@ -2,10 +2,13 @@
 use Prim.Native.Nat.{ℕ}
 use mathlib.Core.List.{List, [], _∷_}
 use Rattle.dag.specs.Refusals.{number, place}
+use lib.ListN.{replicate}
 use Rattle.dag.specs.declared.Refusal.{Refusal}
+use Rattle.dag.specs.declared.Checked.{Checked}
 use Rattle.compact.specs.declared.Compacted.{Compacted}
 use Rattle.normalize.specs.declared.NormalizeAnswer.{NormalizeAnswer}
 use Rattle.evaluate.specs.declared.Evaluated.{Evaluated}
+use Rattle.columns.specs.declared.Prepared.{Prepared}
 use Rattle.builder.specs.declared.StepAnswer.{StepAnswer}
 use Rattle.builder.specs.declared.BuildAnswer.{BuildAnswer}
 
@@ -31,3 +34,10 @@ normalizeWords (NormalizeAnswer.Refused r) = refusedWords r
 abbrev pub evaluateWords : Evaluated → List ℕ
 evaluateWords (Evaluated.Value v) = 0 ∷ v .c0 ∷ v .c1 ∷ 0 ∷ []
 evaluateWords (Evaluated.Refused r) = refusedWords r
+
+abbrev pub checkedWords : Checked → ℕ → List ℕ → List ℕ
+checkedWords Checked.Good count forms = 0 ∷ count ∷ forms
+checkedWords (Checked.Refused r) count forms = number r ∷ place r ∷ replicate 16 0
+
+abbrev pub prepareWords : Prepared → List ℕ
+prepareWords a = checkedWords (a .checked) (a .count) (a .forms)

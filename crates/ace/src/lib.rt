@@ -1,17 +1,21 @@
 // The exported calls, for C and Rust (include/ace.h): each lends its stores to the library and writes the answer's words.
 use builder::BuildAnswer;
 use builder::StepAnswer;
+use columns::Prepared;
 use compact::Compacted;
+use dag::Checked;
 use dag::Refusal;
 use evaluate::Evaluated;
 use normalize::NormalizeAnswer;
 ghost use mathlib.Core.Path.{_≡_};
 ghost use lib.ListN.{length};
 ghost use Rattle.builder.specs.Calls as Calls;
+ghost use Rattle.columns.specs.Prepare as Prepare;
 ghost use Rattle.compact.specs.Calls as Compaction;
 ghost use Rattle.evaluate.specs.Calls as Evaluation;
 ghost use Rattle.normalize.specs.Calls as Normalising;
 ghost use Rattle.ace.specs.Answers as Answers;
+ghost use Rattle.field.specs.Field.{p};
 
 // A refusal's words.
 fn refused_words(r: Refusal) -> [u64; 4]
@@ -71,6 +75,56 @@ fn evaluate_words(a: Evaluated) -> [u64; 4]
     match a {
         Evaluated::Value(v) => [0, v.c0, v.c1, 0],
         Evaluated::Refused(r) => refused_words(r),
+    }
+}
+
+// The words of Prepare's answer.
+fn prepare_words(a: Prepared) -> [u64; 18]
+    ensures { λ w. ⌜ w ≡ Answers.prepareWords a ⌝ }
+{
+    let checked = a.checked;
+    let f = a.forms;
+    match checked {
+        Checked::Good => [
+            0,
+            a.count as u64,
+            f[0],
+            f[1],
+            f[2],
+            f[3],
+            f[4],
+            f[5],
+            f[6],
+            f[7],
+            f[8],
+            f[9],
+            f[10],
+            f[11],
+            f[12],
+            f[13],
+            f[14],
+            f[15],
+        ],
+        Checked::Refused(r) => [
+            dag::number_of(r),
+            dag::place_of(r) as u64,
+            0,
+            0,
+            0,
+            0,
+            0,
+            0,
+            0,
+            0,
+            0,
+            0,
+            0,
+            0,
+            0,
+            0,
+            0,
+            0,
+        ],
     }
 }
 
@@ -152,4 +206,12 @@ pub extern "C" fn ace_evaluate(
     ensures answer { λ _. ⌜ now (answer .exit) ≡ Answers.evaluateWords (Evaluation.evaluateAnswer (now (list .entry)) n root (now (assignment .entry)) m) ⌝ }
 {
     *answer = evaluate_words(evaluate::evaluate(list, n, root, assignment, m));
+}
+
+// Prepare. Accepted: columns, then a form each.
+#[no_mangle]
+pub extern "C" fn ace_prepare(lengths: &[u64], entries: &[u64], answer: &mut [u64; 18])
+    ensures answer { λ _. ⌜ now (answer .exit) ≡ Answers.prepareWords (Prepare.prepare p (now (lengths .entry)) (now (entries .entry))) ⌝ }
+{
+    *answer = prepare_words(columns::prepare(lengths, entries));
 }

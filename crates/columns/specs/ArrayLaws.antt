@@ -41,7 +41,7 @@ module _ {A : Type 0} where
   pub fill-all : (z : A) (n : ℕ) (f : ℕ → A) (s : List A) (j k l : ℕ) → s ≡ padded z n (upTo f j) → j ≤ k → k ≤ j → l ≡ k → s ≡ padded z n (upTo f l)
   fill-all z n f s j k l e h i q = let r : j ≡ l = omega arith in e ∙ ap (λ x. padded z n (upTo f x)) r
 
-  getD-upTo : (f : ℕ → A) (d : A) (n i : ℕ) → i < n → getD (upTo f n) i d ≡ f i
+  pub getD-upTo : (f : ℕ → A) (d : A) (n i : ℕ) → i < n → getD (upTo f n) i d ≡ f i
   unfolding upTo
   getD-upTo f d zero i h = absurd (omega arith)
   getD-upTo f d (suc n) i h =

@@ -33,7 +33,7 @@ module _ (m : ℕ) where
   unfolding allBelow
   below-tail v c e = and-true (ltb v m) (allBelow m c) e .1
 
-  below-snoc : (vs : List ℕ) (v : ℕ) → allBelow m vs ≡ true → v < m → allBelow m (vs ++ (v ∷ [])) ≡ true
+  pub below-snoc : (vs : List ℕ) (v : ℕ) → allBelow m vs ≡ true → v < m → allBelow m (vs ++ (v ∷ [])) ≡ true
   unfolding allBelow
   below-snoc [] v e h = rw (lt-ltb v m h)
   below-snoc (w ∷ vs) v e h = rw (lt-ltb w m (below-head w vs e)) (below-snoc vs v (below-tail w vs e) h)

@@ -1,10 +1,15 @@
 -- Laws of key numbers.
-use Prim.Native.Nat.{ℕ, zero, suc, _*_, _^_, _<_}
+use Prim.Native.Nat.{ℕ, zero, suc, _+_, _*_, _/_, _%_, _^_, _<_, _≤_}
 use native.Mathlib.Nat.{le-of-suc-le-suc, not-suc-le-zero}
 use mathlib.Core.List.{List, [], _∷_, map}
+use mathlib.Core.Bool.{Bool, true, _&&_}
 use mathlib.Core.Path.{_≡_, refl, _∙_}
+use native.Mathlib.Omega.{arith}
+use borrow.Author.Tests.{lt-ltb, ltb-true, leb-true}
+use lib.Dec.{leb, ltb}
+use Rattle.dag.specs.Cases.{and-true}
 use lib.ListN.{getD, length, List·getD-map}
-use Rattle.dag.specs.Keys.{fieldCounts}
+use Rattle.dag.specs.Keys.{fieldCounts, keyNumber, isKey}
 
 -- inside a list the default isn't read
 pub getD-inside : {A : Type 0} (l : List A) (i : ℕ) (d e : A) → i < length l → getD l i d ≡ getD l i e
@@ -18,3 +23,77 @@ limit n = 2 ^ (16 * n)
 
 pub limits-at : (v : ℕ) → v < 22 → getD (map limit fieldCounts) v 0 ≡ limit (getD fieldCounts v 0)
 limits-at v h = getD-inside (map limit fieldCounts) v 0 (limit 0) h ∙ List·getD-map limit fieldCounts v 0
+
+-- no entry of a table is above k, tested entry by entry
+every-most : ℕ → List ℕ → Bool
+every-most k [] = true
+every-most k (x ∷ l) = leb x k && every-most k l
+
+most-at : (k : ℕ) (l : List ℕ) → every-most k l ≡ true → (i : ℕ) → getD l i 0 ≤ k
+unfolding every-most
+most-at k [] e i = omega arith
+most-at k (x ∷ l) e zero = leb-true x k (and-true (leb x k) (every-most k l) e .0)
+most-at k (x ∷ l) e (suc i) = most-at k l (and-true (leb x k) (every-most k l) e .1) i
+
+three-fields : (v : ℕ) → getD fieldCounts v 0 ≤ 3
+unfolding every-most
+three-fields v = most-at 3 fieldCounts refl v
+
+-- c fields, and the number below a variant that they make
+module _ (f₁ f₂ f₃ : ℕ) (a : f₁ < 65536) (b : f₂ < 65536) (d : f₃ < 65536) where
+  fields-under : (c : ℕ) → c ≤ 3 → (c ≤ 0 → f₁ ≡ 0) → (c ≤ 1 → f₂ ≡ 0) → (c ≤ 2 → f₃ ≡ 0) → f₁ + f₂ * 2 ^ 16 + f₃ * 2 ^ 32 < limit c
+  fields-under zero h p q r = let x = p (omega arith) in let y = q (omega arith) in let z = r (omega arith) in omega arith
+  fields-under (suc zero) h p q r = let y = q (omega arith) in let z = r (omega arith) in omega arith
+  fields-under (suc (suc zero)) h p q r = let z = r (omega arith) in omega arith
+  fields-under (suc (suc (suc zero))) h p q r = omega arith
+  fields-under (suc (suc (suc (suc c)))) h p q r = absurd (omega arith)
+
+  under-fields : (c : ℕ) → c ≤ 3 → f₁ + f₂ * 2 ^ 16 + f₃ * 2 ^ 32 < limit c → (c ≤ 0 → f₁ ≡ 0) × (c ≤ 1 → f₂ ≡ 0) × (c ≤ 2 → f₃ ≡ 0)
+  under-fields zero h u = (λ p. omega arith, λ p. omega arith, λ p. omega arith)
+  under-fields (suc zero) h u = (λ p. omega arith, λ p. omega arith, λ p. omega arith)
+  under-fields (suc (suc zero)) h u = (λ p. omega arith, λ p. omega arith, λ p. omega arith)
+  under-fields (suc (suc (suc zero))) h u = (λ p. omega arith, λ p. omega arith, λ p. omega arith)
+  under-fields (suc (suc (suc (suc c)))) h u = absurd (omega arith)
+
+-- the fields of a key of variant v: each at most 65,535, unused ones 0
+pub record Fields (v f₁ f₂ f₃ : ℕ) : Type 0 where
+  pub variant : v < 22
+  pub first : f₁ < 65536
+  pub second : f₂ < 65536
+  pub third : f₃ < 65536
+  pub no-first : getD fieldCounts v 0 ≤ 0 → f₁ ≡ 0
+  pub no-second : getD fieldCounts v 0 ≤ 1 → f₂ ≡ 0
+  pub no-third : getD fieldCounts v 0 ≤ 2 → f₃ ≡ 0
+
+-- a key's number is a number that a key has
+pub key-number : (v f₁ f₂ f₃ : ℕ) → Fields v f₁ f₂ f₃ → isKey (keyNumber v f₁ f₂ f₃) ≡ true
+unfolding isKey keyNumber
+key-number v f₁ f₂ f₃ h =
+    let a = h .variant in
+    let b = h .first in
+    let c = h .second in
+    let d = h .third in
+    let high : (v * 2 ^ 48 + f₁ + f₂ * 2 ^ 16 + f₃ * 2 ^ 32) / 2 ^ 48 ≡ v = omega arith in
+    let low : (v * 2 ^ 48 + f₁ + f₂ * 2 ^ 16 + f₃ * 2 ^ 32) % 2 ^ 48 ≡ f₁ + f₂ * 2 ^ 16 + f₃ * 2 ^ 32 = omega arith in
+    rw (high, low, lt-ltb v 22 a) (lt-ltb (f₁ + f₂ * 2 ^ 16 + f₃ * 2 ^ 32) (limit (getD fieldCounts v 0))
+    (fields-under f₁ f₂ f₃ b c d (getD fieldCounts v 0) (three-fields v) (h .no-first) (h .no-second) (h .no-third)))
+
+-- and every such number is a key's
+pub number-key : (k : ℕ) → isKey k ≡ true → k < 2 ^ 64 → Fields (k / 2 ^ 48) (k % 2 ^ 16) (k / 2 ^ 16 % 2 ^ 16) (k / 2 ^ 32 % 2 ^ 16) × (keyNumber (k / 2 ^ 48) (k % 2 ^ 16) (k / 2 ^ 16 % 2 ^ 16) (k / 2 ^ 32 % 2 ^ 16) ≡ k)
+unfolding isKey keyNumber
+number-key k e h =
+    let both = and-true (ltb (k / 2 ^ 48) 22) (ltb (k % 2 ^ 48) (limit (getD fieldCounts (k / 2 ^ 48) 0))) e in
+    let parts : k % 2 ^ 16 + k / 2 ^ 16 % 2 ^ 16 * 2 ^ 16 + k / 2 ^ 32 % 2 ^ 16 * 2 ^ 32 ≡ k % 2 ^ 48 = omega arith in
+    let zeros = under-fields (k % 2 ^ 16) (k / 2 ^ 16 % 2 ^ 16) (k / 2 ^ 32 % 2 ^ 16) (omega arith) (omega arith) (omega arith) (getD fieldCounts (k / 2 ^ 48) 0) (three-fields (k / 2 ^ 48))
+    (rw parts (ltb-true (k % 2 ^ 48) (limit (getD fieldCounts (k / 2 ^ 48) 0)) (both .1))) in (
+      record {
+        variant = ltb-true (k / 2 ^ 48) 22 (both .0);
+        first = omega arith;
+        second = omega arith;
+        third = omega arith;
+        no-first = zeros .0;
+        no-second = zeros .1;
+        no-third = zeros .2;
+      },
+      omega arith,
+    )

@@ -1,7 +1,8 @@
 -- Examples A to L of document 01: each is an answer of a definition and the answer that the document gives.
 use Prim.Native.Nat.{ℕ, _-_}
-use mathlib.Core.List.{List, [], _∷_}
+use mathlib.Core.List.{List, [], _∷_, _++_}
 use mathlib.Core.Path.{_≡_, refl}
+use lib.ListN.{length, replicate}
 use Rattle.field.specs.Field.{p, felt, quad, same, new}
 use Rattle.field.specs.declared.QuadFelt.{QuadFelt}
 use Rattle.dag.specs.declared.NodeKind.{NodeKind}
@@ -12,6 +13,8 @@ use Rattle.builder.specs.Steps.{isConstant, isAdd, isSub, isMul, isNeg, element
 use Rattle.compact.specs.Reach.{marked, sweep, marks}
 use Rattle.compact.specs.Compact.{rank, kept, compact, Rooted}
 use Rattle.normalize.specs.Rounds.{count, mentions, fanout, sharedFactor, commonFactor, orElse, ontoBefore, existingRotation, eitherRotation, planOf, planned, round, fired, rounded, isKept, roundsFrom, normalize, Normal}
+use Rattle.columns.specs.Columns.{logWithin, logLength, count as occurrences, isSparse, standalone, placesFrom, withNew, valuesFrom, values, weight, heaviest, dominant, isScaled, scalings, combinationCost, offset, equalEntries, gain, sameEntries, isAmong, saving, savings, goesOver, form, formNumber}
+use Rattle.columns.specs.Prepare.{upTo}
 
 -- the two sides of an example
 pub record Example : Type 1 where
@@ -108,9 +111,29 @@ I = record { Answer = QuadFelt; computed = quad .mul (new 0 1) (new 0 1); stated
 abbrev J : Example
 J = record { Answer = ℕ; computed = felt .add (p - 1) (p - 1); stated = p - 2 }
 
+-- a column of 8 entries, 1 at place j and 0 elsewhere
+unfoldable unit : ℕ → List ℕ
+unit j = replicate j 0 ++ (1 ∷ replicate (7 - j) 0)
+
+-- the savings of period 8, and the columns' forms
+abbrev savingsAndForms : List (List ℕ) → List ℕ
+savingsAndForms cs = savings p cs 8 (length cs) ∷ upTo (λ j. formNumber (form p cs j)) (length cs)
+
+-- three unit columns of period 8 stay sparse: they save 51, and 7 · 8 + 2 is 58
+abbrev K-three : Example
+K-three = record { Answer = List ℕ; computed = savingsAndForms (unit 0 ∷ unit 1 ∷ unit 2 ∷ []); stated = 51 ∷ 0 ∷ 0 ∷ 0 ∷ [] }
+
+-- four go to basis
+abbrev K-four : Example
+K-four = record { Answer = List ℕ; computed = savingsAndForms (unit 0 ∷ unit 1 ∷ unit 2 ∷ unit 3 ∷ []); stated = 68 ∷ 2 ∷ 2 ∷ 2 ∷ 2 ∷ [] }
+
+-- four copies of one stay sparse
+abbrev K-copies : Example
+K-copies = record { Answer = List ℕ; computed = savingsAndForms (unit 5 ∷ unit 5 ∷ unit 5 ∷ unit 5 ∷ []); stated = 17 ∷ 0 ∷ 0 ∷ 0 ∷ 0 ∷ [] }
+
 pub examples : List Example
-examples = A ∷ B ∷ C-normalized ∷ C-compacted ∷ D ∷ E ∷ F ∷ G ∷ H ∷ I ∷ J ∷ []
+examples = A ∷ B ∷ C-normalized ∷ C-compacted ∷ D ∷ E ∷ F ∷ G ∷ H ∷ I ∷ J ∷ K-three ∷ K-four ∷ K-copies ∷ []
 
 pub all-examples : All examples
-unfolding examples felt quad same at sameNode operands rename lookup isConstant isAdd isSub isMul isNeg element isThe lowFirst addRule subRule mulOutcome negOutcome follow addWithin subWithin addOutcome subOutcome outcome interned intern enter step placeOf recorded marked sweep marks rank kept compact count mentions fanout sharedFactor commonFactor orElse ontoBefore existingRotation eitherRotation planOf planned round fired rounded isKept roundsFrom normalize
-all-examples = (refl, (refl, (refl, (refl, (refl, (refl, (refl, (refl, (refl, (refl, (refl, tt)))))))))))
+unfolding examples felt quad same at sameNode operands rename lookup isConstant isAdd isSub isMul isNeg element isThe lowFirst addRule subRule mulOutcome negOutcome follow addWithin subWithin addOutcome subOutcome outcome interned intern enter step placeOf recorded marked sweep marks rank kept compact count mentions fanout sharedFactor commonFactor orElse ontoBefore existingRotation eitherRotation planOf planned round fired rounded isKept roundsFrom normalize unit logWithin logLength occurrences isSparse standalone placesFrom withNew valuesFrom values weight heaviest dominant isScaled scalings combinationCost offset equalEntries gain sameEntries isAmong saving savings goesOver form upTo
+all-examples = (refl, (refl, (refl, (refl, (refl, (refl, (refl, (refl, (refl, (refl, (refl, (refl, (refl, (refl, tt))))))))))))))

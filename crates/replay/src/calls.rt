@@ -9,6 +9,7 @@ pub enum Call {
     Compact,
     Normalize,
     Evaluate,
+    Prepare,
 }
 
 // How many numbers a call takes, stores it reads and stores it writes, and words it answers.
@@ -38,11 +39,17 @@ pub fn shape_of(call: Call) -> Shape {
         Call::Compact => Shape::new(2, 1, 1, 4),
         Call::Normalize => Shape::new(2, 1, 2, 4),
         Call::Evaluate => Shape::new(3, 2, 0, 4),
+        Call::Prepare => Shape::new(0, 2, 0, 18),
     }
 }
 
 // Whether an answer is the one recorded.
 fn answers(s: &[u8], said: usize, answer: &[u64; 4]) -> bool {
+    follow(s, said, answer)
+}
+
+// Whether a long answer is the one recorded.
+fn answers_long(s: &[u8], said: usize, answer: &[u64; 18]) -> bool {
     follow(s, said, answer)
 }
 
@@ -112,6 +119,13 @@ fn evaluate(s: &[u8], at: usize, said: usize, list: &[u64], assignment: &[u64]) 
     answers(s, said, &answer)
 }
 
+// Prepare on the case at a place: whether its answer is the one recorded at `said`.
+fn prepare(s: &[u8], said: usize, lengths: &[u64], entries: &[u64]) -> bool {
+    let mut answer = [0u64; 18];
+    ace::ace_prepare(lengths, entries, &mut answer);
+    answers_long(s, said, &answer)
+}
+
 // A call on the stores that it reads, a to c, and those that it writes, x to z.
 pub fn ask(
     call: Call,
@@ -131,5 +145,6 @@ pub fn ask(
         Call::Compact => compact(s, at, said, a, x),
         Call::Normalize => normalize(s, at, said, a, x, y),
         Call::Evaluate => evaluate(s, at, said, a, b),
+        Call::Prepare => prepare(s, said, a, b),
     }
 }

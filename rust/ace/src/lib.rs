@@ -17,35 +17,41 @@
 //! are blank, and a work store is blank throughout. A refusal changes no store, save that the 7 of
 //! `lower` leaves its work store blank.
 //!
-//! Each call is behind the feature of its name. They link with `target/staticlib/libace.a` of the
-//! repository, which `rt staticlib ace` writes.
+//! The calls link with `target/staticlib/libace.a` of the repository, which `rt staticlib ace`
+//! writes. Each is behind the feature of its name, and there only if the archive has it.
 //!
-//! A list of requests, where the second sum is the first one again:
-#![cfg_attr(all(archive, feature = "build"), doc = "```")]
-#![cfg_attr(not(all(archive, feature = "build")), doc = "```ignore")]
-//! let requests = [
+//! A short list in a store that held something else: the words behind it are [`BLANK`].
+#![cfg_attr(linked = "normalize", doc = "```")]
+#![cfg_attr(not(linked = "normalize"), doc = "```ignore")]
+//! let list = [
 //!     0, 0, 0, // input 0
 //!     0, 1, 0, // input 1
-//!     2, 0, 1, // add 0 1
-//!     2, 1, 0, // add 1 0
+//!     0, 2, 0, // input 2
+//!     4, 0, 1, // mul 0 1
+//!     4, 0, 2, // mul 0 2
+//!     2, 3, 4, // add 3 4
 //! ];
-//! let mut result = [7; 12];
-//! let mut map = [7; 4];
-//! let built = ace::build(&requests, 4, 3, &mut result, &mut map).unwrap();
-//! assert_eq!((built.count, built.root), (3, 2));
-//! assert_eq!(result, [0, 0, 0, 0, 1, 0, 2, 0, 1, 0, 0, 0]);
-//! assert_eq!(map, [0, 1, 2, 2]);
+//! let mut result = [7; 30];
+//! let mut work = [7; 36];
+//! let normal = ace::normalize(&list, 6, 5, &mut result, &mut work).unwrap();
+//! assert_eq!((normal.count, normal.root, normal.rounds), (5, 4, 1));
+//! assert_eq!(result[..15], [0, 0, 0, 0, 1, 0, 0, 2, 0, 2, 1, 2, 4, 0, 3]);
+//! assert_eq!(result[15..], [ace::BLANK; 15]);
+//! assert_eq!(work, [ace::BLANK; 36]);
 //!
-//! let refused = ace::build(&requests, 4, 4, &mut result, &mut map).unwrap_err();
-//! assert_eq!((refused.number, refused.place), (6, 0));
+//! let refused = ace::normalize(&list, 6, 6, &mut result, &mut work).unwrap_err();
+//! assert_eq!(refused.to_string(), "refused 6 0: the root is outside the list");
 //! ```
 
 use std::fmt;
 
 pub mod words;
 
-/// Whether the archive was there when this crate was built.
-pub const LINKED: bool = cfg!(archive);
+/// The word behind what a call has filled.
+pub const BLANK: u64 = 0;
+
+/// The archive that this crate was built with, as its folder was named, if it was there.
+pub const ARCHIVE: Option<&str> = option_env!("ACE_ARCHIVE");
 
 /// Why a call said no.
 #[derive(Clone, Copy, Debug, PartialEq, Eq)]
@@ -104,9 +110,11 @@ pub struct Stepped {
 }
 
 /// One request on a list, which may be empty. Only an appended record is written.
-#[cfg(feature = "step")]
-#[cfg_attr(archive, doc = "```")]
-#[cfg_attr(not(archive), doc = "```ignore")]
+///
+/// Lends `list` of at least 3n words, and three more where the request appends a record.
+#[cfg(any(linked = "step", doc))]
+#[cfg_attr(linked = "step", doc = "```")]
+#[cfg_attr(not(linked = "step"), doc = "```ignore")]
 /// let mut list = [9; 6];
 /// assert_eq!(ace::step(&mut list, 0, 0, 1, 0), Ok(ace::Stepped { place: 0, n: 1 }));
 /// assert_eq!(list, [0, 1, 0, 9, 9, 9]);
@@ -132,7 +140,19 @@ pub struct Rooted {
 }
 
 /// A list built from requests; `map` holds each request's place.
-#[cfg(feature = "build")]
+///
+/// Lends `result` of at least 3n words and `map` of at least n. Here the second sum is the first
+/// one again:
+#[cfg(any(linked = "build", doc))]
+#[cfg_attr(linked = "build", doc = "```")]
+#[cfg_attr(not(linked = "build"), doc = "```ignore")]
+/// let requests = [0, 0, 0, 0, 1, 0, 2, 0, 1, 2, 1, 0];
+/// let (mut result, mut map) = ([9; 12], [9; 4]);
+/// let built = ace::build(&requests, 4, 3, &mut result, &mut map).unwrap();
+/// assert_eq!((built.count, built.root), (3, 2));
+/// assert_eq!(result, [0, 0, 0, 0, 1, 0, 2, 0, 1, 0, 0, 0]);
+/// assert_eq!(map, [0, 1, 2, 2]);
+/// ```
 pub fn build(
     list: &[u64],
     n: u64,
@@ -145,9 +165,11 @@ pub fn build(
 }
 
 /// The records that the root reaches.
-#[cfg(feature = "compact")]
-#[cfg_attr(archive, doc = "```")]
-#[cfg_attr(not(archive), doc = "```ignore")]
+///
+/// Lends `result` of at least 3n words.
+#[cfg(any(linked = "compact", doc))]
+#[cfg_attr(linked = "compact", doc = "```")]
+#[cfg_attr(not(linked = "compact"), doc = "```ignore")]
 /// let mut result = [9; 6];
 /// let compacted = ace::compact(&[0, 0, 0, 0, 1, 0], 2, 1, &mut result).unwrap();
 /// assert_eq!((compacted.count, compacted.root), (1, 0));
@@ -170,14 +192,18 @@ pub struct Normalized {
 }
 
 /// The normalised list.
-#[cfg(feature = "normalize")]
-#[cfg_attr(archive, doc = "```")]
-#[cfg_attr(not(archive), doc = "```ignore")]
+///
+/// Lends `result` of at least 3n words and `work` of at least 6n. What came back is normal:
+#[cfg(any(linked = "normalize", doc))]
+#[cfg_attr(linked = "normalize", doc = "```")]
+#[cfg_attr(not(linked = "normalize"), doc = "```ignore")]
 /// let list = [0, 0, 0, 0, 1, 0, 0, 2, 0, 4, 0, 1, 4, 0, 2, 2, 3, 4];
-/// let (mut result, mut work) = ([9; 18], [9; 36]);
-/// let normal = ace::normalize(&list, 6, 5, &mut result, &mut work).unwrap();
+/// let (mut once, mut twice, mut work) = ([9; 18], [9; 18], [9; 36]);
+/// let normal = ace::normalize(&list, 6, 5, &mut once, &mut work).unwrap();
 /// assert_eq!((normal.count, normal.root, normal.rounds), (5, 4, 1));
-/// assert_eq!(result[9..], [2, 1, 2, 4, 0, 3, 0, 0, 0]);
+/// let again = ace::normalize(&once, 5, 4, &mut twice, &mut work).unwrap();
+/// assert_eq!((again.count, again.root, again.rounds), (5, 4, 0));
+/// assert_eq!(twice, once);
 /// ```
 pub fn normalize(
     list: &[u64],
@@ -197,10 +223,12 @@ pub struct Value {
     pub c1: u64,
 }
 
-/// The root's value under `m` entries of key number, c0, c1.
-#[cfg(feature = "evaluate")]
-#[cfg_attr(archive, doc = "```")]
-#[cfg_attr(not(archive), doc = "```ignore")]
+/// The root's value under `m` entries of key number, c0, c1; a key's last entry counts.
+///
+/// Lends `assignment` of at least 3m words. u · u is 7:
+#[cfg(any(linked = "evaluate", doc))]
+#[cfg_attr(linked = "evaluate", doc = "```")]
+#[cfg_attr(not(linked = "evaluate"), doc = "```ignore")]
 /// let square = [0, 0, 0, 4, 0, 0];
 /// let value = ace::evaluate(&square, 2, 1, &[0, 0, 1], 1).unwrap();
 /// assert_eq!((value.c0, value.c1), (7, 0));
@@ -225,9 +253,11 @@ pub enum Form {
 }
 
 /// The form of each column.
-#[cfg(feature = "prepare")]
-#[cfg_attr(archive, doc = "```")]
-#[cfg_attr(not(archive), doc = "```ignore")]
+///
+/// Lends `lengths`, a word a column, and `entries`, column after column.
+#[cfg(any(linked = "prepare", doc))]
+#[cfg_attr(linked = "prepare", doc = "```")]
+#[cfg_attr(not(linked = "prepare"), doc = "```ignore")]
 /// let forms = ace::prepare(&[8, 1], &[1, 0, 0, 0, 0, 0, 0, 0, 5]).unwrap();
 /// assert_eq!(forms, [ace::Form::Sparse, ace::Form::Dense]);
 /// ```
@@ -243,9 +273,12 @@ pub fn prepare(lengths: &[u64], entries: &[u64]) -> Result<Vec<Form>, Refusal> {
 
 /// The list with the columns' nodes behind it; `places` holds the place of each column's node.
 /// Answers the number of records.
-#[cfg(feature = "lower")]
-#[cfg_attr(archive, doc = "```")]
-#[cfg_attr(not(archive), doc = "```ignore")]
+///
+/// Lends `work` of at least 12,288 words, `places` of at least a word a column, and a `result` with
+/// room for what comes out.
+#[cfg(any(linked = "lower", doc))]
+#[cfg_attr(linked = "lower", doc = "```")]
+#[cfg_attr(not(linked = "lower"), doc = "```ignore")]
 /// let (mut result, mut work, mut places) = ([9; 9], [9; 12_288], [9; 1]);
 /// let count = ace::lower(&[], 0, &[1], &[5], 1, &mut result, &mut work, &mut places).unwrap();
 /// assert_eq!((count, places), (3, [1]));

@@ -7,7 +7,7 @@
 const UNWRITTEN: u64 = u64::MAX;
 
 unsafe extern "C" {
-    #[cfg(feature = "step")]
+    #[cfg(any(linked = "step", doc))]
     fn ace_step(
         list: *mut u64,
         list_len: usize,
@@ -18,7 +18,7 @@ unsafe extern "C" {
         answer: *mut u64,
     );
 
-    #[cfg(feature = "build")]
+    #[cfg(any(linked = "build", doc))]
     fn ace_build(
         list: *const u64,
         list_len: usize,
@@ -31,7 +31,7 @@ unsafe extern "C" {
         answer: *mut u64,
     );
 
-    #[cfg(feature = "compact")]
+    #[cfg(any(linked = "compact", doc))]
     fn ace_compact(
         list: *const u64,
         list_len: usize,
@@ -42,7 +42,7 @@ unsafe extern "C" {
         answer: *mut u64,
     );
 
-    #[cfg(feature = "normalize")]
+    #[cfg(any(linked = "normalize", doc))]
     fn ace_normalize(
         list: *const u64,
         list_len: usize,
@@ -55,7 +55,7 @@ unsafe extern "C" {
         answer: *mut u64,
     );
 
-    #[cfg(feature = "evaluate")]
+    #[cfg(any(linked = "evaluate", doc))]
     fn ace_evaluate(
         list: *const u64,
         list_len: usize,
@@ -67,7 +67,7 @@ unsafe extern "C" {
         answer: *mut u64,
     );
 
-    #[cfg(feature = "prepare")]
+    #[cfg(any(linked = "prepare", doc))]
     fn ace_prepare(
         lengths: *const u64,
         lengths_len: usize,
@@ -76,7 +76,7 @@ unsafe extern "C" {
         answer: *mut u64,
     );
 
-    #[cfg(feature = "lower")]
+    #[cfg(any(linked = "lower", doc))]
     fn ace_lower(
         list: *const u64,
         list_len: usize,
@@ -97,7 +97,7 @@ unsafe extern "C" {
 }
 
 /// One request on a list: place, new n.
-#[cfg(feature = "step")]
+#[cfg(any(linked = "step", doc))]
 pub fn step(list: &mut [u64], n: u64, tag: u64, first: u64, second: u64) -> [u64; 4] {
     let mut answer = [UNWRITTEN; 4];
     // SAFETY: the slices are distinct, and lent with their lengths.
@@ -108,7 +108,7 @@ pub fn step(list: &mut [u64], n: u64, tag: u64, first: u64, second: u64) -> [u64
 }
 
 /// A list built from requests: count, the root's place.
-#[cfg(feature = "build")]
+#[cfg(any(linked = "build", doc))]
 pub fn build(list: &[u64], n: u64, root: u64, result: &mut [u64], map: &mut [u64]) -> [u64; 4] {
     let mut answer = [UNWRITTEN; 4];
     // SAFETY: the slices are distinct, and lent with their lengths.
@@ -129,7 +129,7 @@ pub fn build(list: &[u64], n: u64, root: u64, result: &mut [u64], map: &mut [u64
 }
 
 /// The records that the root reaches: count, root.
-#[cfg(feature = "compact")]
+#[cfg(any(linked = "compact", doc))]
 pub fn compact(list: &[u64], n: u64, root: u64, result: &mut [u64]) -> [u64; 4] {
     let mut answer = [UNWRITTEN; 4];
     // SAFETY: the slices are distinct, and lent with their lengths.
@@ -148,7 +148,7 @@ pub fn compact(list: &[u64], n: u64, root: u64, result: &mut [u64]) -> [u64; 4] 
 }
 
 /// The normalised list: count, root, rounds kept.
-#[cfg(feature = "normalize")]
+#[cfg(any(linked = "normalize", doc))]
 pub fn normalize(
     list: &[u64],
     n: u64,
@@ -175,7 +175,7 @@ pub fn normalize(
 }
 
 /// The root's value under m entries of key number, c0, c1: c0, c1.
-#[cfg(feature = "evaluate")]
+#[cfg(any(linked = "evaluate", doc))]
 pub fn evaluate(list: &[u64], n: u64, root: u64, assignment: &[u64], m: u64) -> [u64; 4] {
     let mut answer = [UNWRITTEN; 4];
     // SAFETY: the slices are distinct, and lent with their lengths.
@@ -195,7 +195,7 @@ pub fn evaluate(list: &[u64], n: u64, root: u64, assignment: &[u64], m: u64) -> 
 }
 
 /// The form of each column: columns, then a form each.
-#[cfg(feature = "prepare")]
+#[cfg(any(linked = "prepare", doc))]
 pub fn prepare(lengths: &[u64], entries: &[u64]) -> [u64; 18] {
     let mut answer = [UNWRITTEN; 18];
     // SAFETY: the slices are distinct, and lent with their lengths.
@@ -212,7 +212,7 @@ pub fn prepare(lengths: &[u64], entries: &[u64]) -> [u64; 18] {
 }
 
 /// The list with the columns' nodes behind it: count.
-#[cfg(feature = "lower")]
+#[cfg(any(linked = "lower", doc))]
 #[allow(clippy::too_many_arguments)]
 pub fn lower(
     list: &[u64],

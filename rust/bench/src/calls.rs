@@ -27,9 +27,9 @@ fn list(kind: Kind, n: usize) -> Vec<Record> {
 /// A side that is only there where its call is linked.
 macro_rules! linked {
     ($feature:literal, $side:expr) => {{
-        #[cfg(all(archive, feature = $feature))]
+        #[cfg(linked = $feature)]
         let side = Some($side);
-        #[cfg(not(all(archive, feature = $feature)))]
+        #[cfg(not(linked = $feature))]
         let side: Option<Side<()>> = None;
         side
     }};

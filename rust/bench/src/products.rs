@@ -5,7 +5,7 @@ use std::time::Instant;
 
 use crate::measure::{Bench, shown};
 
-#[cfg(all(archive, feature = "product"))]
+#[cfg(feature = "product")]
 unsafe extern "C" {
     safe fn ace_product(a: u64, b: u64) -> u64;
 }
@@ -65,6 +65,6 @@ fn row(bench: &Bench, name: &str, product: impl Fn(u64, u64) -> u64 + Copy) {
 pub fn print(bench: &Bench) {
     row(bench, "Rust, u128 and %", remainder);
     row(bench, "Rust, two-step reduction", reduction);
-    #[cfg(all(archive, feature = "product"))]
+    #[cfg(feature = "product")]
     row(bench, "ours", ace_product);
 }

@@ -8,7 +8,8 @@ use model::{
 };
 
 use crate::cases::list_case;
-use crate::{Rng, Rust, ours};
+use crate::ours::{self, Lending};
+use crate::{Rng, Rust};
 
 /// A case on which two sides differ, ready to send.
 pub struct Difference {
@@ -16,6 +17,8 @@ pub struct Difference {
     pub whole: String,
     /// With long stores cut, if any is long.
     pub short: Option<String>,
+    /// The house file that it is about, if any.
+    pub file: Option<Vec<u8>>,
 }
 
 /// A call's comparisons so far.
@@ -31,13 +34,13 @@ pub struct Comparison {
     pub paper: Paper,
     /// Second checks made: on answers normalised again, values and column entries.
     pub second: u64,
-    /// Whether the proved call is compared, or the other two sides alone.
-    pub ours: bool,
+    /// How the proved call is lent its stores; without it the other two sides are compared alone.
+    ours: Option<Lending>,
     rng: Rng,
 }
 
 impl Comparison {
-    pub fn new(call: Call, seed: u64, ours: bool) -> Self {
+    pub fn new(call: Call, seed: u64, ours: Option<Lending>) -> Self {
         Self {
             call,
             cases: 0,
@@ -74,11 +77,13 @@ impl Comparison {
         if paper != rust {
             found.push(told(case, ("document 01", &paper), ("the Rust", &rust)));
         }
-        if self.ours {
-            match ours::run(case) {
+        if let Some(lending) = self.ours {
+            match ours::run(case, lending) {
                 Ok(outcome) if outcome == rust => {}
-                Ok(outcome) => found.push(told(case, ("ours", &outcome), ("the Rust", &rust))),
-                Err(damage) => found.push(said(case, &format!("ours {damage}"))),
+                Ok(outcome) => {
+                    found.push(told(case, ("the proved call", &outcome), ("the Rust", &rust)))
+                }
+                Err(damage) => found.push(said(case, &format!("the proved call {damage}"))),
             }
         }
         rust
@@ -167,5 +172,5 @@ fn said(case: &Case, what: &str) -> Difference {
 /// A case with what is said of it, in full and short.
 fn difference(case: &Case, said: impl Fn(bool) -> String) -> Difference {
     let text = |whole: bool| case.text(whole) + &said(whole);
-    Difference { whole: text(true), short: case.is_long().then(|| text(false)) }
+    Difference { whole: text(true), short: case.is_long().then(|| text(false)), file: None }
 }

@@ -2,7 +2,9 @@
 
 pub mod cases;
 pub mod compare;
+pub mod listings;
 pub mod ours;
+pub mod program;
 pub mod record;
 pub mod report;
 pub mod required;

@@ -1,246 +1,273 @@
-//! Runs the comparison, or records a sample of the Rust's answers.
+//! Runs the comparison, lists a house file by the Rust, or records a sample of its answers.
 //!
-//! differential [--seconds N] [--cases N] [--seed S] [--call NAME] [--quick] [--without-ours]
-//! differential record --call NAME --out FILE [--count N] [--seed S]
+//! help.txt says how.
 
-use std::io::{IsTerminal, Write};
-use std::ops::ControlFlow::{Break, Continue};
-use std::path::Path;
+mod options;
+mod progress;
+
+use std::io::{Read, Write};
+use std::ops::ControlFlow::Continue;
+use std::path::{Path, PathBuf};
 use std::process::ExitCode;
 use std::time::{Duration, Instant};
 
 use differential::cases::{self, Flow};
 use differential::compare::{Comparison, Difference};
-use differential::report::{grouped, missing, table};
-use differential::{Rng, ours, record};
+use differential::listings::Listings;
+use differential::ours::{self, Lending};
+use differential::program::Program;
+use differential::report::{Summary, grouped, table};
+use differential::{Rng, Rust, record};
 use model::{Call, Case};
 
-/// The most differences printed in full.
+use options::{Options, Part, Task};
+use progress::Progress;
+
+/// Prints a line; a reader that has left is no fault.
+macro_rules! say {
+    ($($words:tt)*) => {{
+        let _ = writeln!(std::io::stdout(), $($words)*);
+    }};
+}
+
+const HELP: &str = include_str!("../help.txt");
+
+/// The most differences printed and kept of each part.
 const SHOWN: u64 = 20;
 
-/// Where long differences are written whole.
+/// Where differences are kept.
 const DIFFERENCES: &str = "target/differences";
 
 /// The seconds of a run that names none.
 const SECONDS: u64 = 60;
 
-const USAGE: &str = "\
-usage: differential [--seconds N] [--cases N] [--seed S] [--call NAME] [--quick] [--without-ours]
-       differential record --call NAME --out FILE [--count N] [--seed S]
-NAME: step, build, compact, normalize, evaluate, prepare, lower";
-
-/// What the command line asks for.
-struct Options {
-    record: bool,
-    seconds: Option<u64>,
-    cases: Option<u64>,
+/// The differences of one part: printed as cases to send, and kept.
+struct Shown<'a> {
+    name: &'static str,
     seed: u64,
-    call: Option<Call>,
-    quick: bool,
-    without_ours: bool,
-    out: Option<String>,
-    count: usize,
+    count: u64,
+    progress: &'a Progress,
 }
 
-/// Why nothing was run, and whether the command line is at fault.
-struct Stopped {
-    message: String,
-    usage: bool,
-}
-
-/// A command line that asks for nothing that there is.
-fn misused(message: String) -> Stopped {
-    Stopped { message, usage: true }
-}
-
-/// Something that is missing or can't be written.
-fn hindered(message: String) -> Stopped {
-    Stopped { message, usage: false }
-}
-
-/// The options of these words, or what is wrong with them.
-fn options(words: &[String]) -> Result<Options, String> {
-    let mut options = Options {
-        record: false,
-        seconds: None,
-        cases: None,
-        seed: 1,
-        call: None,
-        quick: false,
-        without_ours: false,
-        out: None,
-        count: 300,
-    };
-    let mut words = words.iter();
-    while let Some(word) = words.next() {
-        let mut value = || words.next().ok_or(format!("{word} needs a value"));
-        let number = |text: &String| text.parse::<u64>().map_err(|_| format!("no number: {text}"));
-        match word.as_str() {
-            "record" => options.record = true,
-            "--quick" => options.quick = true,
-            "--without-ours" => options.without_ours = true,
-            "--seconds" => options.seconds = Some(number(value()?)?),
-            "--cases" => options.cases = Some(number(value()?)?),
-            "--seed" => options.seed = number(value()?)?,
-            "--count" => options.count = number(value()?)? as usize,
-            "--out" => options.out = Some(value()?.clone()),
-            "--call" => {
-                let name = value()?;
-                options.call = Some(Call::named(name).ok_or(format!("no call: {name}"))?);
-            }
-            _ => return Err(format!("unknown: {word}")),
-        }
-    }
-    Ok(options)
-}
-
-/// A progress line a second, at a terminal.
-struct Progress {
-    wanted: bool,
-    shown: Instant,
-}
-
-impl Progress {
-    fn new() -> Self {
-        Self { wanted: std::io::stderr().is_terminal(), shown: Instant::now() }
-    }
-
-    fn show(&mut self, run: &Comparison, begun: Instant) {
-        if !self.wanted || self.shown.elapsed() < Duration::from_secs(1) {
+impl Shown<'_> {
+    fn show(&mut self, difference: &Difference) {
+        self.count += 1;
+        if self.count > SHOWN {
             return;
         }
-        self.shown = Instant::now();
-        let (name, seconds) = (run.call.signature().name, begun.elapsed().as_secs());
-        eprint!("\r\x1b[K{name}: {} cases, {} differ, {seconds} s", grouped(run.cases), run.failed);
-        let _ = std::io::stderr().flush();
-    }
-
-    fn clear(&self) {
-        if self.wanted {
-            eprint!("\r\x1b[K");
+        let Self { name, seed, count, .. } = self;
+        let path = Path::new(DIFFERENCES).join(format!("{name}-{count}.txt"));
+        let heading = format!("DIFFERENCE {count} in {name}, seed {seed}");
+        let mut kept = vec![path.clone()];
+        let mut whole = keep(&path, format!("{heading}\n{}", difference.whole));
+        if let Some(file) = &difference.file {
+            kept.push(path.with_extension("bin"));
+            whole &= keep(&kept[1], file);
         }
+        let kept: Vec<String> = kept.iter().map(|path| path.display().to_string()).collect();
+        let place = if whole { format!(", kept in {}", kept.join(" and ")) } else { String::new() };
+        let short = difference.short.as_ref().filter(|_| whole).unwrap_or(&difference.whole);
+        self.progress.print(|| say!("{heading}{place}\n{short}"));
     }
 }
 
-/// Prints a difference; a long one goes whole to a file beside.
-fn show(call: Call, number: u64, difference: &Difference) {
-    let Some(short) = &difference.short else {
-        println!("DIFFERENCE\n{}", difference.whole);
-        return;
-    };
-    let name = format!("{}-{number}.txt", call.signature().name);
-    let path = Path::new(DIFFERENCES).join(name);
-    let written = std::fs::create_dir_all(DIFFERENCES)
-        .and_then(|()| std::fs::write(&path, &difference.whole));
-    match written {
-        Ok(()) => println!("DIFFERENCE (every word: {})\n{short}", path.display()),
-        Err(_) => println!("DIFFERENCE\n{}", difference.whole),
-    }
+/// Whether these bytes could be written to a file.
+fn keep(path: &Path, bytes: impl AsRef<[u8]>) -> bool {
+    std::fs::create_dir_all(DIFFERENCES).and_then(|()| std::fs::write(path, bytes)).is_ok()
 }
 
-/// Compares the cases of one call: short lists, faults, corners, then random ones up to the limits.
-fn compare(
-    call: Call,
-    options: &Options,
-    time: Option<Duration>,
-    progress: &mut Progress,
-) -> (Comparison, f64) {
-    let begun = Instant::now();
-    let mut run = Comparison::new(call, options.seed, ours::has(call) && !options.without_ours);
-    let mut rng = Rng::new(options.seed ^ (call as u64 + 1) << 56);
-    let mut shown = 0;
-    let mut take = |case: Case| -> Flow {
-        for difference in run.take(&case) {
-            shown += 1;
-            if shown <= SHOWN {
-                progress.clear();
-                show(call, shown, &difference);
+/// A run: what is asked for, and how long each part may take.
+struct Run {
+    options: Options,
+    each: Option<Duration>,
+    progress: Progress,
+}
+
+impl Run {
+    /// The random cases wanted beside what time allows.
+    fn wanted(&self) -> u64 {
+        let few = if self.options.quick { 3_000 } else { u64::MAX };
+        self.options.cases.unwrap_or(if self.options.corners { 0 } else { few })
+    }
+
+    /// Goes through random cases up to the limits.
+    fn random(&self, begun: Instant, mut take: impl FnMut()) {
+        for _ in 0..self.wanted() {
+            if self.each.is_some_and(|each| begun.elapsed() >= each) {
+                break;
             }
-        }
-        progress.show(&run, begun);
-        Continue(())
-    };
-    let thorough = !options.quick;
-    let _ = cases::exhaustive(call, &mut rng, thorough, &mut take);
-    let _ = cases::faulty(call, &mut rng, thorough, &mut take);
-    let _ = cases::fixed(call, &mut rng, thorough, &mut take);
-    let wanted = options.cases.unwrap_or(if options.quick { 3_000 } else { u64::MAX });
-    for _ in 0..wanted {
-        if time.is_some_and(|time| begun.elapsed() >= time) {
-            break;
-        }
-        if take(cases::random(call, &mut rng)) == Break(()) {
-            break;
+            take();
         }
     }
-    progress.clear();
-    let seconds = begun.elapsed().as_secs_f64();
-    (run, seconds)
+
+    fn shown(&self, name: &'static str) -> Shown<'_> {
+        Shown { name, seed: self.options.seed, count: 0, progress: &self.progress }
+    }
+
+    /// Compares the cases of one call: short lists, faults, corners, then random ones.
+    fn call(&self, call: Call) -> Summary {
+        let (options, begun) = (&self.options, Instant::now());
+        let lending = if options.bare { Lending::Bare } else { Lending::Guarded };
+        let linked = ours::has(call) && !options.without_ours;
+        let mut run = Comparison::new(call, options.seed, linked.then_some(lending));
+        let mut rng = Rng::new(options.seed ^ (call as u64 + 1) << 56);
+        let mut shown = self.shown(call.signature().name);
+        let mut take = |case: Case| -> Flow {
+            for difference in run.take(&case) {
+                shown.show(&difference);
+            }
+            self.progress.note(run.cases, run.failed);
+            Continue(())
+        };
+        let thorough = !options.quick && !options.corners;
+        if !options.corners {
+            let _ = cases::exhaustive(call, &mut rng, thorough, &mut take);
+        }
+        let _ = cases::faulty(call, &mut rng, thorough, &mut take);
+        let _ = cases::fixed(call, &mut rng, thorough, &mut take);
+        self.random(begun, || {
+            let _ = take(cases::random(call, &mut rng));
+        });
+        Summary::of_call(&run)
+    }
+
+    /// Compares the listings of the files made by hand, then of random ones.
+    fn normlist(&self) -> Summary {
+        let (options, begun) = (&self.options, Instant::now());
+        let program = Program::new(&options.program, &[]);
+        let list = (!options.without_ours)
+            .then(|| Box::new(move |file: &[u8], delivery| program.list(file, delivery)) as _);
+        let mut run = Listings::new(list, options.seed);
+        let mut rng = Rng::new(options.seed ^ 0xff << 56);
+        let mut shown = self.shown("normlist");
+        let mut take = |file: Vec<u8>| {
+            if let Some(difference) = run.take(&file) {
+                shown.show(&difference);
+            }
+            self.progress.note(run.cases, run.failed);
+        };
+        let files = cases::fixed_files(&mut rng);
+        files.into_iter().step_by(options.every).for_each(&mut take);
+        self.random(begun, || take(cases::random_file(&mut rng)));
+        Summary::of_listings(&run)
+    }
+
+    /// Compares one part and prints what it met.
+    fn part(&self, part: Part) -> Summary {
+        let begun = Instant::now();
+        self.progress.begin(part.name(), self.each);
+        let mut summary = match part {
+            Part::Call(call) => self.call(call),
+            Part::Normlist => self.normlist(),
+        };
+        self.progress.end();
+        summary.seconds = begun.elapsed().as_secs_f64();
+        if self.options.corners {
+            summary.missing.clear();
+        }
+        if summary.failed > SHOWN {
+            say!("{} cases of {} differ; {SHOWN} are shown", grouped(summary.failed), part.name());
+        }
+        say!("{}", summary.details().trim_end());
+        summary
+    }
 }
 
-/// The calls to compare, or why there are none.
-fn calls(options: &Options) -> Result<Vec<Call>, Stopped> {
-    let asked = options.call.map_or(Call::ALL.to_vec(), |call| vec![call]);
+/// The parts that are there, after a word on each that is not.
+fn parts(options: &Options) -> Result<Vec<Part>, String> {
+    let asked = options.part.map_or_else(Part::all, |part| vec![part]);
+    say!("the Rust: {}", oracle::SOURCE);
     if options.without_ours {
-        println!("the Rust and document 01 alone, without the proved calls");
+        say!("without the proved calls: the Rust and document 01 alone");
         return Ok(asked);
     }
-    let (linked, rest): (Vec<Call>, Vec<Call>) =
-        asked.into_iter().partition(|&call| ours::has(call));
-    let names: Vec<&str> = rest.iter().map(|call| call.signature().name).collect();
-    if linked.is_empty() {
-        let names = names.join(", ");
-        return Err(hindered(format!(
-            "not linked: {names} (`rt staticlib ace` writes the archive)"
-        )));
+    let there = |part: &Part| match part {
+        Part::Call(call) => ours::has(*call),
+        Part::Normlist => options.program.exists(),
+    };
+    let (present, absent): (Vec<Part>, Vec<Part>) = asked.into_iter().partition(there);
+    let calls = |parts: &[Part]| {
+        let names = parts.iter().filter(|part| **part != Part::Normlist).map(|part| part.name());
+        names.collect::<Vec<_>>().join(", ")
+    };
+    if !calls(&present).is_empty() {
+        say!("the proved calls: {} of {}", calls(&present), ace::ARCHIVE.unwrap_or_default());
     }
-    if !rest.is_empty() {
-        println!("not linked: {}", names.join(", "));
+    match ace::ARCHIVE {
+        _ if calls(&absent).is_empty() => {}
+        Some(_) => say!("not linked, so not compared: {}", calls(&absent)),
+        None => say!("no libace.a, so not compared: {} (`rt staticlib ace`)", calls(&absent)),
     }
-    Ok(linked)
+    let program = options.program.display();
+    if present.contains(&Part::Normlist) {
+        say!("normlist: {program}");
+    }
+    if absent.contains(&Part::Normlist) {
+        say!("not there, so not compared: {program} (`rt check normlist`)");
+    }
+    if present.is_empty() { Err("nothing to compare".into()) } else { Ok(present) }
 }
 
-/// The whole comparison: a table by call, then the verdict.
-fn run(options: &Options) -> Result<ExitCode, Stopped> {
-    let calls = calls(options)?;
-    let timed = options.seconds.is_some() || (options.cases.is_none() && !options.quick);
+/// The whole comparison: what each part met, a table, the verdict.
+fn compare(options: Options) -> Result<ExitCode, String> {
+    let parts = parts(&options)?;
+    let timed = options.seconds.is_some()
+        || (options.cases.is_none() && !options.quick && !options.corners);
     let seconds = options.seconds.unwrap_or(SECONDS);
-    let each = Duration::from_secs_f64(seconds as f64 / calls.len() as f64);
-    println!("seed {}", options.seed);
-    let mut progress = Progress::new();
-    let (mut passed, mut failed) = (0, 0);
-    for call in calls {
-        let (run, seconds) = compare(call, options, timed.then_some(each), &mut progress);
-        print!("{}", table(&run, seconds));
-        passed += run.cases - run.failed;
-        failed += run.failed + missing(&run).len() as u64;
-    }
-    println!("{passed} passed, {failed} failed");
+    let each = timed.then(|| Duration::from_secs_f64(seconds as f64 / parts.len() as f64));
+    say!("seed {}\n", options.seed);
+    let _ = std::fs::remove_dir_all(DIFFERENCES);
+    let run = Run { options, each, progress: Progress::new() };
+    let rows: Vec<Summary> = parts.into_iter().map(|part| run.part(part)).collect();
+    say!("\n{}", table(&rows));
+    let passed: u64 = rows.iter().map(|row| row.cases - row.failed).sum();
+    let failed: u64 = rows.iter().map(|row| row.failed + row.missing.len() as u64).sum();
+    say!("{passed} passed, {failed} failed");
     Ok(if failed == 0 { ExitCode::SUCCESS } else { ExitCode::FAILURE })
 }
 
+/// Prints the Rust's listing of the house file on standard input.
+fn list() -> Result<ExitCode, String> {
+    let mut file = Vec::new();
+    std::io::stdin().read_to_end(&mut file).map_err(|error| format!("standard input: {error}"))?;
+    let text = model::listing(&file, &mut Rust);
+    std::io::stdout().write_all(text.as_bytes()).map_err(|error| format!("{error}"))?;
+    Ok(ExitCode::SUCCESS)
+}
+
 /// Writes the recorded sample of a call.
-fn write_sample(options: &Options) -> Result<ExitCode, Stopped> {
-    let call = options.call.ok_or_else(|| misused("record needs --call NAME".into()))?;
-    let out = options.out.as_ref().ok_or_else(|| misused("record needs --out FILE".into()))?;
+fn write_sample(options: &Options) -> Result<ExitCode, String> {
+    let Some(Part::Call(call)) = options.part else {
+        return Err("record needs --call NAME, a call".into());
+    };
+    let out: &PathBuf = options.out.as_ref().ok_or("record needs --out FILE")?;
     let bytes = record::sample(call, options.count, options.seed);
-    std::fs::write(out, &bytes).map_err(|error| hindered(format!("{out}: {error}")))?;
+    std::fs::write(out, &bytes).map_err(|error| format!("{}: {error}", out.display()))?;
     let cases = u64::from_le_bytes(bytes[..8].try_into().unwrap());
-    println!("{cases} cases of {}, {} bytes", call.signature().name, bytes.len());
+    say!("{cases} cases of {}, {} bytes", call.signature().name, bytes.len());
     Ok(ExitCode::SUCCESS)
 }
 
 fn main() -> ExitCode {
     let words: Vec<String> = std::env::args().skip(1).collect();
-    let result = options(&words).map_err(misused).and_then(|options| match options.record {
-        true => write_sample(&options),
-        false => run(&options),
-    });
-    result.unwrap_or_else(|stopped| {
-        eprintln!("{}", stopped.message);
-        if stopped.usage {
-            eprintln!("{USAGE}");
+    let options = match Options::read(&words) {
+        Ok(options) => options,
+        Err(message) => {
+            eprintln!("differential: {message} (--help tells more)");
+            return ExitCode::from(2);
         }
+    };
+    let done = match options.task {
+        Task::Compare => compare(options),
+        Task::List => list(),
+        Task::Record => write_sample(&options),
+        Task::Help => {
+            say!("{}", HELP.trim_end());
+            Ok(ExitCode::SUCCESS)
+        }
+    };
+    done.unwrap_or_else(|message| {
+        eprintln!("differential: {message}");
         ExitCode::from(2)
     })
 }

@@ -1,11 +1,28 @@
 //! What a run prints.
 
+use std::collections::BTreeMap;
 use std::fmt::Write;
 
 use model::Event;
 
 use crate::compare::Comparison;
+use crate::listings::{Listings, REFUSALS};
 use crate::required;
+
+/// What was compared under one name, and what was met.
+pub struct Summary {
+    pub name: &'static str,
+    /// Cases compared.
+    pub cases: u64,
+    /// Cases that differed.
+    pub failed: u64,
+    pub seconds: f64,
+    /// How often each refusal was met; 0 is acceptance.
+    outcomes: BTreeMap<u64, u64>,
+    met: Vec<(String, u64)>,
+    /// What had to be met and never was.
+    pub missing: Vec<String>,
+}
 
 /// A number with commas.
 pub fn grouped(number: u64) -> String {
@@ -20,107 +37,130 @@ pub fn grouped(number: u64) -> String {
     text
 }
 
-/// What the run of a call had to meet and never did.
-pub fn missing(run: &Comparison) -> Vec<String> {
-    let never = |event: &Event| run.paper.tally.of(*event) == 0;
-    let events = required::events(run.call).into_iter().filter(never);
-    let mut missing: Vec<String> = events.map(|event| event.text().to_string()).collect();
-    let signature = run.call.signature();
-    let met = |number: &u64| run.outcomes.contains_key(number);
-    let refusals = [&[0], signature.refusals].concat();
-    missing.extend(refusals.iter().filter(|number| !met(number)).map(|number| match number {
-        0 => "acceptance".to_string(),
-        _ => format!("refusal {number}"),
-    }));
-    if signature.stores.iter().any(|store| store.0 == "lengths") {
-        missing.extend(missing_forms(run));
+impl Summary {
+    /// What was met of what had to be.
+    fn new(
+        name: &'static str,
+        counts: [u64; 2],
+        outcomes: &BTreeMap<u64, u64>,
+        refusals: &[u64],
+        met: Vec<(String, u64)>,
+    ) -> Self {
+        let refusals = refusals.iter().map(|&number| (number, format!("refusal {number}")));
+        let outcome = [(0, "acceptance".to_string())].into_iter().chain(refusals);
+        let never = outcome.filter(|(number, _)| !outcomes.contains_key(number));
+        let mut missing: Vec<String> = never.map(|(_, text)| text).collect();
+        missing.extend(met.iter().filter(|(_, count)| *count == 0).map(|(text, _)| text.clone()));
+        let [cases, failed] = counts;
+        Self { name, cases, failed, seconds: 0.0, outcomes: outcomes.clone(), met, missing }
     }
-    missing
-}
 
-/// The forms that columns of some length never took, and the edges that they never met.
-fn missing_forms(run: &Comparison) -> Vec<String> {
-    let mut missing = Vec::new();
-    for (bits, forms) in run.paper.tally.forms.iter().enumerate() {
-        for (form, name) in ["sparse", "dense", "basis"].iter().enumerate() {
-            if forms[form] == 0 && required::possible(bits, form) {
-                missing.push(format!("{name} of length {}", 1 << bits));
-            }
+    /// The summary of a call's comparisons.
+    pub fn of_call(run: &Comparison) -> Self {
+        let signature = run.call.signature();
+        let of = |event: Event| (event.text().to_string(), run.paper.tally.of(event));
+        let mut met: Vec<(String, u64)> = required::events(run.call).into_iter().map(of).collect();
+        if signature.stores.iter().any(|store| store.0 == "lengths") {
+            met.extend(forms(run));
         }
-        for (edge, count) in run.paper.tally.edges[bits].iter().enumerate() {
-            if *count == 0 && bits > 0 {
-                missing.push(format!("savings of 7P+{} at length {}", 2 + edge, 1 << bits));
-            }
+        if run.second > 0 {
+            met.push(("second checks".to_string(), run.second));
         }
+        let counts = [run.cases, run.failed];
+        Self::new(signature.name, counts, &run.outcomes, signature.refusals, met)
     }
-    missing
+
+    /// The summary of the listings compared.
+    pub fn of_listings(run: &Listings) -> Self {
+        Self::new("normlist", [run.cases, run.failed], &run.outcomes, &REFUSALS, run.met())
+    }
+
+    /// Cases accepted.
+    fn accepted(&self) -> u64 {
+        self.outcomes.get(&0).copied().unwrap_or(0)
+    }
+
+    /// What was met, on lines of their own, and what never was.
+    pub fn details(&self) -> String {
+        let mut text = format!("{}\n", self.name);
+        let refused = self.outcomes.iter().filter(|(number, _)| **number != 0);
+        let refused = refused.map(|(number, count)| format!("{number} ×{}", grouped(*count)));
+        text.push_str(&wrapped("  refused  ", &refused.collect::<Vec<_>>()));
+        let met = self.met.iter().map(|(what, count)| format!("{what} ×{}", grouped(*count)));
+        text.push_str(&wrapped("  met      ", &met.collect::<Vec<_>>()));
+        for never in &self.missing {
+            let _ = writeln!(text, "  FAILED   never met: {never}");
+        }
+        text
+    }
 }
 
-/// A call's line and what it met.
-pub fn table(run: &Comparison, seconds: f64) -> String {
-    let mut text = String::new();
-    let name = run.call.signature().name;
-    let ours = if run.ours { "ours, " } else { "" };
-    let rate = (run.cases as f64 / seconds.max(0.001)) as u64;
-    let _ = writeln!(
-        text,
-        "{name:<10} {:>12} cases  {:>3.0} s  {:>9} a second  ({ours}the Rust, document 01)",
-        grouped(run.cases),
-        seconds,
-        grouped(rate),
-    );
-    let mut met = Vec::new();
-    for (&number, &count) in &run.outcomes {
-        met.push(match number {
-            0 => format!("accepted {}", grouped(count)),
-            _ => format!("refused {number}: {}", grouped(count)),
-        });
-    }
-    if run.second > 0 {
-        met.push(format!("second checks {}", grouped(run.second)));
-    }
-    for event in required::events(run.call) {
-        met.push(format!("{} {}", event.text(), grouped(run.paper.tally.of(event))));
-    }
-    text.push_str(&wrapped(&met));
-    if run.call.signature().stores.iter().any(|store| store.0 == "lengths") {
-        text.push_str(&wrapped(&form_counts(run)));
-    }
-    for never in missing(run) {
-        let _ = writeln!(text, "    FAILED: never met: {never}");
-    }
-    text
-}
-
-/// How often columns of each length took each form.
-fn form_counts(run: &Comparison) -> Vec<String> {
+/// How often columns of each length took each form, and how often savings met each edge.
+fn forms(run: &Comparison) -> Vec<(String, u64)> {
     let mut counts = Vec::new();
     for (bits, forms) in run.paper.tally.forms.iter().enumerate() {
-        let [sparse, dense, basis] = forms.map(grouped);
-        let [equal, above] = run.paper.tally.edges[bits].map(grouped);
-        counts.push(format!(
-            "length {}: sparse {sparse}, dense {dense}, basis {basis}, \
-             savings 7P+2 {equal}, 7P+3 {above}",
-            1 << bits
-        ));
+        let length = 1 << bits;
+        for (form, name) in ["sparse", "dense", "basis"].iter().enumerate() {
+            if required::possible(bits, form) {
+                counts.push((format!("{name} of {length}"), forms[form]));
+            }
+        }
+        if bits > 0 {
+            let [equal, above] = run.paper.tally.edges[bits];
+            counts.push((format!("savings 7P+2 at {length}"), equal));
+            counts.push((format!("savings 7P+3 at {length}"), above));
+        }
     }
     counts
 }
 
-/// These items on lines of at most 100 characters.
-fn wrapped(items: &[String]) -> String {
-    let mut text = String::new();
-    let mut line = String::from("   ");
-    for item in items {
-        if line.chars().count() + item.chars().count() + 3 > 100 {
-            text.push_str(&line);
-            text.push('\n');
-            line = String::from("   ");
+/// A row for each of these, and the sum where there are several.
+pub fn table(rows: &[Summary]) -> String {
+    let mut text = String::from(
+        "               cases      accepted       refused   differ  never met   seconds\n",
+    );
+    let mut row = |name: &str, numbers: [u64; 5], seconds: f64| {
+        let [cases, accepted, refused, differ, missing] = numbers.map(grouped);
+        let _ = writeln!(
+            text,
+            "{name:<9} {cases:>10} {accepted:>13} {refused:>13} {differ:>8} {missing:>10} {seconds:>9.1}",
+        );
+    };
+    let mut sums = [0; 5];
+    for each in rows {
+        let refused = each.cases - each.accepted();
+        let missing = each.missing.len() as u64;
+        let numbers = [each.cases, each.accepted(), refused, each.failed, missing];
+        row(each.name, numbers, each.seconds);
+        for (sum, number) in sums.iter_mut().zip(numbers) {
+            *sum += number;
         }
-        line.push_str(if line.len() > 3 { " · " } else { " " });
-        line.push_str(item);
     }
-    text.push_str(&line);
-    text.push('\n');
+    if rows.len() > 1 {
+        row("all", sums, rows.iter().map(|each| each.seconds).sum());
+    }
     text
+}
+
+/// These items behind a heading, on lines of at most 100 characters.
+fn wrapped(heading: &str, items: &[String]) -> String {
+    if items.is_empty() {
+        return String::new();
+    }
+    let margin = heading.chars().count();
+    let mut text = String::from(heading);
+    let mut width = margin;
+    for (place, item) in items.iter().enumerate() {
+        let length = item.chars().count();
+        if width > margin && width + 3 + length > 100 {
+            let _ = write!(text, "\n{:margin$}", "");
+            width = margin;
+        } else if place > 0 {
+            text.push_str(" · ");
+            width += 3;
+        }
+        text.push_str(item);
+        width += length;
+    }
+    text + "\n"
 }

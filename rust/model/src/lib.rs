@@ -10,6 +10,7 @@ mod case;
 mod columns;
 mod events;
 pub mod field;
+mod house_file;
 mod judge;
 mod keys;
 mod lists;
@@ -22,6 +23,9 @@ pub use calls::expected;
 pub use case::{Call, Case, Outcome, Record, Signature, Store, records, words};
 pub use columns::{basis_cost, overhead, saving, standalone_cost};
 pub use events::{Event, Tally};
+pub use house_file::{
+    FILE_LIMIT, HEAD, KINDS, RECORD, VERSION, house_file, listing, read_house_file,
+};
 pub use judge::{Judge, Paper};
 pub use keys::{FIELDS, ZK, is_key};
 pub use lists::values;

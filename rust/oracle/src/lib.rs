@@ -16,6 +16,9 @@ pub use compiler::dag::words::{
 
 pub use miden_crypto::field::{Felt, Field, QuadFelt, TwoAdicField};
 
+/// The folder that the files were taken from, as it was named.
+pub const SOURCE: &str = env!("ORACLE_SOURCE");
+
 /// The degree of the extension.
 pub(crate) const EXT_DEGREE: usize = 2;
 

@@ -3,27 +3,19 @@ use mathlib.Core.Path.{sym, _∙_, ap}
 use borrow.Author.Needs.{needs}
 use Rattle.ace.proofs.evaluate_words.Statement.{statement}
 use Rattle.ace.proofs.evaluate_words.Tie as tie
-use Rattle.ace.proofs.evaluate_words.Reads as reads
-use Rattle.ace.proofs.evaluate_words.Lts as lts
-use Rattle.ace.proofs.refused_words.Reads as refused-words-reads
 
--- src/lib.rt:71:26
 enum-known-a : tie.Need-enum-known-a
 enum-known-a c = search needs
 
--- src/lib.rt:72:28
 enum-known-a-2 : tie.Need-enum-known-a-2
 enum-known-a-2 c = search needs
 
--- src/lib.rt:72:34
 refused-words-requires : tie.Need-refused-words-requires
 refused-words-requires c κs = search needs
 
--- src/lib.rt:67:1
 returns : tie.Need-returns
 returns c = sym (ap evaluateWords (c .before .a .given .1))
 
--- src/lib.rt:67:1
 returns-2 : tie.Need-returns-2
 returns-2 c = c .refused-words .ensures ∙ sym (ap evaluateWords (c .before .before .a2 .given .1))
 

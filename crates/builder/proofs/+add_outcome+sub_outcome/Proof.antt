@@ -1,4 +1,4 @@
-use Prim.Native.Nat.{ℕ, _+_, _*_, _<_}
+use Prim.Native.Nat.{ℕ, _+_, _<_}
 use native.Mathlib.Omega.{arith}
 use mathlib.Core.Path.{subst}
 use Rattle.builder.specs.OutcomeLaws.{operands-below, add-used, add-made, add-handed, add-lower, sub-used, sub-made, sub-handed, sub-lower}
@@ -40,7 +40,6 @@ abbrev sub-outcome-below : ℕ → In 1 sub-outcome-kinds.ps
 sub-outcome-below t =
     and 1 sub-outcome-kinds.ps (falls 1 sub-outcome-kinds.ps _<_ μ-sub-outcome t) sub-outcome.Pre
 
--- src/lib.rt:191:25
 add-outcome-node-at-requires : (t : ℕ) → add-outcome-lts.Need-node-at-requires (
   node-at-reads.Asked,
   node-at-reads.Learnt,
@@ -51,7 +50,6 @@ add-outcome-node-at-requires : (t : ℕ) → add-outcome-lts.Need-node-at-requir
 ) (add-outcome-at t) add-outcome.Post
 add-outcome-node-at-requires t c κs = omega (arith, c .before .pre .1 .sound .room, c .before .pre .1 .left-inside)
 
--- src/lib.rt:191:48
 add-outcome-node-at-requires-2 : (t : ℕ) → add-outcome-lts.Need-node-at-requires-2 (
   node-at-reads.Asked,
   node-at-reads.Learnt,
@@ -62,7 +60,6 @@ add-outcome-node-at-requires-2 : (t : ℕ) → add-outcome-lts.Need-node-at-requ
 ) (add-outcome-at t) add-outcome.Post
 add-outcome-node-at-requires-2 t c κs = omega (arith, c .before .before .pre .1 .sound .room, c .before .before .pre .1 .right-inside)
 
--- src/lib.rt:191:9
 add-outcome-add-rule-requires : (t : ℕ) → add-outcome-lts.Need-add-rule-requires (
   node-at-reads.Asked,
   node-at-reads.Learnt,
@@ -73,7 +70,6 @@ add-outcome-add-rule-requires : (t : ℕ) → add-outcome-lts.Need-add-rule-requ
 ) (add-outcome-at t) add-outcome.Post
 add-outcome-add-rule-requires t c κs = operands-below (c .before .before .before .args .list .now) (c .before .before .before .args .n) (c .before .before .before .args .a) (c .before .before .before .args .b) (c .before .before .before .pre .1) _ _ (c .before .node-at .ensures) (c .node-at2 .ensures) (Use 0)
 
--- src/lib.rt:193:19
 add-outcome-enum-known-rule : (t : ℕ) → add-outcome-lts.Need-enum-known-rule (
   node-at-reads.Asked,
   node-at-reads.Learnt,
@@ -84,7 +80,6 @@ add-outcome-enum-known-rule : (t : ℕ) → add-outcome-lts.Need-enum-known-rule
 ) (add-outcome-at t) add-outcome.Post
 add-outcome-enum-known-rule t c = search needs
 
--- src/lib.rt:194:20
 add-outcome-enum-known-rule-2 : (t : ℕ) → add-outcome-lts.Need-enum-known-rule-2 (
   node-at-reads.Asked,
   node-at-reads.Learnt,
@@ -95,7 +90,6 @@ add-outcome-enum-known-rule-2 : (t : ℕ) → add-outcome-lts.Need-enum-known-ru
 ) (add-outcome-at t) add-outcome.Post
 add-outcome-enum-known-rule-2 t c = search needs
 
--- src/lib.rt:195:24
 add-outcome-enum-known-rule-3 : (t : ℕ) → add-outcome-lts.Need-enum-known-rule-3 (
   node-at-reads.Asked,
   node-at-reads.Learnt,
@@ -106,7 +100,6 @@ add-outcome-enum-known-rule-3 : (t : ℕ) → add-outcome-lts.Need-enum-known-ru
 ) (add-outcome-at t) add-outcome.Post
 add-outcome-enum-known-rule-3 t c = search needs
 
--- src/lib.rt:195:33
 add-outcome-sub-outcome-requires : (t : ℕ) → add-outcome-lts.Need-sub-outcome-requires (
   node-at-reads.Asked,
   node-at-reads.Learnt,
@@ -117,7 +110,6 @@ add-outcome-sub-outcome-requires : (t : ℕ) → add-outcome-lts.Need-sub-outcom
 ) (add-outcome-at t) add-outcome.Post
 add-outcome-sub-outcome-requires t c κs = let h = add-lower (c .before .before .before .before .before .before .before .args .list .now) (c .before .before .before .before .before .before .before .args .n) (c .before .before .before .before .before .before .before .args .a) (c .before .before .before .before .before .before .before .args .b) (c .before .before .before .before .before .before .before .pre .1) _ _ (c .before .before .before .before .before .node-at .ensures) (c .before .before .before .before .node-at2 .ensures) (c .before .before .before .add-rule .result) (c .before .before .before .add-rule .ensures) _ _ (c .before .rule3 .given .1) in (subst (λ (j : ℕ). c .before .rule3 .given .0 .0 + c .before .rule3 .given .0 .1 .0 < j) (c .before .before .before .before .before .before .before .pre .0) (h .0), h .1)
 
--- src/lib.rt:187:1
 add-outcome-returns : (t : ℕ) → add-outcome-lts.Need-returns (
   node-at-reads.Asked,
   node-at-reads.Learnt,
@@ -128,7 +120,6 @@ add-outcome-returns : (t : ℕ) → add-outcome-lts.Need-returns (
 ) (add-outcome-at t) add-outcome.Post
 add-outcome-returns t c = add-used (c .before .before .before .before .before .before .before .args .list .now) (c .before .before .before .before .before .before .before .args .n) (c .before .before .before .before .before .before .before .args .a) (c .before .before .before .before .before .before .before .args .b) (c .before .before .before .before .before .before .before .pre .1) _ _ (c .before .before .before .before .before .node-at .ensures) (c .before .before .before .before .node-at2 .ensures) (c .before .before .before .add-rule .result) (c .before .before .before .add-rule .ensures) _ (c .before .rule .given .1)
 
--- src/lib.rt:187:1
 add-outcome-returns-2 : (t : ℕ) → add-outcome-lts.Need-returns-2 (
   node-at-reads.Asked,
   node-at-reads.Learnt,
@@ -139,7 +130,6 @@ add-outcome-returns-2 : (t : ℕ) → add-outcome-lts.Need-returns-2 (
 ) (add-outcome-at t) add-outcome.Post
 add-outcome-returns-2 t c = add-made (c .before .before .before .before .before .before .before .args .list .now) (c .before .before .before .before .before .before .before .args .n) (c .before .before .before .before .before .before .before .args .a) (c .before .before .before .before .before .before .before .args .b) (c .before .before .before .before .before .before .before .pre .1) _ _ (c .before .before .before .before .before .node-at .ensures) (c .before .before .before .before .node-at2 .ensures) (c .before .before .before .add-rule .result) (c .before .before .before .add-rule .ensures) _ (c .before .rule2 .given .1)
 
--- src/lib.rt:187:1
 add-outcome-returns-3 : (t : ℕ) → add-outcome-lts.Need-returns-3 (
   node-at-reads.Asked,
   node-at-reads.Learnt,
@@ -150,7 +140,6 @@ add-outcome-returns-3 : (t : ℕ) → add-outcome-lts.Need-returns-3 (
 ) (add-outcome-at t) add-outcome.Post
 add-outcome-returns-3 t c = add-handed (c .before .before .before .before .before .before .before .before .args .list .now) (c .before .before .before .before .before .before .before .before .args .n) (c .before .before .before .before .before .before .before .before .args .a) (c .before .before .before .before .before .before .before .before .args .b) (c .before .before .before .before .before .before .before .before .pre .1) _ _ (c .before .before .before .before .before .before .node-at .ensures) (c .before .before .before .before .before .node-at2 .ensures) (c .before .before .before .before .add-rule .result) (c .before .before .before .before .add-rule .ensures) _ _ _ (c .before .before .rule3 .given .1) (c .sub-outcome .ensures)
 
--- src/lib.rt:204:25
 sub-outcome-node-at-requires : (t : ℕ) → sub-outcome-lts.Need-node-at-requires (
   node-at-reads.Asked,
   node-at-reads.Learnt,
@@ -161,7 +150,6 @@ sub-outcome-node-at-requires : (t : ℕ) → sub-outcome-lts.Need-node-at-requir
 ) (sub-outcome-at t) sub-outcome.Post
 sub-outcome-node-at-requires t c κs = omega (arith, c .before .pre .1 .sound .room, c .before .pre .1 .left-inside)
 
--- src/lib.rt:204:48
 sub-outcome-node-at-requires-2 : (t : ℕ) → sub-outcome-lts.Need-node-at-requires-2 (
   node-at-reads.Asked,
   node-at-reads.Learnt,
@@ -172,7 +160,6 @@ sub-outcome-node-at-requires-2 : (t : ℕ) → sub-outcome-lts.Need-node-at-requ
 ) (sub-outcome-at t) sub-outcome.Post
 sub-outcome-node-at-requires-2 t c κs = omega (arith, c .before .before .pre .1 .sound .room, c .before .before .pre .1 .right-inside)
 
--- src/lib.rt:204:9
 sub-outcome-sub-rule-requires : (t : ℕ) → sub-outcome-lts.Need-sub-rule-requires (
   node-at-reads.Asked,
   node-at-reads.Learnt,
@@ -183,7 +170,6 @@ sub-outcome-sub-rule-requires : (t : ℕ) → sub-outcome-lts.Need-sub-rule-requ
 ) (sub-outcome-at t) sub-outcome.Post
 sub-outcome-sub-rule-requires t c κs = operands-below (c .before .before .before .args .list .now) (c .before .before .before .args .n) (c .before .before .before .args .a) (c .before .before .before .args .b) (c .before .before .before .pre .1) _ _ (c .before .node-at .ensures) (c .node-at2 .ensures) (Use 0)
 
--- src/lib.rt:206:19
 sub-outcome-enum-known-rule : (t : ℕ) → sub-outcome-lts.Need-enum-known-rule (
   node-at-reads.Asked,
   node-at-reads.Learnt,
@@ -194,7 +180,6 @@ sub-outcome-enum-known-rule : (t : ℕ) → sub-outcome-lts.Need-enum-known-rule
 ) (sub-outcome-at t) sub-outcome.Post
 sub-outcome-enum-known-rule t c = search needs
 
--- src/lib.rt:207:20
 sub-outcome-enum-known-rule-2 : (t : ℕ) → sub-outcome-lts.Need-enum-known-rule-2 (
   node-at-reads.Asked,
   node-at-reads.Learnt,
@@ -205,7 +190,6 @@ sub-outcome-enum-known-rule-2 : (t : ℕ) → sub-outcome-lts.Need-enum-known-ru
 ) (sub-outcome-at t) sub-outcome.Post
 sub-outcome-enum-known-rule-2 t c = search needs
 
--- src/lib.rt:208:24
 sub-outcome-enum-known-rule-3 : (t : ℕ) → sub-outcome-lts.Need-enum-known-rule-3 (
   node-at-reads.Asked,
   node-at-reads.Learnt,
@@ -216,7 +200,6 @@ sub-outcome-enum-known-rule-3 : (t : ℕ) → sub-outcome-lts.Need-enum-known-ru
 ) (sub-outcome-at t) sub-outcome.Post
 sub-outcome-enum-known-rule-3 t c = search needs
 
--- src/lib.rt:208:33
 sub-outcome-add-outcome-requires : (t : ℕ) → sub-outcome-lts.Need-add-outcome-requires (
   node-at-reads.Asked,
   node-at-reads.Learnt,
@@ -227,7 +210,6 @@ sub-outcome-add-outcome-requires : (t : ℕ) → sub-outcome-lts.Need-add-outcom
 ) (sub-outcome-at t) sub-outcome.Post
 sub-outcome-add-outcome-requires t c κs = let h = sub-lower (c .before .before .before .before .before .before .before .args .list .now) (c .before .before .before .before .before .before .before .args .n) (c .before .before .before .before .before .before .before .args .a) (c .before .before .before .before .before .before .before .args .b) (c .before .before .before .before .before .before .before .pre .1) _ _ (c .before .before .before .before .before .node-at .ensures) (c .before .before .before .before .node-at2 .ensures) (c .before .before .before .sub-rule .result) (c .before .before .before .sub-rule .ensures) _ _ (c .before .rule3 .given .1) in (subst (λ (j : ℕ). c .before .rule3 .given .0 .0 + c .before .rule3 .given .0 .1 .0 < j) (c .before .before .before .before .before .before .before .pre .0) (h .0), h .1)
 
--- src/lib.rt:200:1
 sub-outcome-returns : (t : ℕ) → sub-outcome-lts.Need-returns (
   node-at-reads.Asked,
   node-at-reads.Learnt,
@@ -238,7 +220,6 @@ sub-outcome-returns : (t : ℕ) → sub-outcome-lts.Need-returns (
 ) (sub-outcome-at t) sub-outcome.Post
 sub-outcome-returns t c = sub-used (c .before .before .before .before .before .before .before .args .list .now) (c .before .before .before .before .before .before .before .args .n) (c .before .before .before .before .before .before .before .args .a) (c .before .before .before .before .before .before .before .args .b) (c .before .before .before .before .before .before .before .pre .1) _ _ (c .before .before .before .before .before .node-at .ensures) (c .before .before .before .before .node-at2 .ensures) (c .before .before .before .sub-rule .result) (c .before .before .before .sub-rule .ensures) _ (c .before .rule .given .1)
 
--- src/lib.rt:200:1
 sub-outcome-returns-2 : (t : ℕ) → sub-outcome-lts.Need-returns-2 (
   node-at-reads.Asked,
   node-at-reads.Learnt,
@@ -249,7 +230,6 @@ sub-outcome-returns-2 : (t : ℕ) → sub-outcome-lts.Need-returns-2 (
 ) (sub-outcome-at t) sub-outcome.Post
 sub-outcome-returns-2 t c = sub-made (c .before .before .before .before .before .before .before .args .list .now) (c .before .before .before .before .before .before .before .args .n) (c .before .before .before .before .before .before .before .args .a) (c .before .before .before .before .before .before .before .args .b) (c .before .before .before .before .before .before .before .pre .1) _ _ (c .before .before .before .before .before .node-at .ensures) (c .before .before .before .before .node-at2 .ensures) (c .before .before .before .sub-rule .result) (c .before .before .before .sub-rule .ensures) _ (c .before .rule2 .given .1)
 
--- src/lib.rt:200:1
 sub-outcome-returns-3 : (t : ℕ) → sub-outcome-lts.Need-returns-3 (
   node-at-reads.Asked,
   node-at-reads.Learnt,

@@ -2,39 +2,28 @@ use Rattle.builder.specs.CallLaws.{list-full, store-short, appends}
 use borrow.Author.Needs.{needs}
 use Rattle.builder.proofs.append.Statement.{statement}
 use Rattle.builder.proofs.append.Tie as tie
-use Rattle.builder.proofs.append.Reads as reads
-use Rattle.builder.proofs.append.Lts as lts
-use Rattle.dag.proofs.put_node.Reads as put-node-reads
 
--- src/lib.rt:306:9
 returns : tie.Need-returns
 returns c = list-full (c .before .before .args .list .now) (c .before .before .args .n) (c .before .before .args .y) (c .if1 .taken)
 
--- src/lib.rt:308:26
 add-if2 : tie.Need-add-if2
 add-if2 c = search needs
 
--- src/lib.rt:308:21
 mul-if2 : tie.Need-mul-if2
 mul-if2 c = search needs
 
--- src/lib.rt:309:9
 returns-2 : tie.Need-returns-2
 returns-2 c = store-short (c .before .before .before .args .list .now) (c .before .before .before .args .n) (c .before .before .before .args .y) (c .before .if1 .left) (c .if2 .taken)
 
--- src/lib.rt:311:5
 put-node-requires : tie.Need-put-node-requires
 put-node-requires c κs = search needs
 
--- src/lib.rt:314:16
 add-t6 : tie.Need-add-t6
 add-t6 c = search needs
 
--- src/lib.rt:301:1
 same-length : tie.Need-same-length
 same-length c = search needs
 
--- src/lib.rt:301:1
 returns-3 : tie.Need-returns-3
 returns-3 c = appends (c .before .before .before .before .before .before .before .args .list .now) (c .before .before .before .before .before .before .before .args .n) (c .before .before .before .before .before .before .before .args .y) _ (c .before .before .before .before .before .if1 .left) (c .before .before .before .before .if2 .left) (c .before .before .put-node .ensures)
 

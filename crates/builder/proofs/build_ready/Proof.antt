@@ -2,41 +2,28 @@ use Rattle.builder.specs.BuildLaws.{finished}
 use borrow.Author.Needs.{needs}
 use Rattle.builder.proofs.build_ready.Statement.{statement}
 use Rattle.builder.proofs.build_ready.Tie as tie
-use Rattle.builder.proofs.build_ready.Reads as reads
-use Rattle.builder.proofs.build_ready.Lts as lts
-use Rattle.builder.proofs.mapped.Reads as mapped-reads
-use Rattle.builder.proofs.replay.Reads as replay-reads
-use Rattle.dag.proofs.blank_from.Reads as blank-from-reads
 
--- src/lib.rt:407:9
 replay-requires : tie.Need-replay-requires
 replay-requires c κs = search needs
 
--- src/lib.rt:408:29
 mul-blank-from : tie.Need-mul-blank-from
 mul-blank-from c = search needs
 
--- src/lib.rt:408:5
 blank-from-requires : tie.Need-blank-from-requires
 blank-from-requires c κs = search needs
 
--- src/lib.rt:409:5
 blank-from-requires-2 : tie.Need-blank-from-requires-2
 blank-from-requires-2 c κs = search needs
 
--- src/lib.rt:412:15
 mapped-requires : tie.Need-mapped-requires
 mapped-requires c κs = search needs
 
--- src/lib.rt:403:1
 same-length : tie.Need-same-length
 same-length c = search needs
 
--- src/lib.rt:403:1
 same-length-2 : tie.Need-same-length-2
 same-length-2 c = search needs
 
--- src/lib.rt:403:1
 returns : tie.Need-returns
 returns c = finished (c .before .before .before .before .before .before .before .before .before .before .before .before .before .before .before .before .before .before .before .before .args .list .now) (c .before .before .before .before .before .before .before .before .before .before .before .before .before .before .before .before .before .before .before .before .args .n) (c .before .before .before .before .before .before .before .before .before .before .before .before .before .before .before .before .before .before .before .before .args .root) (c .before .before .before .before .before .before .before .before .before .before .before .before .before .before .before .before .before .before .before .before .args .result .now) (c .before .before .before .before .before .before .before .before .before .before .before .before .before .before .before .before .before .before .before .before .args .map .now) (c .before .before .before .before .before .before .before .before .before .before .before .before .before .before .before .before .before .before .before .before .pre .sound) (c .before .before .before .before .before .before .before .before .before .before .before .before .before .before .before .before .before .before .before .before .pre .inside) _ _ _ (c .before .before .before .before .before .before .before .before .before .before .before .before .before .before .replay .ensures) (c .before .before .before .before .before .before .before .before .before .before .before .before .before .before .replay .kept .1 .1 .0) (c .before .before .before .before .before .before .before .before .before .before .before .before .before .before .replay .kept .1 .1 .1 .0) (c .before .before .before .before .before .before .before .before .before .before .before .before .before .before .before .before .before .before .before .before .pre .map-room) _ _ _ (c .before .before .before .before .before .before .before .before .blank-from .ensures) (c .before .before .before .before .blank-from2 .ensures) (c .mapped .ensures)
 

@@ -3,40 +3,28 @@ use Rattle.dag.specs.Told.{told}
 use borrow.Author.Needs.{needs}
 use Rattle.builder.proofs.enter.Statement.{statement}
 use Rattle.builder.proofs.enter.Tie as tie
-use Rattle.builder.proofs.enter.Reads as reads
-use Rattle.builder.proofs.enter.Lts as lts
-use Rattle.builder.proofs.append.Reads as append-reads
-use Rattle.builder.proofs.resolve.Reads as resolve-reads
 
--- src/lib.rt:323:9
 resolve-requires : tie.Need-resolve-requires
 resolve-requires c κs = search needs
 
--- src/lib.rt:325:24
 enum-known-result : tie.Need-enum-known-result
 enum-known-result c = search needs
 
--- src/lib.rt:326:23
 enum-known-result-2 : tie.Need-enum-known-result-2
 enum-known-result-2 c = search needs
 
--- src/lib.rt:326:29
 append-requires : tie.Need-append-requires
 append-requires c κs = search needs
 
--- src/lib.rt:319:1
 same-length : tie.Need-same-length
 same-length c = search needs
 
--- src/lib.rt:319:1
 returns : tie.Need-returns
 returns c = stays (c .before .before .before .before .before .before .args .list .now) (c .before .before .before .before .before .before .args .n) _ _ (told (c .before .before .before .resolve .ensures) (c .before .result .given .1))
 
--- src/lib.rt:319:1
 same-length-2 : tie.Need-same-length-2
 same-length-2 c = search needs
 
--- src/lib.rt:319:1
 returns-2 : tie.Need-returns-2
 returns-2 c = stepped-as (c .before .before .before .before .before .before .before .before .before .before .args .list .now) (c .before .before .before .before .before .before .before .before .before .before .args .n) _ _ _ _ (told (c .before .before .before .before .before .before .before .resolve .ensures) (c .before .before .before .before .before .result2 .given .1)) (c .before .before .append .ensures)
 

@@ -2,34 +2,24 @@ use Rattle.dag.specs.Told.{and-when, and-never}
 use Rattle.field.specs.Field.{same}
 use Rattle.builder.specs.Steps as Steps
 use Rattle.dag.specs.Told.{told}
-use mathlib.Core.Path.{_∙_, ap, ap₂}
+use mathlib.Core.Path.{_∙_, ap}
 use borrow.Author.Needs.{needs}
 use Rattle.builder.proofs.is_the.Statement.{statement}
 use Rattle.builder.proofs.is_the.Tie as tie
-use Rattle.builder.proofs.is_the.Reads as reads
-use Rattle.builder.proofs.is_the.Lts as lts
-use Rattle.builder.proofs.element.Reads as element-reads
-use Rattle.builder.proofs.has_tag.Reads as has-tag-reads
-use Rattle.field.proofs.QuadFelt.same.Reads as same-reads
 
--- src/lib.rt:56:8
 has-tag-requires : tie.Need-has-tag-requires
 has-tag-requires c κs = search needs
 
--- src/lib.rt:56:24
 element-requires : tie.Need-element-requires
 element-requires c κs = search needs
 
--- src/lib.rt:56:24
 same-requires : tie.Need-same-requires
 same-requires c κs = search needs
 
--- src/lib.rt:53:1
 returns : tie.Need-returns
 unfolding Steps.isThe Steps.isConstant
 returns c = c .same .ensures ∙ (ap (λ e. same e (c .before .before .before .before .args .c)) (c .before .element .ensures) ∙ and-when (told (c .before .before .before .has-tag .ensures) (c .before .before .if1 .taken)))
 
--- src/lib.rt:53:1
 returns-2 : tie.Need-returns-2
 unfolding Steps.isThe Steps.isConstant
 returns-2 c = and-never (told (c .before .has-tag .ensures) (c .if1 .left)) _

@@ -1,16 +1,12 @@
 use Rattle.builder.specs.Steps as Steps
-use borrow.Author.Tests.{lt-ltb, le-ltb, le-leb, lt-leb, eq-eqb, ne-eqb}
+use borrow.Author.Tests.{le-leb, lt-leb}
 use Rattle.builder.proofs.low_mul.Statement.{statement}
 use Rattle.builder.proofs.low_mul.Tie as tie
-use Rattle.builder.proofs.low_mul.Reads as reads
-use Rattle.builder.proofs.low_mul.Lts as lts
 
--- src/lib.rt:88:1
 returns : tie.Need-returns
 unfolding Steps.lowFirst
 returns c = simp (le-leb _ _ (c .if1 .taken))
 
--- src/lib.rt:88:1
 returns-2 : tie.Need-returns-2
 unfolding Steps.lowFirst
 returns-2 c = simp (lt-leb _ _ (c .if1 .left))

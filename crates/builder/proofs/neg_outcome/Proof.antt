@@ -3,35 +3,25 @@ use Rattle.dag.specs.declared.NodeKind.the-variants.{Constant}
 use Rattle.field.specs.Field.{quad}
 use Rattle.builder.specs.Steps as Steps
 use Rattle.dag.specs.Told.{told}
-use mathlib.Core.Path.{_∙_, ap, ap₂}
+use mathlib.Core.Path.{_∙_, ap}
 use borrow.Author.Needs.{needs}
 use Rattle.builder.proofs.neg_outcome.Statement.{statement}
 use Rattle.builder.proofs.neg_outcome.Tie as tie
-use Rattle.builder.proofs.neg_outcome.Reads as reads
-use Rattle.builder.proofs.neg_outcome.Lts as lts
-use Rattle.builder.proofs.element.Reads as element-reads
-use Rattle.builder.proofs.has_tag.Reads as has-tag-reads
-use Rattle.field.proofs.QuadFelt.neg.Reads as neg-reads
 
--- src/lib.rt:180:8
 has-tag-requires : tie.Need-has-tag-requires
 has-tag-requires c κs = search needs
 
--- src/lib.rt:181:49
 element-requires : tie.Need-element-requires
 element-requires c κs = search needs
 
--- src/lib.rt:181:49
 neg-requires : tie.Need-neg-requires
 unfolding Steps.isConstant
 neg-requires c κs = rw (c .element .ensures) (c .before .before .before .pre (told (c .before .before .has-tag .ensures) (c .before .if1 .taken)))
 
--- src/lib.rt:181:9
 returns : tie.Need-returns
 unfolding Steps.negOutcome Steps.isConstant
 returns c = simp (told (c .before .before .before .has-tag .ensures) (c .before .before .if1 .taken)) (ap (λ e. Node (Constant e)) (c .neg .ensures .0 ∙ ap (quad .neg) (c .before .element .ensures)))
 
--- src/lib.rt:176:1
 returns-2 : tie.Need-returns-2
 unfolding Steps.negOutcome Steps.isConstant
 returns-2 c = simp (told (c .before .has-tag .ensures) (c .if1 .left))

@@ -2,28 +2,21 @@ use Rattle.dag.specs.Told.{and-when, and-never}
 use mathlib.Core.Bool.{not}
 use Rattle.builder.specs.Steps as Steps
 use Rattle.dag.specs.Told.{told}
-use mathlib.Core.Path.{_∙_, ap, ap₂}
+use mathlib.Core.Path.{_∙_, ap}
 use borrow.Author.Needs.{needs}
 use Rattle.builder.proofs.only_neg.Statement.{statement}
 use Rattle.builder.proofs.only_neg.Tie as tie
-use Rattle.builder.proofs.only_neg.Reads as reads
-use Rattle.builder.proofs.only_neg.Lts as lts
-use Rattle.builder.proofs.has_tag.Reads as has-tag-reads
 
--- src/lib.rt:77:8
 has-tag-requires : tie.Need-has-tag-requires
 has-tag-requires c κs = search needs
 
--- src/lib.rt:77:25
 has-tag-requires-2 : tie.Need-has-tag-requires-2
 has-tag-requires-2 c κs = search needs
 
--- src/lib.rt:74:1
 returns : tie.Need-returns
 unfolding Steps.isNeg
 returns c = ap not (c .has-tag2 .ensures) ∙ and-when (told (c .before .before .has-tag .ensures) (c .before .if1 .taken))
 
--- src/lib.rt:74:1
 returns-2 : tie.Need-returns-2
 unfolding Steps.isNeg
 returns-2 c = and-never (told (c .before .has-tag .ensures) (c .if1 .left)) _

@@ -13,11 +13,6 @@ use mathlib.Core.Path.{_≡_, refl, sym, _∙_}
 use Prim.Native.Nat.{_≤_, _-_}
 use Rattle.builder.proofs.replay.Statement.{statement}
 use Rattle.builder.proofs.replay.Tie as tie
-use Rattle.builder.proofs.replay.Reads as reads
-use Rattle.builder.proofs.replay.Lts as lts
-use Rattle.builder.proofs.push.Reads as push-reads
-use Rattle.builder.proofs.renamed.Reads as renamed-reads
-use Rattle.dag.proofs.node_at.Reads as node-at-reads
 
 abbrev Inv-loop : tie.InvT-loop
 Inv-loop list n result₀ map₀ count₀ i₀ result map count i = (i ≤ n) × (length result ≡ length result₀) × (length map ≡ length map₀) × Held.Holds (Steps.replay quad (Nodes.nodes list n) i) i result map count
@@ -25,52 +20,40 @@ Inv-loop list n result₀ map₀ count₀ i₀ result map count i = (i ≤ n) ×
 abbrev μ-loop : tie.MeasureT-loop
 μ-loop list n result₀ map₀ count₀ i₀ result map count i = n - i
 
--- src/lib.rt:366:5
 loop-holds : tie.Need-loop-holds Inv-loop μ-loop
 unfolding Steps.replay
 loop-holds c = (omega arith, refl, refl, holds-nothing _ _)
 
--- src/lib.rt:367:30
 node-at-requires : tie.Need-node-at-requires Inv-loop μ-loop
 node-at-requires c κs = omega (arith, c .before .before .before .before .before .before .pre .0 .room, c .before .loop-test .taken)
 
--- src/lib.rt:367:13
 renamed-requires : tie.Need-renamed-requires Inv-loop μ-loop
 renamed-requires c κs = turn-fine (Nodes.nodes (c .before .before .before .before .before .before .before .args .list .now) (c .before .before .before .before .before .before .before .args .n)) (list-fine (c .before .before .before .before .before .before .before .args .list .now) (c .before .before .before .before .before .before .before .args .n) (c .before .before .before .before .before .before .before .pre .0)) (c .before .before .before .loop .i) _ _ (omega (arith, c .before .before .before .before .before .before .before .pre .2, c .before .before .before .loop .inv .2, c .before .before .loop-test .taken)) (c .node-at .ensures ∙ sym (at-nodes _ _ _ (c .before .before .loop-test .taken)))
 
--- src/lib.rt:368:13
 push-requires : tie.Need-push-requires Inv-loop μ-loop
 push-requires c κs = (rw (c .before .renamed .ensures) (turn-request (Nodes.nodes (c .before .before .before .before .before .before .before .before .before .args .list .now) (c .before .before .before .before .before .before .before .before .before .args .n)) (list-fine (c .before .before .before .before .before .before .before .before .before .args .list .now) (c .before .before .before .before .before .before .before .before .before .args .n) (c .before .before .before .before .before .before .before .before .before .pre .0)) (c .before .before .before .before .before .loop .i) (c .before .before .before .before .before .loop .result) (c .before .before .before .before .before .loop .map) (c .before .before .before .before .before .loop .count) (c .before .before .before .before .before .loop .inv .3) _ (c .before .before .node-at .ensures ∙ sym (at-nodes _ _ _ (c .before .before .before .before .loop-test .taken)))), let h = turn-short (Nodes.nodes (c .before .before .before .before .before .before .before .before .before .args .list .now) (c .before .before .before .before .before .before .before .before .before .args .n)) (list-fine (c .before .before .before .before .before .before .before .before .before .args .list .now) (c .before .before .before .before .before .before .before .before .before .args .n) (c .before .before .before .before .before .before .before .before .before .pre .0)) (c .before .before .before .before .before .loop .i) (c .before .before .before .before .before .loop .result) (c .before .before .before .before .before .loop .map) (c .before .before .before .before .before .loop .count) (c .before .before .before .before .before .loop .inv .3) in omega (arith, h, c .before .before .before .before .before .before .before .before .before .pre .1, c .before .before .before .before .before .loop .inv .1, c .before .before .before .before .loop-test .taken))
 
--- src/lib.rt:369:9
 mul-map : tie.Need-mul-map Inv-loop μ-loop
 mul-map c = omega (arith, c .before .before .before .before .before .before .before .before .before .before .before .before .good .1 .1 .1 .0 .1, c .before .before .before .before .before .before .before .before .before .before .before .before .pre .2, c .before .before .before .before .before .before .before .loop-test .taken)
 
--- src/lib.rt:369:9
 slice-write-map : tie.Need-slice-write-map Inv-loop μ-loop
 slice-write-map c = omega (arith, c .before .before .before .before .before .before .before .before .before .before .before .before .pre .2, c .before .before .before .before .before .before .before .loop-test .taken, c .before .before .before .before .before .before .before .before .loop .inv .2)
 
--- src/lib.rt:371:9
 add-i : tie.Need-add-i Inv-loop μ-loop
 add-i c = omega (arith, c .before .before .before .before .before .before .before .before .before .before .before .before .good .1 .1 .1 .0 .0, c .before .before .before .before .before .before .before .before .before .before .before .before .pre .2, c .before .before .before .before .before .before .before .loop-test .taken)
 
--- src/lib.rt:366:5
 loop-less : tie.Need-loop-less Inv-loop μ-loop
 loop-less c = omega (arith, c .before .before .before .before .before .before .before .loop-test .taken)
 
--- src/lib.rt:366:5
 loop-again : tie.Need-loop-again Inv-loop μ-loop
 loop-again c = (omega (arith, c .before .before .before .before .before .before .before .loop-test .taken), c .before .before .push .ensures .kept ∙ c .before .before .before .before .before .before .before .before .loop .inv .1, simp length-set (c .before .before .before .before .before .before .before .before .loop .inv .2), turn-holds (Nodes.nodes (c .before .before .before .before .before .before .before .before .before .before .before .before .args .list .now) (c .before .before .before .before .before .before .before .before .before .before .before .before .args .n)) (list-fine (c .before .before .before .before .before .before .before .before .before .before .before .before .args .list .now) (c .before .before .before .before .before .before .before .before .before .before .before .before .args .n) (c .before .before .before .before .before .before .before .before .before .before .before .before .pre .0)) (c .before .before .before .before .before .before .before .before .loop .i) (c .before .before .before .before .before .before .before .before .loop .result) (c .before .before .before .before .before .before .before .before .loop .map) (c .before .before .before .before .before .before .before .before .loop .count) (c .before .before .before .before .before .before .before .before .loop .inv .3) _ _ _ (c .before .before .before .before .before .node-at .ensures ∙ sym (at-nodes _ _ _ (c .before .before .before .before .before .before .before .loop-test .taken))) (rw (c .before .before .before .before .renamed .ensures) at (c .before .before .push .ensures)) (omega (arith, c .before .before .before .before .before .before .before .before .before .before .before .before .pre .2, c .before .before .before .before .before .before .before .loop-test .taken, c .before .before .before .before .before .before .before .before .loop .inv .2)))
 
--- src/lib.rt:360:1
 same-length : tie.Need-same-length Inv-loop μ-loop
 same-length c = c .before .loop .inv .1
 
--- src/lib.rt:360:1
 same-length-2 : tie.Need-same-length-2 Inv-loop μ-loop
 same-length-2 c = c .before .loop .inv .2
 
--- src/lib.rt:360:1
 returns : tie.Need-returns Inv-loop μ-loop
 returns c = rw (le-antisymm (c .before .loop .inv .0) (c .loop-test .left)) at (c .before .loop .inv .3)
 

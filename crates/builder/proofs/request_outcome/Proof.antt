@@ -5,87 +5,61 @@ use native.Mathlib.Omega.{arith}
 use borrow.Author.Needs.{needs}
 use Rattle.builder.proofs.request_outcome.Statement.{statement}
 use Rattle.builder.proofs.request_outcome.Tie as tie
-use Rattle.builder.proofs.request_outcome.Reads as reads
-use Rattle.builder.proofs.request_outcome.Lts as lts
-use Rattle.builder.proofs.add_outcome.Reads as add-outcome-reads
-use Rattle.builder.proofs.mul_outcome.Reads as mul-outcome-reads
-use Rattle.builder.proofs.neg_outcome.Reads as neg-outcome-reads
-use Rattle.builder.proofs.sub_outcome.Reads as sub-outcome-reads
-use Rattle.dag.proofs.node_at.Reads as node-at-reads
 
--- src/lib.rt:236:25
 enum-known-x : tie.Need-enum-known-x
 enum-known-x c = search needs
 
--- src/lib.rt:237:28
 enum-known-x-2 : tie.Need-enum-known-x-2
 enum-known-x-2 c = search needs
 
--- src/lib.rt:238:23
 enum-known-x-3 : tie.Need-enum-known-x-3
 enum-known-x-3 c = search needs
 
--- src/lib.rt:238:32
 add-outcome-requires : tie.Need-add-outcome-requires
 add-outcome-requires c κs = asks-add (c .before .before .before .before .args .list .now) (c .before .before .before .before .args .n) (c .before .before .before .before .args .x) (c .before .before .before .before .pre) _ _ (c .before .x3 .given .1)
 
--- src/lib.rt:239:23
 enum-known-x-4 : tie.Need-enum-known-x-4
 enum-known-x-4 c = search needs
 
--- src/lib.rt:239:32
 sub-outcome-requires : tie.Need-sub-outcome-requires
 sub-outcome-requires c κs = asks-sub (c .before .before .before .before .args .list .now) (c .before .before .before .before .args .n) (c .before .before .before .before .args .x) (c .before .before .before .before .pre) _ _ (c .before .x4 .given .1)
 
--- src/lib.rt:240:23
 enum-known-x-5 : tie.Need-enum-known-x-5
 enum-known-x-5 c = search needs
 
--- src/lib.rt:240:44
 node-at-requires : tie.Need-node-at-requires
 node-at-requires c κs = let h = asks-mul (c .before .before .before .before .args .list .now) (c .before .before .before .before .args .n) (c .before .before .before .before .args .x) (c .before .before .before .before .pre) _ _ (c .before .x5 .given .1) in omega (arith, h .left-inside, h .sound .room)
 
--- src/lib.rt:240:67
 node-at-requires-2 : tie.Need-node-at-requires-2
 node-at-requires-2 c κs = let h = asks-mul (c .before .before .before .before .before .args .list .now) (c .before .before .before .before .before .args .n) (c .before .before .before .before .before .args .x) (c .before .before .before .before .before .pre) _ _ (c .before .before .x5 .given .1) in omega (arith, h .right-inside, h .sound .room)
 
--- src/lib.rt:240:32
 mul-outcome-requires : tie.Need-mul-outcome-requires
 mul-outcome-requires c κs = operands-below (c .before .before .before .before .before .before .args .list .now) (c .before .before .before .before .before .before .args .n) _ _ (asks-mul (c .before .before .before .before .before .before .args .list .now) (c .before .before .before .before .before .before .args .n) (c .before .before .before .before .before .before .args .x) (c .before .before .before .before .before .before .pre) _ _ (c .before .before .before .x5 .given .1)) _ _ (c .before .node-at .ensures) (c .node-at2 .ensures) (Use 0)
 
--- src/lib.rt:241:23
 enum-known-x-6 : tie.Need-enum-known-x-6
 enum-known-x-6 c = search needs
 
--- src/lib.rt:241:41
 node-at-requires-3 : tie.Need-node-at-requires-3
 node-at-requires-3 c κs = let h = asks-neg (c .before .before .before .before .args .list .now) (c .before .before .before .before .args .n) (c .before .before .before .before .args .x) (c .before .before .before .before .pre) _ (c .before .x6 .given .1) in omega (arith, c .before .before .before .before .pre .sound .room, h)
 
--- src/lib.rt:241:29
 neg-outcome-requires : tie.Need-neg-outcome-requires
 neg-outcome-requires c κs = at-below (c .before .before .before .before .before .args .list .now) (c .before .before .before .before .before .args .n) (c .before .before .before .before .before .pre .sound) _ _ (asks-neg (c .before .before .before .before .before .args .list .now) (c .before .before .before .before .before .args .n) (c .before .before .before .before .before .args .x) (c .before .before .before .before .before .pre) _ (c .before .before .x6 .given .1)) (c .node-at3 .ensures)
 
--- src/lib.rt:231:1
 returns : tie.Need-returns
 returns c = input-outcome (c .before .before .before .before .args .list .now) (c .before .before .before .before .args .n) (c .before .before .before .before .args .x) (c .before .before .before .before .pre) _ (c .before .x .given .1)
 
--- src/lib.rt:231:1
 returns-2 : tie.Need-returns-2
 returns-2 c = constant-outcome (c .before .before .before .before .args .list .now) (c .before .before .before .before .args .n) (c .before .before .before .before .args .x) (c .before .before .before .before .pre) _ (c .before .x2 .given .1)
 
--- src/lib.rt:231:1
 returns-3 : tie.Need-returns-3
 returns-3 c = add-outcome (c .before .before .before .before .before .args .list .now) (c .before .before .before .before .before .args .n) (c .before .before .before .before .before .args .x) (c .before .before .before .before .before .pre) _ _ _ (c .before .before .x3 .given .1) (c .add-outcome .ensures)
 
--- src/lib.rt:231:1
 returns-4 : tie.Need-returns-4
 returns-4 c = sub-outcome (c .before .before .before .before .before .args .list .now) (c .before .before .before .before .before .args .n) (c .before .before .before .before .before .args .x) (c .before .before .before .before .before .pre) _ _ _ (c .before .before .x4 .given .1) (c .sub-outcome .ensures)
 
--- src/lib.rt:231:1
 returns-5 : tie.Need-returns-5
 returns-5 c = mul-outcome (c .before .before .before .before .before .before .before .args .list .now) (c .before .before .before .before .before .before .before .args .n) (c .before .before .before .before .before .before .before .args .x) (c .before .before .before .before .before .before .before .pre) _ _ _ _ _ (c .before .before .before .before .x5 .given .1) (c .before .before .node-at .ensures) (c .before .node-at2 .ensures) (c .mul-outcome .ensures)
 
--- src/lib.rt:231:1
 returns-6 : tie.Need-returns-6
 returns-6 c = neg-outcome (c .before .before .before .before .before .before .args .list .now) (c .before .before .before .before .before .before .args .n) (c .before .before .before .before .before .before .args .x) (c .before .before .before .before .before .before .pre) _ _ _ (c .before .before .before .x6 .given .1) (c .before .node-at3 .ensures) (c .neg-outcome .ensures)
 

@@ -3,45 +3,31 @@ use Rattle.dag.specs.Told.{told}
 use borrow.Author.Needs.{needs}
 use Rattle.builder.proofs.step.Statement.{statement}
 use Rattle.builder.proofs.step.Tie as tie
-use Rattle.builder.proofs.step.Reads as reads
-use Rattle.builder.proofs.step.Lts as lts
-use Rattle.builder.proofs.enter.Reads as enter-reads
-use Rattle.builder.proofs.step_check.Reads as step-check-reads
-use Rattle.dag.proofs.decode.Reads as decode-reads
 
--- src/lib.rt:335:9
 step-check-requires : tie.Need-step-check-requires
 step-check-requires c κs = search needs
 
--- src/lib.rt:337:26
 enum-known-checked : tie.Need-enum-known-checked
 enum-known-checked c = search needs
 
--- src/lib.rt:338:32
 enum-told : tie.Need-enum-told
 enum-told c = search needs
 
--- src/lib.rt:338:41
 decode-requires : tie.Need-decode-requires
 decode-requires c κs = search needs
 
--- src/lib.rt:338:26
 enter-requires : tie.Need-enter-requires
 enter-requires c κs = rw (c .decode .ensures) (step-request (c .before .before .before .before .before .before .before .args .list .now) (c .before .before .before .before .before .before .before .args .n) (c .before .before .before .before .before .before .before .args .tag) (c .before .before .before .before .before .before .before .args .first) (c .before .before .before .before .before .before .before .args .second) (told (c .before .before .before .before .step-check .ensures) (c .before .before .enum-told .given .1)))
 
--- src/lib.rt:331:1
 same-length : tie.Need-same-length
 same-length c = search needs
 
--- src/lib.rt:331:1
 returns : tie.Need-returns
 returns c = let h = step-refused (c .before .before .before .before .before .before .args .list .now) (c .before .before .before .before .before .before .args .n) (c .before .before .before .before .before .before .args .tag) (c .before .before .before .before .before .before .args .first) (c .before .before .before .before .before .before .args .second) _ (told (c .before .before .before .step-check .ensures) (c .before .checked .given .1)) in (h .answer, h .store)
 
--- src/lib.rt:331:1
 same-length-2 : tie.Need-same-length-2
 same-length-2 c = search needs
 
--- src/lib.rt:331:1
 returns-2 : tie.Need-returns-2
 returns-2 c = let h = step-done (c .before .before .before .before .before .before .before .before .before .before .args .list .now) (c .before .before .before .before .before .before .before .before .before .before .args .n) (c .before .before .before .before .before .before .before .before .before .before .args .tag) (c .before .before .before .before .before .before .before .before .before .before .args .first) (c .before .before .before .before .before .before .before .before .before .before .args .second) _ _ (told (c .before .before .before .before .before .before .before .step-check .ensures) (c .before .before .before .before .before .enum-told .given .1)) (rw (c .before .before .before .decode .ensures) at (c .before .before .enter .ensures)) in (h .answer, h .store)
 

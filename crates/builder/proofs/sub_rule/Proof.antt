@@ -9,106 +9,74 @@ use mathlib.Core.Path.{refl, _∙_, ap, ap₂}
 use borrow.Author.Needs.{needs}
 use Rattle.builder.proofs.sub_rule.Statement.{statement}
 use Rattle.builder.proofs.sub_rule.Tie as tie
-use Rattle.builder.proofs.sub_rule.Reads as reads
-use Rattle.builder.proofs.sub_rule.Lts as lts
-use Rattle.builder.proofs.both_constant.Reads as both-constant-reads
-use Rattle.builder.proofs.element.Reads as element-reads
-use Rattle.builder.proofs.has_tag.Reads as has-tag-reads
-use Rattle.builder.proofs.is_the.Reads as is-the-reads
-use Rattle.builder.proofs.with_first.Reads as with-first-reads
-use Rattle.builder.proofs.with_second.Reads as with-second-reads
-use Rattle.dag.proofs.first_of.Reads as first-of-reads
-use Rattle.dag.proofs.second_of.Reads as second-of-reads
-use Rattle.field.proofs.QuadFelt.sub.Reads as sub-reads
 
--- src/lib.rt:128:8
 both-constant-requires : tie.Need-both-constant-requires
 both-constant-requires c κs = search needs
 
--- src/lib.rt:129:46
 element-requires : tie.Need-element-requires
 element-requires c κs = search needs
 
--- src/lib.rt:129:61
 element-requires-2 : tie.Need-element-requires-2
 element-requires-2 c κs = search needs
 
--- src/lib.rt:129:46
 sub-requires : tie.Need-sub-requires
 sub-requires c κs = let h = and-true _ _ (told (c .before .before .before .both-constant .ensures) (c .before .before .if1 .taken)) in (rw (c .before .element .ensures) (c .before .before .before .before .pre .left (h .0)), rw (c .element2 .ensures) (c .before .before .before .before .pre .right (h .1)))
 
--- src/lib.rt:129:9
 returns : tie.Need-returns
 unfolding quad Steps.subRule Steps.isSub Steps.isAdd Steps.isNeg
 returns c = into _ (told (c .before .before .before .before .both-constant .ensures) (c .before .before .before .if1 .taken)) (ap (λ e. Make (Constant e)) (c .sub .ensures .0 ∙ ap₂ (quad .sub) (c .before .before .element .ensures) (c .before .element2 .ensures)))
 
--- src/lib.rt:131:8
 is-the-requires : tie.Need-is-the-requires
 is-the-requires c κs = search needs
 
--- src/lib.rt:132:9
 returns-2 : tie.Need-returns-2
 unfolding quad Steps.subRule Steps.isSub Steps.isAdd Steps.isNeg
 returns-2 c = skip _ (told (c .before .before .before .both-constant .ensures) (c .before .before .if1 .left)) (into _ (told (c .before .is-the .ensures) (c .if2 .taken)) (refl))
 
--- src/lib.rt:135:9
 returns-3 : tie.Need-returns-3
 unfolding quad Steps.subRule Steps.isSub Steps.isAdd Steps.isNeg
 returns-3 c = skip _ (told (c .before .before .before .before .both-constant .ensures) (c .before .before .before .if1 .left)) (skip _ (told (c .before .before .is-the .ensures) (c .before .if2 .left)) (into _ (eq-eqb _ _ (c .if3 .taken)) (refl)))
 
--- src/lib.rt:137:8
 with-first-requires : tie.Need-with-first-requires
 with-first-requires c κs = search needs
 
--- src/lib.rt:138:26
 second-of-requires : tie.Need-second-of-requires
 second-of-requires c κs = search needs
 
--- src/lib.rt:138:9
 returns-4 : tie.Need-returns-4
 unfolding quad Steps.subRule Steps.isSub Steps.isAdd Steps.isNeg
 returns-4 c = skip _ (told (c .before .before .before .before .before .before .before .both-constant .ensures) (c .before .before .before .before .before .before .if1 .left)) (skip _ (told (c .before .before .before .before .before .is-the .ensures) (c .before .before .before .before .if2 .left)) (skip _ (ne-eqb _ _ (c .before .before .before .if3 .left)) (into _ (told (c .before .before .with-first .ensures) (c .before .if4 .taken)) (ap Use (c .second-of .ensures)))))
 
--- src/lib.rt:140:8
 with-second-requires : tie.Need-with-second-requires
 with-second-requires c κs = search needs
 
--- src/lib.rt:141:26
 first-of-requires : tie.Need-first-of-requires
 first-of-requires c κs = search needs
 
--- src/lib.rt:141:9
 returns-5 : tie.Need-returns-5
 unfolding quad Steps.subRule Steps.isSub Steps.isAdd Steps.isNeg
 returns-5 c = skip _ (told (c .before .before .before .before .before .before .before .before .before .both-constant .ensures) (c .before .before .before .before .before .before .before .before .if1 .left)) (skip _ (told (c .before .before .before .before .before .before .before .is-the .ensures) (c .before .before .before .before .before .before .if2 .left)) (skip _ (ne-eqb _ _ (c .before .before .before .before .before .if3 .left)) (skip _ (told (c .before .before .before .before .with-first .ensures) (c .before .before .before .if4 .left)) (into _ (told (c .before .before .with-second .ensures) (c .before .if5 .taken)) (ap Use (c .first-of .ensures))))))
 
--- src/lib.rt:143:8
 with-first-requires-2 : tie.Need-with-first-requires-2
 with-first-requires-2 c κs = search needs
 
--- src/lib.rt:144:26
 second-of-requires-2 : tie.Need-second-of-requires-2
 second-of-requires-2 c κs = search needs
 
--- src/lib.rt:144:9
 returns-6 : tie.Need-returns-6
 unfolding quad Steps.subRule Steps.isSub Steps.isAdd Steps.isNeg
 returns-6 c = skip _ (told (c .before .before .before .before .before .before .before .before .before .before .before .both-constant .ensures) (c .before .before .before .before .before .before .before .before .before .before .if1 .left)) (skip _ (told (c .before .before .before .before .before .before .before .before .before .is-the .ensures) (c .before .before .before .before .before .before .before .before .if2 .left)) (skip _ (ne-eqb _ _ (c .before .before .before .before .before .before .before .if3 .left)) (skip _ (told (c .before .before .before .before .before .before .with-first .ensures) (c .before .before .before .before .before .if4 .left)) (skip _ (told (c .before .before .before .before .with-second .ensures) (c .before .before .before .if5 .left)) (into _ (told (c .before .before .with-first2 .ensures) (c .before .if6 .taken)) (ap Use (c .second-of2 .ensures)))))))
 
--- src/lib.rt:146:8
 has-tag-requires : tie.Need-has-tag-requires
 has-tag-requires c κs = search needs
 
--- src/lib.rt:147:34
 first-of-requires-2 : tie.Need-first-of-requires-2
 first-of-requires-2 c κs = search needs
 
--- src/lib.rt:147:9
 returns-7 : tie.Need-returns-7
 unfolding quad Steps.subRule Steps.isSub Steps.isAdd Steps.isNeg
 returns-7 c = skip _ (told (c .before .before .before .before .before .before .before .before .before .before .before .before .before .both-constant .ensures) (c .before .before .before .before .before .before .before .before .before .before .before .before .if1 .left)) (skip _ (told (c .before .before .before .before .before .before .before .before .before .before .before .is-the .ensures) (c .before .before .before .before .before .before .before .before .before .before .if2 .left)) (skip _ (ne-eqb _ _ (c .before .before .before .before .before .before .before .before .before .if3 .left)) (skip _ (told (c .before .before .before .before .before .before .before .before .with-first .ensures) (c .before .before .before .before .before .before .before .if4 .left)) (skip _ (told (c .before .before .before .before .before .before .with-second .ensures) (c .before .before .before .before .before .if5 .left)) (skip _ (told (c .before .before .before .before .with-first2 .ensures) (c .before .before .before .if6 .left)) (into _ (told (c .before .before .has-tag .ensures) (c .before .if7 .taken)) (ap (HandOver (c .before .before .before .before .before .before .before .before .before .before .before .before .before .before .args .a)) (c .first-of2 .ensures))))))))
 
--- src/lib.rt:124:1
 returns-8 : tie.Need-returns-8
 unfolding quad Steps.subRule Steps.isSub Steps.isAdd Steps.isNeg
 returns-8 c = skip _ (told (c .before .before .before .before .before .before .before .before .before .before .before .before .both-constant .ensures) (c .before .before .before .before .before .before .before .before .before .before .before .if1 .left)) (skip _ (told (c .before .before .before .before .before .before .before .before .before .before .is-the .ensures) (c .before .before .before .before .before .before .before .before .before .if2 .left)) (skip _ (ne-eqb _ _ (c .before .before .before .before .before .before .before .before .if3 .left)) (skip _ (told (c .before .before .before .before .before .before .before .with-first .ensures) (c .before .before .before .before .before .before .if4 .left)) (skip _ (told (c .before .before .before .before .before .with-second .ensures) (c .before .before .before .before .if5 .left)) (skip _ (told (c .before .before .before .with-first2 .ensures) (c .before .before .if6 .left)) (skip _ (told (c .before .has-tag .ensures) (c .if7 .left)) (refl)))))))

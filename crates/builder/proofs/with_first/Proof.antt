@@ -1,29 +1,20 @@
 use Rattle.dag.specs.Told.{and-when, and-never}
 use lib.Dec.{eqb}
-use Rattle.builder.specs.Steps as Steps
 use Rattle.dag.specs.Told.{told}
-use mathlib.Core.Path.{_∙_, ap, ap₂}
+use mathlib.Core.Path.{_∙_, ap}
 use borrow.Author.Needs.{needs}
 use Rattle.builder.proofs.with_first.Statement.{statement}
 use Rattle.builder.proofs.with_first.Tie as tie
-use Rattle.builder.proofs.with_first.Reads as reads
-use Rattle.builder.proofs.with_first.Lts as lts
-use Rattle.builder.proofs.has_tag.Reads as has-tag-reads
-use Rattle.dag.proofs.first_of.Reads as first-of-reads
 
--- src/lib.rt:63:8
 has-tag-requires : tie.Need-has-tag-requires
 has-tag-requires c κs = search needs
 
--- src/lib.rt:63:24
 first-of-requires : tie.Need-first-of-requires
 first-of-requires c κs = search needs
 
--- src/lib.rt:60:1
 returns : tie.Need-returns
 returns c = ap (λ w. eqb w (c .before .before .before .args .a)) (c .first-of .ensures) ∙ and-when (told (c .before .before .has-tag .ensures) (c .before .if1 .taken))
 
--- src/lib.rt:60:1
 returns-2 : tie.Need-returns-2
 returns-2 c = and-never (told (c .before .has-tag .ensures) (c .if1 .left)) _
 

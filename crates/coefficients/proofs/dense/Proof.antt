@@ -1,6 +1,6 @@
 -- The invariant: the coefficients before j are filled, and x is step^j.
 use Prim.Native.Nat.{_-_, _≤_, _<_}
-use mathlib.Core.Path.{_≡_, refl, sym, _∙_, ap}
+use mathlib.Core.Path.{_≡_, refl}
 use native.Mathlib.Nat.{lt-of-lt-of-le}
 use native.Mathlib.Omega.{arith}
 use borrow.Author.Needs.{needs}
@@ -16,12 +16,6 @@ use Rattle.coefficients.specs.Arrays as Arrays
 use Rattle.coefficients.specs.TermLaws.{dense-told, pow-start, pow-next}
 use Rattle.coefficients.proofs.dense.Statement.{statement}
 use Rattle.coefficients.proofs.dense.Tie as tie
-use Rattle.coefficients.proofs.dense.Reads as reads
-use Rattle.coefficients.proofs.dense.Lts as lts
-use Rattle.coefficients.proofs.horner.Reads as horner-reads
-use Rattle.coefficients.proofs.root_inverse.Reads as root-inverse-reads
-use Rattle.coefficients.proofs.size_inverse.Reads as size-inverse-reads
-use Rattle.field.proofs.felt.mul.Reads as mul-reads
 
 abbrev Inv-loop : tie.InvT-loop
 Inv-loop col scale step x₀ coefficients₀ j₀ x coefficients j = (j ≤ length col) × (coefficients ≡ Prepare.padded 0 128 (Prepare.upTo (Terms.dense felt generator half col) j)) × (x ≡ pow felt step j) × (x < p)

@@ -1,8 +1,7 @@
 -- The invariant: the value of the coefficients from place i on.
 use Prim.Native.Nat.{_≤_, _<_}
-use mathlib.Core.Path.{_≡_, refl}
+use mathlib.Core.Path.{_≡_}
 use native.Mathlib.Omega.{arith}
-use borrow.Author.Needs.{needs}
 use lib.Dec.{lit<}
 use lib.ListN.{length, drop}
 use Rattle.field.specs.Field.{p, felt}
@@ -11,10 +10,6 @@ use Rattle.coefficients.specs.Arrays as Arrays
 use Rattle.coefficients.specs.TermLaws.{horner-start, horner-down, horner-end}
 use Rattle.coefficients.proofs.horner.Statement.{statement}
 use Rattle.coefficients.proofs.horner.Tie as tie
-use Rattle.coefficients.proofs.horner.Reads as reads
-use Rattle.coefficients.proofs.horner.Lts as lts
-use Rattle.field.proofs.felt.add.Reads as add-reads
-use Rattle.field.proofs.felt.mul.Reads as mul-reads
 
 abbrev Inv-loop : tie.InvT-loop
 Inv-loop col x value₀ i₀ value i = (i ≤ length col) × (value ≡ Arrays.horner felt x (drop i col)) × (value < p)

@@ -1,4 +1,4 @@
-use mathlib.Core.Path.{_≡_, refl, sym, _∙_, ap}
+use mathlib.Core.Path.{_∙_, ap}
 use Rattle.ring.specs.Power.{pow}
 use Rattle.field.specs.Field.{felt}
 use Rattle.field.specs.Generators.{generator}
@@ -6,11 +6,6 @@ use Rattle.coefficients.specs.Terms as Terms
 use borrow.Author.Needs.{needs}
 use Rattle.coefficients.proofs.root.Statement.{statement}
 use Rattle.coefficients.proofs.root.Tie as tie
-use Rattle.coefficients.proofs.root.Reads as reads
-use Rattle.coefficients.proofs.root.Lts as lts
-use Rattle.columns.proofs.log_length.Reads as log-length-reads
-use Rattle.field.proofs.felt.pow.Reads as pow-reads
-use Rattle.field.proofs.felt.two_adic_generator.Reads as two-adic-generator-reads
 
 log-length-requires : tie.Need-log-length-requires
 log-length-requires c κs = search needs

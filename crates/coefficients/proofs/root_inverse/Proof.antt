@@ -2,9 +2,6 @@ use Rattle.coefficients.specs.Terms as Terms
 use borrow.Author.Needs.{needs}
 use Rattle.coefficients.proofs.root_inverse.Statement.{statement}
 use Rattle.coefficients.proofs.root_inverse.Tie as tie
-use Rattle.coefficients.proofs.root_inverse.Reads as reads
-use Rattle.coefficients.proofs.root_inverse.Lts as lts
-use Rattle.coefficients.proofs.root.Reads as root-reads
 
 sub-root : tie.Need-sub-root
 sub-root c = search needs

@@ -1,4 +1,4 @@
-use mathlib.Core.Path.{_≡_, refl, sym, _∙_, ap}
+use mathlib.Core.Path.{_∙_, ap}
 use Rattle.ring.specs.Power.{pow}
 use Rattle.field.specs.Field.{felt}
 use Rattle.field.specs.Generators.{half}
@@ -6,10 +6,6 @@ use Rattle.coefficients.specs.Terms as Terms
 use borrow.Author.Needs.{needs}
 use Rattle.coefficients.proofs.size_inverse.Statement.{statement}
 use Rattle.coefficients.proofs.size_inverse.Tie as tie
-use Rattle.coefficients.proofs.size_inverse.Reads as reads
-use Rattle.coefficients.proofs.size_inverse.Lts as lts
-use Rattle.columns.proofs.log_length.Reads as log-length-reads
-use Rattle.field.proofs.felt.pow.Reads as pow-reads
 
 log-length-requires : tie.Need-log-length-requires
 log-length-requires c κs = search needs

@@ -1,12 +1,12 @@
 use lib.ListN.{getD}
 -- The invariant: the rows before k are filled.
 use Prim.Native.Nat.{_-_, _≤_}
-use mathlib.Core.Path.{_≡_, refl, sym, _∙_, ap}
+use mathlib.Core.Path.{_≡_, refl, sym, ap}
 use native.Mathlib.Nat.{lt-of-lt-of-le}
 use native.Mathlib.Omega.{arith}
 use borrow.Author.Needs.{needs}
 use lib.ListN.{length, replicate}
-use Rattle.field.specs.Field.{p, felt}
+use Rattle.field.specs.Field.{felt}
 use Rattle.field.specs.Generators.{generator, half}
 use Rattle.columns.specs.Prepare as Prepare
 use Rattle.columns.specs.ArrayLaws.{fill-next, fill-all}
@@ -14,12 +14,6 @@ use Rattle.coefficients.specs.Arrays as Arrays
 use Rattle.coefficients.specs.TermLaws.{row-told}
 use Rattle.coefficients.proofs.sparse_twiddles.Statement.{statement}
 use Rattle.coefficients.proofs.sparse_twiddles.Tie as tie
-use Rattle.coefficients.proofs.sparse_twiddles.Reads as reads
-use Rattle.coefficients.proofs.sparse_twiddles.Lts as lts
-use Rattle.coefficients.proofs.root_inverse.Reads as root-inverse-reads
-use Rattle.coefficients.proofs.squares.Reads as squares-reads
-use Rattle.columns.proofs.log_length.Reads as log-length-reads
-use Rattle.field.proofs.felt.pow.Reads as pow-reads
 
 abbrev Inv-loop : tie.InvT-loop
 Inv-loop col places step log rows₀ k₀ rows k = (k ≤ length places) × (rows ≡ Prepare.padded (replicate 7 0) 11 (Prepare.upTo (Arrays.twiddles felt generator half col) k))

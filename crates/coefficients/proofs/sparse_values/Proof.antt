@@ -1,6 +1,6 @@
 -- The invariant: the places before k are filled.
 use Prim.Native.Nat.{_-_, _≤_}
-use mathlib.Core.Path.{_≡_, refl, sym, _∙_, ap, ap₂}
+use mathlib.Core.Path.{_≡_, refl, sym, ap}
 use native.Mathlib.Nat.{lt-of-lt-of-le}
 use native.Mathlib.Omega.{arith}
 use borrow.Author.Needs.{needs}
@@ -16,10 +16,6 @@ use Rattle.coefficients.specs.Arrays as Arrays
 use Rattle.coefficients.specs.TermLaws.{support-inside, value-told}
 use Rattle.coefficients.proofs.sparse_values.Statement.{statement}
 use Rattle.coefficients.proofs.sparse_values.Tie as tie
-use Rattle.coefficients.proofs.sparse_values.Reads as reads
-use Rattle.coefficients.proofs.sparse_values.Lts as lts
-use Rattle.coefficients.proofs.size_inverse.Reads as size-inverse-reads
-use Rattle.field.proofs.felt.mul.Reads as mul-reads
 
 abbrev Inv-loop : tie.InvT-loop
 Inv-loop col places scale values₀ k₀ values k = (k ≤ length places) × (values ≡ Prepare.padded 0 11 (Prepare.upTo (λ i. Terms.scaledValue felt generator half col (getD (Columns.support col) i 0)) k))

@@ -1,6 +1,6 @@
 -- The invariant: the places before i are filled, and power is the next entry.
 use Prim.Native.Nat.{_-_, _^_, _≤_, _<_}
-use mathlib.Core.Path.{_≡_, refl, sym, _∙_, ap}
+use mathlib.Core.Path.{_≡_, refl}
 use native.Mathlib.Nat.{lt-of-lt-of-le}
 use native.Mathlib.Omega.{arith}
 use Rattle.ring.specs.Power.{pow}
@@ -11,9 +11,6 @@ use Rattle.coefficients.specs.Arrays as Arrays
 use Rattle.coefficients.specs.TermLaws.{square-start, square-next}
 use Rattle.coefficients.proofs.squares.Statement.{statement}
 use Rattle.coefficients.proofs.squares.Tie as tie
-use Rattle.coefficients.proofs.squares.Reads as reads
-use Rattle.coefficients.proofs.squares.Lts as lts
-use Rattle.field.proofs.felt.mul.Reads as mul-reads
 
 abbrev Inv-loop : tie.InvT-loop
 Inv-loop base log row₀ power₀ i₀ row power i = (i ≤ log) × (row ≡ Prepare.padded 0 7 (Prepare.upTo (λ k. pow felt base (2 ^ k)) i)) × (power ≡ pow felt base (2 ^ i)) × (power < p)

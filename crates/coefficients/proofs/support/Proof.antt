@@ -12,9 +12,6 @@ use Rattle.columns.specs.Columns as Columns
 use Rattle.coefficients.specs.TermLaws.{place-next, place-room, place-end}
 use Rattle.coefficients.proofs.support.Statement.{statement}
 use Rattle.coefficients.proofs.support.Tie as tie
-use Rattle.coefficients.proofs.support.Reads as reads
-use Rattle.coefficients.proofs.support.Lts as lts
-use Rattle.coefficients.proofs.with_place.Reads as with-place-reads
 
 abbrev Inv-loop : tie.InvT-loop
 Inv-loop col store₀ n₀ j₀ store n j = (j ≤ length col) × (n ≤ length store₀) × (length store ≡ length store₀) × (take n store ++ Columns.placesFrom (λ v. not (eqb v 0)) j (drop j col) ≡ Columns.support col)

@@ -3,8 +3,6 @@ use Rattle.coefficients.specs.TermLaws.{place-none, place-one}
 use borrow.Author.Needs.{needs}
 use Rattle.coefficients.proofs.with_place.Statement.{statement}
 use Rattle.coefficients.proofs.with_place.Tie as tie
-use Rattle.coefficients.proofs.with_place.Reads as reads
-use Rattle.coefficients.proofs.with_place.Lts as lts
 
 returns : tie.Need-returns
 returns c = (place-none (c .before .args .store .now) (c .before .args .n) (c .before .args .j) _ (c .if1 .taken), c .before .pre .0)

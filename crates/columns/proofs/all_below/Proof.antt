@@ -8,8 +8,6 @@ use Rattle.columns.specs.Prepare as Prepare
 use Rattle.columns.specs.PrepareLaws.{below-next, below-stop, below-end}
 use Rattle.columns.proofs.all_below.Statement.{statement}
 use Rattle.columns.proofs.all_below.Tie as tie
-use Rattle.columns.proofs.all_below.Reads as reads
-use Rattle.columns.proofs.all_below.Lts as lts
 
 abbrev Inv-loop : tie.InvT-loop
 Inv-loop col i₀ i = (i ≤ length col) × (Prepare.allBelow p (drop i col) ≡ Prepare.allBelow p col)

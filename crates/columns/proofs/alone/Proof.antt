@@ -2,9 +2,6 @@ use Rattle.dag.specs.Told.{told}
 use borrow.Author.Needs.{needs}
 use Rattle.columns.proofs.alone.Statement.{statement}
 use Rattle.columns.proofs.alone.Tie as tie
-use Rattle.columns.proofs.alone.Reads as reads
-use Rattle.columns.proofs.alone.Lts as lts
-use Rattle.columns.proofs.is_sparse.Reads as is-sparse-reads
 
 is-sparse-requires : tie.Need-is-sparse-requires
 is-sparse-requires c κs = search needs

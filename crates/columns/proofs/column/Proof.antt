@@ -1,12 +1,8 @@
 use native.Mathlib.Omega.{arith}
-use mathlib.Core.Path.{_≡_, refl, sym, _∙_, ap}
 use Rattle.columns.specs.ColumnLaws.{ends, column-part}
 use borrow.Author.Needs.{needs}
 use Rattle.columns.proofs.column.Statement.{statement}
 use Rattle.columns.proofs.column.Tie as tie
-use Rattle.columns.proofs.column.Reads as reads
-use Rattle.columns.proofs.column.Lts as lts
-use Rattle.columns.proofs.start.Reads as start-reads
 
 start-requires : tie.Need-start-requires
 start-requires c κs = search needs

@@ -1,18 +1,12 @@
-use mathlib.Core.Path.{_≡_, refl, sym, _∙_, ap}
+use mathlib.Core.Path.{_∙_}
 use borrow.Author.Tests.{not-true, not-false}
 use Rattle.field.specs.Field.{p}
 use Rattle.dag.specs.Told.{told}
-use Rattle.columns.specs.Columns as Columns
 use Rattle.columns.specs.PrepareLaws.{column-short}
 use Rattle.columns.specs.SavingLaws.{weighed-asks, weighed-room, weighed-alone, weighed-dear, weighed-basis}
 use borrow.Author.Needs.{needs}
 use Rattle.columns.proofs.column_form.Statement.{statement}
 use Rattle.columns.proofs.column_form.Tie as tie
-use Rattle.columns.proofs.column_form.Reads as reads
-use Rattle.columns.proofs.column_form.Lts as lts
-use Rattle.columns.proofs.alone.Reads as alone-reads
-use Rattle.columns.proofs.column.Reads as column-reads
-use Rattle.columns.proofs.goes_over.Reads as goes-over-reads
 
 mul-goes-over : tie.Need-mul-goes-over
 mul-goes-over c = search needs

@@ -1,17 +1,10 @@
 use Rattle.columns.specs.ClassLaws.{below-values, cost-zero, cost-offset}
 use native.Mathlib.Omega.{arith}
-use mathlib.Core.Path.{_≡_, refl, sym, _∙_, ap, subst}
-use borrow.Author.Tests.{eq-eqb, ne-eqb}
 use lib.Dec.{lit<}
 use Rattle.field.specs.Field.{p}
 use borrow.Author.Needs.{needs}
 use Rattle.columns.proofs.combination_cost.Statement.{statement}
 use Rattle.columns.proofs.combination_cost.Tie as tie
-use Rattle.columns.proofs.combination_cost.Reads as reads
-use Rattle.columns.proofs.combination_cost.Lts as lts
-use Rattle.columns.proofs.less.Reads as less-reads
-use Rattle.columns.proofs.others.Reads as others-reads
-use Rattle.columns.proofs.scalings.Reads as scalings-reads
 
 others-requires : tie.Need-others-requires
 others-requires c κs = search needs

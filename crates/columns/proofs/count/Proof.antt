@@ -1,15 +1,13 @@
 -- The invariant: what is counted so far, with the count of the rest, is the whole count.
 use Prim.Native.Nat.{_+_, _-_, _≤_}
 use mathlib.Core.Logic.{⊎-elim}
-use mathlib.Core.Path.{_≡_, refl}
+use mathlib.Core.Path.{_≡_}
 use native.Mathlib.Omega.{arith}
 use lib.ListN.{length, drop}
 use Rattle.columns.specs.Columns as Columns
 use Rattle.columns.specs.CountLaws.{count-hit, count-miss, count-end}
 use Rattle.columns.proofs.count.Statement.{statement}
 use Rattle.columns.proofs.count.Tie as tie
-use Rattle.columns.proofs.count.Reads as reads
-use Rattle.columns.proofs.count.Lts as lts
 
 abbrev Inv-loop : tie.InvT-loop
 Inv-loop list v n₀ i₀ n i = (n ≤ i) × (i ≤ length list) × (n + Columns.count v (drop i list) ≡ Columns.count v list)

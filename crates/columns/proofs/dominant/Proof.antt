@@ -1,6 +1,6 @@
 -- The invariant: the heaviest so far, with the values left, gives the heaviest of all.
 use Prim.Native.Nat.{_-_, _≤_}
-use mathlib.Core.Path.{_≡_, refl, sym, _∙_}
+use mathlib.Core.Path.{_≡_, refl}
 use native.Mathlib.Omega.{arith}
 use borrow.Author.Needs.{needs}
 use lib.ListN.{length, drop}
@@ -8,9 +8,6 @@ use Rattle.columns.specs.Columns as Columns
 use Rattle.columns.specs.ClassLaws.{heaviest-next, heaviest-end}
 use Rattle.columns.proofs.dominant.Statement.{statement}
 use Rattle.columns.proofs.dominant.Tie as tie
-use Rattle.columns.proofs.dominant.Reads as reads
-use Rattle.columns.proofs.dominant.Lts as lts
-use Rattle.columns.proofs.heavier.Reads as heavier-reads
 
 abbrev Inv-loop : tie.InvT-loop
 Inv-loop col values d₀ i₀ d i = (i ≤ length values) × (Columns.heaviest col d (drop i values) ≡ Columns.heaviest col 0 values)

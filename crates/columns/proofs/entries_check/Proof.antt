@@ -1,7 +1,7 @@
 use borrow.Author.Tests.{not-true, not-false}
 -- The invariant: the columns before place j are good.
 use Prim.Native.Nat.{_-_, _≤_}
-use mathlib.Core.Path.{_≡_, refl, sym, _∙_, ap}
+use mathlib.Core.Path.{_≡_, sym, _∙_, ap}
 use native.Mathlib.Omega.{arith}
 use borrow.Author.Needs.{needs}
 use lib.ListN.{length}
@@ -12,10 +12,6 @@ use Rattle.columns.specs.Prepare as Prepare
 use Rattle.columns.specs.PrepareLaws.{first-none, first-next, first-stop, first-all, entries-good, entries-bad}
 use Rattle.columns.proofs.entries_check.Statement.{statement}
 use Rattle.columns.proofs.entries_check.Tie as tie
-use Rattle.columns.proofs.entries_check.Reads as reads
-use Rattle.columns.proofs.entries_check.Lts as lts
-use Rattle.columns.proofs.all_below.Reads as all-below-reads
-use Rattle.columns.proofs.column.Reads as column-reads
 
 abbrev Inv-loop : tie.InvT-loop
 Inv-loop lengths entries j₀ j = (j ≤ length lengths) × (Prepare.firstOf (Prepare.entriesCheck p (Prepare.columns lengths entries)) j ≡ Good)

@@ -13,12 +13,6 @@ use Rattle.columns.specs.ColumnLaws.{length-columns}
 use Rattle.columns.specs.ArrayLaws.{fill-next, fill-all}
 use Rattle.columns.proofs.forms.Statement.{statement}
 use Rattle.columns.proofs.forms.Tie as tie
-use Rattle.columns.proofs.forms.Reads as reads
-use Rattle.columns.proofs.forms.Lts as lts
-use Rattle.columns.proofs.column_form.Reads as column-form-reads
-use Rattle.columns.proofs.form_number.Reads as form-number-reads
-use Rattle.columns.proofs.gains.Reads as gains-reads
-use Rattle.columns.proofs.savings_each.Reads as savings-each-reads
 
 abbrev Inv-loop : tie.InvT-loop
 Inv-loop lengths entries gains each forms₀ j₀ forms j = (j ≤ length lengths) × (forms ≡ Prepare.padded 0 16 (Prepare.upTo (λ i. Columns.formNumber (Columns.form p (Prepare.columns lengths entries) i)) j))

@@ -1,4 +1,4 @@
-use mathlib.Core.Path.{_≡_, refl, sym, _∙_}
+use mathlib.Core.Path.{sym, _∙_}
 use native.Mathlib.Omega.{arith}
 use lib.Seq.{length-take-le}
 use Rattle.dag.specs.Told.{told}
@@ -6,14 +6,6 @@ use Rattle.columns.specs.ClassLaws.{gain-equal, gain-told}
 use borrow.Author.Needs.{needs}
 use Rattle.columns.proofs.gain.Statement.{statement}
 use Rattle.columns.proofs.gain.Tie as tie
-use Rattle.columns.proofs.gain.Reads as reads
-use Rattle.columns.proofs.gain.Lts as lts
-use Rattle.columns.proofs.combination_cost.Reads as combination-cost-reads
-use Rattle.columns.proofs.less.Reads as less-reads
-use Rattle.columns.proofs.offset.Reads as offset-reads
-use Rattle.columns.proofs.others.Reads as others-reads
-use Rattle.columns.proofs.standalone.Reads as standalone-reads
-use Rattle.columns.proofs.values.Reads as values-reads
 
 shared-slice-read-others : tie.Need-shared-slice-read-others
 shared-slice-read-others c = search needs

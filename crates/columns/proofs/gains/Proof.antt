@@ -2,9 +2,8 @@ use Rattle.columns.specs.ArrayLaws.{fill-all}
 use native.Mathlib.Nat.{lt-of-lt-of-le}
 -- The invariant: the places before j are filled.
 use Prim.Native.Nat.{_-_, _≤_}
-use mathlib.Core.Path.{_≡_, refl, sym, _∙_, ap}
+use mathlib.Core.Path.{_≡_, refl, _∙_, ap}
 use native.Mathlib.Omega.{arith}
-use borrow.Author.Needs.{needs}
 use lib.ListN.{length}
 use Rattle.field.specs.Field.{p}
 use Rattle.columns.specs.Columns as Columns
@@ -15,10 +14,6 @@ use Rattle.columns.specs.ArrayLaws.{fill-next}
 use Rattle.columns.specs.PrepareLaws.{tested-column}
 use Rattle.columns.proofs.gains.Statement.{statement}
 use Rattle.columns.proofs.gains.Tie as tie
-use Rattle.columns.proofs.gains.Reads as reads
-use Rattle.columns.proofs.gains.Lts as lts
-use Rattle.columns.proofs.column.Reads as column-reads
-use Rattle.columns.proofs.gain.Reads as gain-reads
 
 abbrev Inv-loop : tie.InvT-loop
 Inv-loop lengths entries gains₀ j₀ gains j = (j ≤ length lengths) × (gains ≡ Prepare.padded 0 16 (Prepare.upTo (λ i. Columns.gain p (Columns.column (Prepare.columns lengths entries) i)) j))

@@ -2,9 +2,6 @@ use Rattle.columns.specs.SavingLaws.{over-short, over-told}
 use borrow.Author.Needs.{needs}
 use Rattle.columns.proofs.goes_over.Statement.{statement}
 use Rattle.columns.proofs.goes_over.Tie as tie
-use Rattle.columns.proofs.goes_over.Reads as reads
-use Rattle.columns.proofs.goes_over.Lts as lts
-use Rattle.columns.proofs.savings.Reads as savings-reads
 
 returns : tie.Need-returns
 returns c = over-short _ _ _ (c .if1 .taken)

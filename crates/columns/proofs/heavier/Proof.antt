@@ -2,9 +2,6 @@ use borrow.Author.Tests.{le-leb, lt-leb}
 use borrow.Author.Needs.{needs}
 use Rattle.columns.proofs.heavier.Statement.{statement}
 use Rattle.columns.proofs.heavier.Tie as tie
-use Rattle.columns.proofs.heavier.Reads as reads
-use Rattle.columns.proofs.heavier.Lts as lts
-use Rattle.columns.proofs.weight.Reads as weight-reads
 
 weight-requires : tie.Need-weight-requires
 weight-requires c κs = search needs

@@ -1,12 +1,9 @@
-use mathlib.Core.Path.{_≡_, refl, sym, _∙_, ap}
+use mathlib.Core.Path.{ap}
 use lib.Dec.{eqb}
 use Rattle.columns.specs.Columns as Columns
 use borrow.Author.Needs.{needs}
 use Rattle.columns.proofs.is_power.Statement.{statement}
 use Rattle.columns.proofs.is_power.Tie as tie
-use Rattle.columns.proofs.is_power.Reads as reads
-use Rattle.columns.proofs.is_power.Lts as lts
-use Rattle.columns.proofs.power_within.Reads as power-within-reads
 
 power-within-requires : tie.Need-power-within-requires
 power-within-requires c κs = search needs

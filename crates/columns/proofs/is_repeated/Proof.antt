@@ -1,6 +1,6 @@
 -- The invariant: an equal column among the first i is one among the first j.
-use Prim.Native.Nat.{_-_, _≤_}
-use mathlib.Core.Path.{_≡_, refl, sym, _∙_, ap, ap₂}
+use Prim.Native.Nat.{_≤_}
+use mathlib.Core.Path.{_≡_, refl, sym, _∙_, ap₂}
 use native.Mathlib.Omega.{arith}
 use borrow.Author.Needs.{needs}
 use Rattle.dag.specs.Told.{told}
@@ -9,10 +9,6 @@ use Rattle.columns.specs.Prepare as Prepare
 use Rattle.columns.specs.ColumnLaws.{among-hit, among-on, among-none}
 use Rattle.columns.proofs.is_repeated.Statement.{statement}
 use Rattle.columns.proofs.is_repeated.Tie as tie
-use Rattle.columns.proofs.is_repeated.Reads as reads
-use Rattle.columns.proofs.is_repeated.Lts as lts
-use Rattle.columns.proofs.column.Reads as column-reads
-use Rattle.columns.proofs.same.Reads as same-reads
 
 abbrev Inv-loop : tie.InvT-loop
 Inv-loop lengths entries j i₀ i = (i ≤ j) × (Columns.isAmong (Prepare.columns lengths entries) j i ≡ Columns.isAmong (Prepare.columns lengths entries) j j)

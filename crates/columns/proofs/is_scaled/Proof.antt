@@ -1,12 +1,9 @@
 use Rattle.columns.specs.CostLaws.{unit-told, scaled-told}
-use borrow.Author.Tests.{eq-eqb, ne-eqb}
+use borrow.Author.Tests.{eq-eqb}
 use Rattle.columns.specs.Columns as Columns
 use borrow.Author.Needs.{needs}
 use Rattle.columns.proofs.is_scaled.Statement.{statement}
 use Rattle.columns.proofs.is_scaled.Tie as tie
-use Rattle.columns.proofs.is_scaled.Reads as reads
-use Rattle.columns.proofs.is_scaled.Lts as lts
-use Rattle.field.proofs.felt.sub.Reads as sub-reads
 
 returns : tie.Need-returns
 unfolding Columns.isScaled

@@ -1,18 +1,11 @@
 use Rattle.columns.specs.CostLaws.{sparse-told}
 use native.Mathlib.Omega.{arith}
-use borrow.Author.Tests.{eq-eqb, ne-eqb}
+use borrow.Author.Tests.{eq-eqb}
 use Rattle.dag.specs.Told.{told}
 use Rattle.columns.specs.Columns as Columns
-use Rattle.columns.specs.CostLaws.{log-length-le}
 use borrow.Author.Needs.{needs}
 use Rattle.columns.proofs.is_sparse.Statement.{statement}
 use Rattle.columns.proofs.is_sparse.Tie as tie
-use Rattle.columns.proofs.is_sparse.Reads as reads
-use Rattle.columns.proofs.is_sparse.Lts as lts
-use Rattle.columns.proofs.dense_ops.Reads as dense-ops-reads
-use Rattle.columns.proofs.log_length.Reads as log-length-reads
-use Rattle.columns.proofs.others.Reads as others-reads
-use Rattle.columns.proofs.sparse_ops.Reads as sparse-ops-reads
 
 others-requires : tie.Need-others-requires
 others-requires c κs = search needs

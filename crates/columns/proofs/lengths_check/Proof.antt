@@ -1,7 +1,7 @@
 use borrow.Author.Tests.{not-true, not-false}
 -- The invariant: the lengths before place i are good.
 use Prim.Native.Nat.{_-_, _≤_}
-use mathlib.Core.Path.{_≡_, refl}
+use mathlib.Core.Path.{_≡_}
 use native.Mathlib.Omega.{arith}
 use borrow.Author.Needs.{needs}
 use lib.ListN.{length}
@@ -11,9 +11,6 @@ use Rattle.columns.specs.Prepare as Prepare
 use Rattle.columns.specs.PrepareLaws.{first-none, first-next, first-stop, first-all, length-good, length-bad}
 use Rattle.columns.proofs.lengths_check.Statement.{statement}
 use Rattle.columns.proofs.lengths_check.Tie as tie
-use Rattle.columns.proofs.lengths_check.Reads as reads
-use Rattle.columns.proofs.lengths_check.Lts as lts
-use Rattle.columns.proofs.is_power.Reads as is-power-reads
 
 abbrev Inv-loop : tie.InvT-loop
 Inv-loop lengths i₀ i = (i ≤ length lengths) × (Prepare.firstOf (Prepare.lengthCheck lengths) i ≡ Good)

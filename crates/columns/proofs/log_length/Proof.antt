@@ -1,14 +1,10 @@
 use lib.ListN.{length}
 use Rattle.columns.specs.LogLaws.{log-le}
-use Rattle.columns.specs.CostLaws.{log-length-le}
 use native.Mathlib.Nat.{le-of-eq, le-trans}
 use Rattle.columns.specs.Columns as Columns
 use borrow.Author.Needs.{needs}
 use Rattle.columns.proofs.log_length.Statement.{statement}
 use Rattle.columns.proofs.log_length.Tie as tie
-use Rattle.columns.proofs.log_length.Reads as reads
-use Rattle.columns.proofs.log_length.Lts as lts
-use Rattle.columns.proofs.power_within.Reads as power-within-reads
 
 power-within-requires : tie.Need-power-within-requires
 power-within-requires c κs = search needs

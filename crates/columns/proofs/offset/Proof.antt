@@ -4,10 +4,6 @@ use Rattle.columns.specs.ClassLaws.{dominant-below, offset-dominant, off
 use borrow.Author.Needs.{needs}
 use Rattle.columns.proofs.offset.Statement.{statement}
 use Rattle.columns.proofs.offset.Tie as tie
-use Rattle.columns.proofs.offset.Reads as reads
-use Rattle.columns.proofs.offset.Lts as lts
-use Rattle.columns.proofs.combination_cost.Reads as combination-cost-reads
-use Rattle.columns.proofs.dominant.Reads as dominant-reads
 
 dominant-requires : tie.Need-dominant-requires
 dominant-requires c κs = search needs

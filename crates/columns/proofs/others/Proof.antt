@@ -3,9 +3,6 @@ use Rattle.columns.specs.CountLaws.{count-le}
 use borrow.Author.Needs.{needs}
 use Rattle.columns.proofs.others.Statement.{statement}
 use Rattle.columns.proofs.others.Tie as tie
-use Rattle.columns.proofs.others.Reads as reads
-use Rattle.columns.proofs.others.Lts as lts
-use Rattle.columns.proofs.count.Reads as count-reads
 
 count-requires : tie.Need-count-requires
 count-requires c κs = search needs

@@ -8,8 +8,6 @@ use Rattle.columns.specs.Columns as Columns
 use Rattle.columns.specs.LogLaws.{double, log-more, log-end, log-top}
 use Rattle.columns.proofs.power_within.Statement.{statement}
 use Rattle.columns.proofs.power_within.Tie as tie
-use Rattle.columns.proofs.power_within.Reads as reads
-use Rattle.columns.proofs.power_within.Lts as lts
 
 abbrev Inv-loop : tie.InvT-loop
 Inv-loop most n log₀ value₀ log value = (log ≤ most) × (value ≡ 2 ^ log) × (Columns.logWithin log n ≡ log) × (value ≤ 2 ^ 32)

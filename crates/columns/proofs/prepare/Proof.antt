@@ -1,16 +1,10 @@
 use Rattle.columns.specs.PrepareLaws.{prepare-refused, prepare-good}
-use mathlib.Core.Path.{_≡_, refl, sym, _∙_, ap}
 use borrow.Author.Needs.{needs}
 use Rattle.dag.specs.CheckLaws.{good-told, bad-told}
 use Rattle.columns.specs.Prepare as Prepare
 use Rattle.columns.specs.PrepareLaws.{prepared}
 use Rattle.columns.proofs.prepare.Statement.{statement}
 use Rattle.columns.proofs.prepare.Tie as tie
-use Rattle.columns.proofs.prepare.Reads as reads
-use Rattle.columns.proofs.prepare.Lts as lts
-use Rattle.columns.proofs.forms.Reads as forms-reads
-use Rattle.columns.proofs.prepare_check.Reads as prepare-check-reads
-use Rattle.dag.proofs.is_refused.Reads as is-refused-reads
 
 prepare-check-requires : tie.Need-prepare-check-requires
 prepare-check-requires c κs = search needs

@@ -1,19 +1,12 @@
 use Rattle.field.specs.Field.{p}
 use Rattle.columns.specs.PrepareLaws.{lengths-small, check-lengths, check-store, check-handed, check-entries}
 use native.Mathlib.Omega.{arith}
-use mathlib.Core.Path.{_≡_, refl, sym, _∙_, ap}
-use borrow.Author.Tests.{le-leb, lt-leb}
+use borrow.Author.Tests.{lt-leb}
 use Rattle.dag.specs.CheckLaws.{good-told, bad-told}
 use Rattle.columns.specs.Prepare as Prepare
 use borrow.Author.Needs.{needs}
 use Rattle.columns.proofs.prepare_check.Statement.{statement}
 use Rattle.columns.proofs.prepare_check.Tie as tie
-use Rattle.columns.proofs.prepare_check.Reads as reads
-use Rattle.columns.proofs.prepare_check.Lts as lts
-use Rattle.columns.proofs.entries_check.Reads as entries-check-reads
-use Rattle.columns.proofs.lengths_check.Reads as lengths-check-reads
-use Rattle.columns.proofs.start.Reads as start-reads
-use Rattle.dag.proofs.is_refused.Reads as is-refused-reads
 
 returns : tie.Need-returns
 unfolding Prepare.prepareCheck

@@ -7,8 +7,6 @@ use Rattle.columns.specs.Columns as Columns
 use Rattle.columns.specs.ColumnLaws.{same-apart, same-next, same-stop, same-end}
 use Rattle.columns.proofs.same.Statement.{statement}
 use Rattle.columns.proofs.same.Tie as tie
-use Rattle.columns.proofs.same.Reads as reads
-use Rattle.columns.proofs.same.Lts as lts
 
 abbrev Inv-loop : tie.InvT-loop
 Inv-loop a b i₀ i = (i ≤ length a) × (Columns.sameEntries (drop i a) (drop i b) ≡ Columns.sameEntries a b)

@@ -3,9 +3,6 @@ use Rattle.columns.specs.Contracts as Said
 use borrow.Author.Needs.{needs}
 use Rattle.columns.proofs.saving.Statement.{statement}
 use Rattle.columns.proofs.saving.Tie as tie
-use Rattle.columns.proofs.saving.Reads as reads
-use Rattle.columns.proofs.saving.Lts as lts
-use Rattle.columns.proofs.is_repeated.Reads as is-repeated-reads
 
 is-repeated-requires : tie.Need-is-repeated-requires
 is-repeated-requires c κs = search needs

@@ -9,8 +9,6 @@ use Rattle.columns.specs.Contracts as Said
 use Rattle.columns.specs.SavingLaws.{savings-hit, savings-miss}
 use Rattle.columns.proofs.savings.Statement.{statement}
 use Rattle.columns.proofs.savings.Tie as tie
-use Rattle.columns.proofs.savings.Reads as reads
-use Rattle.columns.proofs.savings.Lts as lts
 
 abbrev Inv-loop : tie.InvT-loop
 Inv-loop lengths each period sum₀ i₀ sum i = (i ≤ length lengths) × (sum ≤ 4096 * i) × (sum ≡ Said.savingsOf lengths each period i)

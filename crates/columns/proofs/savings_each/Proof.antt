@@ -4,7 +4,6 @@ use native.Mathlib.Nat.{lt-of-lt-of-le, le-of-eq}
 use Prim.Native.Nat.{_-_, _≤_}
 use mathlib.Core.Path.{_≡_, refl, sym, _∙_, ap}
 use native.Mathlib.Omega.{arith}
-use borrow.Author.Needs.{needs}
 use lib.ListN.{length}
 use Rattle.field.specs.Field.{p}
 use Rattle.columns.specs.Columns as Columns
@@ -15,9 +14,6 @@ use Rattle.columns.specs.ArrayLaws.{fill-next}
 use Rattle.columns.specs.SavingLaws.{counted-is, length-gains}
 use Rattle.columns.proofs.savings_each.Statement.{statement}
 use Rattle.columns.proofs.savings_each.Tie as tie
-use Rattle.columns.proofs.savings_each.Reads as reads
-use Rattle.columns.proofs.savings_each.Lts as lts
-use Rattle.columns.proofs.saving.Reads as saving-reads
 
 abbrev Inv-loop : tie.InvT-loop
 Inv-loop lengths entries gains each₀ j₀ each j = (j ≤ length lengths) × (each ≡ Prepare.padded 0 16 (Prepare.upTo (Columns.saving p (Prepare.columns lengths entries)) j))

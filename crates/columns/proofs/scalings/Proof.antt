@@ -1,7 +1,7 @@
 -- The invariant: what is counted so far, with the scaled of the values left, is the whole number.
 use Prim.Native.Nat.{_+_, _-_, _≤_}
 use mathlib.Core.Logic.{⊎-elim}
-use mathlib.Core.Path.{_≡_, refl}
+use mathlib.Core.Path.{_≡_}
 use native.Mathlib.Omega.{arith}
 use lib.ListN.{length, drop}
 use Rattle.field.specs.Field.{p}
@@ -10,9 +10,6 @@ use Rattle.columns.specs.Columns as Columns
 use Rattle.columns.specs.ClassLaws.{below-at, scaled-hit, scaled-miss, scaled-end}
 use Rattle.columns.proofs.scalings.Statement.{statement}
 use Rattle.columns.proofs.scalings.Tie as tie
-use Rattle.columns.proofs.scalings.Reads as reads
-use Rattle.columns.proofs.scalings.Lts as lts
-use Rattle.columns.proofs.is_scaled.Reads as is-scaled-reads
 
 abbrev Inv-loop : tie.InvT-loop
 Inv-loop values d n₀ i₀ n i = (n ≤ i) × (i ≤ length values) × (n + length (Columns.scalings p d (drop i values)) ≡ length (Columns.scalings p d values))

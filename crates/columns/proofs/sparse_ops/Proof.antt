@@ -3,9 +3,6 @@ use Rattle.columns.specs.CostLaws.{ops-fit}
 use borrow.Author.Needs.{needs}
 use Rattle.columns.proofs.sparse_ops.Statement.{statement}
 use Rattle.columns.proofs.sparse_ops.Tie as tie
-use Rattle.columns.proofs.sparse_ops.Reads as reads
-use Rattle.columns.proofs.sparse_ops.Lts as lts
-use Rattle.columns.proofs.less.Reads as less-reads
 
 mul-result : tie.Need-mul-result
 mul-result c = omega (arith, ops-fit _ _ (c .pre .0) (c .pre .1))

@@ -1,18 +1,10 @@
 use Rattle.columns.specs.CostLaws.{standalone-sparse, standalone-dense}
 use Rattle.dag.specs.Told.{told}
 use native.Mathlib.Omega.{arith}
-use Rattle.columns.specs.Columns as Columns
-use Rattle.columns.specs.CostLaws.{log-length-le, ops-fit}
+use Rattle.columns.specs.CostLaws.{ops-fit}
 use borrow.Author.Needs.{needs}
 use Rattle.columns.proofs.standalone.Statement.{statement}
 use Rattle.columns.proofs.standalone.Tie as tie
-use Rattle.columns.proofs.standalone.Reads as reads
-use Rattle.columns.proofs.standalone.Lts as lts
-use Rattle.columns.proofs.dense_ops.Reads as dense-ops-reads
-use Rattle.columns.proofs.is_sparse.Reads as is-sparse-reads
-use Rattle.columns.proofs.log_length.Reads as log-length-reads
-use Rattle.columns.proofs.others.Reads as others-reads
-use Rattle.columns.proofs.sparse_ops.Reads as sparse-ops-reads
 
 is-sparse-requires : tie.Need-is-sparse-requires
 is-sparse-requires c κs = search needs

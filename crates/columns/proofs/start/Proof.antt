@@ -1,6 +1,6 @@
 -- The invariant: the lengths before place i, added up.
 use Prim.Native.Nat.{_-_, _≤_}
-use mathlib.Core.Path.{_≡_, refl, sym, _∙_, ap}
+use mathlib.Core.Path.{_≡_, refl}
 use native.Mathlib.Nat.{le-antisymm}
 use native.Mathlib.Omega.{arith}
 use lib.ListN.{take}
@@ -8,8 +8,6 @@ use Rattle.columns.specs.Prepare as Prepare
 use Rattle.columns.specs.ColumnLaws.{starts, ends}
 use Rattle.columns.proofs.start.Statement.{statement}
 use Rattle.columns.proofs.start.Tie as tie
-use Rattle.columns.proofs.start.Reads as reads
-use Rattle.columns.proofs.start.Lts as lts
 
 abbrev Inv-loop : tie.InvT-loop
 Inv-loop lengths j sum₀ i₀ sum i = (i ≤ j) × (sum ≡ Prepare.total (take i lengths))

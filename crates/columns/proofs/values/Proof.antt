@@ -1,15 +1,12 @@
 -- The invariant: the values found so far, with the entries left, give all values.
 use Prim.Native.Nat.{_-_, _≤_}
-use mathlib.Core.Path.{_≡_, refl, sym, _∙_}
+use mathlib.Core.Path.{_≡_, refl, _∙_}
 use native.Mathlib.Omega.{arith}
 use lib.ListN.{length, take, drop}
 use Rattle.columns.specs.Columns as Columns
 use Rattle.columns.specs.ClassLaws.{values-next, values-end}
 use Rattle.columns.proofs.values.Statement.{statement}
 use Rattle.columns.proofs.values.Tie as tie
-use Rattle.columns.proofs.values.Reads as reads
-use Rattle.columns.proofs.values.Lts as lts
-use Rattle.columns.proofs.with_new.Reads as with-new-reads
 
 abbrev Inv-loop : tie.InvT-loop
 Inv-loop col store₀ n₀ i₀ store n i = (i ≤ length col) × (n ≤ i) × (length store ≡ length store₀) × (Columns.valuesFrom (take n store) (drop i col) ≡ Columns.values col)

@@ -3,9 +3,6 @@ use Rattle.columns.specs.Columns as Columns
 use borrow.Author.Needs.{needs}
 use Rattle.columns.proofs.weight.Statement.{statement}
 use Rattle.columns.proofs.weight.Tie as tie
-use Rattle.columns.proofs.weight.Reads as reads
-use Rattle.columns.proofs.weight.Lts as lts
-use Rattle.columns.proofs.count.Reads as count-reads
 
 count-requires : tie.Need-count-requires
 count-requires c κs = search needs

@@ -6,9 +6,6 @@ use Rattle.columns.specs.ClassLaws.{new-none, new-one}
 use borrow.Author.Needs.{needs}
 use Rattle.columns.proofs.with_new.Statement.{statement}
 use Rattle.columns.proofs.with_new.Tie as tie
-use Rattle.columns.proofs.with_new.Reads as reads
-use Rattle.columns.proofs.with_new.Lts as lts
-use Rattle.columns.proofs.count.Reads as count-reads
 
 slice-reshare-prefix-count : tie.Need-slice-reshare-prefix-count
 slice-reshare-prefix-count c = search needs

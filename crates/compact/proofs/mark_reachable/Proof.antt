@@ -6,7 +6,7 @@ use Rattle.dag.specs.Nodes.{nodes}
 use lib.ListN.{length, length-set}
 use native.Mathlib.Omega.{arith}
 use mathlib.Core.Path.{_≡_, refl, sym, _∙_, ap}
-use Prim.Native.Nat.{_≤_, _-_}
+use Prim.Native.Nat.{_≤_}
 use Rattle.compact.proofs.mark_reachable.Statement.{statement}
 use Rattle.compact.proofs.mark_reachable.Tie as tie
 

@@ -1,14 +1,11 @@
 use Rattle.dag.specs.BlankLaws.{blanked, blank-none, blank-more, blank-all}
 use Rattle.dag.specs.Nodes.{blank}
 use lib.ListN.{length, length-set}
-use borrow.Author.Needs.{needs}
 use native.Mathlib.Omega.{arith}
-use mathlib.Core.Path.{_≡_, refl, sym, _∙_}
+use mathlib.Core.Path.{_≡_, refl, _∙_}
 use Prim.Native.Nat.{_≤_, _-_}
 use Rattle.dag.proofs.blank_from.Statement.{statement}
 use Rattle.dag.proofs.blank_from.Tie as tie
-use Rattle.dag.proofs.blank_from.Reads as reads
-use Rattle.dag.proofs.blank_from.Lts as lts
 
 abbrev Inv-loop : tie.InvT-loop
 Inv-loop store₀ from i₀ store i = (from ≤ i) × (i ≤ length store₀) × (length store ≡ length store₀) × (store ≡ blanked store₀ from blank i)
@@ -16,35 +13,27 @@ Inv-loop store₀ from i₀ store i = (from ≤ i) × (i ≤ length store₀) ×
 abbrev μ-loop : tie.MeasureT-loop
 μ-loop store₀ from i₀ store i = length store - i
 
--- src/lib.rt:310:5
 loop-holds : tie.Need-loop-holds Inv-loop μ-loop
 loop-holds c = (omega arith, omega arith, refl, blank-none _ _ _)
 
--- src/lib.rt:311:9
 mul-store : tie.Need-mul-store Inv-loop μ-loop
 mul-store c = omega (arith, c .before .before .good .0 .1)
 
--- src/lib.rt:311:9
 slice-write-store : tie.Need-slice-write-store Inv-loop μ-loop
 slice-write-store c = omega arith
 
--- src/lib.rt:312:9
 add-i : tie.Need-add-i Inv-loop μ-loop
 add-i c = omega (arith, c .before .before .good .0 .0)
 
--- src/lib.rt:310:5
 loop-less : tie.Need-loop-less Inv-loop μ-loop
 loop-less c = simp length-set (omega arith)
 
--- src/lib.rt:310:5
 loop-again : tie.Need-loop-again Inv-loop μ-loop
 loop-again c = (omega arith, omega arith, simp length-set (c .before .loop .inv .2), rw (c .before .loop .inv .3) (blank-more _ _ blank _ (omega arith) (omega arith)))
 
--- src/lib.rt:305:1
 same-length : tie.Need-same-length Inv-loop μ-loop
 same-length c = c .before .loop .inv .2
 
--- src/lib.rt:305:1
 returns : tie.Need-returns Inv-loop μ-loop
 returns c = c .before .loop .inv .3 ∙ blank-all _ _ blank _ (omega arith) (omega arith)
 

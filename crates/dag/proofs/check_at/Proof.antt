@@ -2,59 +2,43 @@ use Rattle.dag.specs.Check as Check
 use borrow.Author.Needs.{needs}
 use Rattle.dag.proofs.check_at.Statement.{statement}
 use Rattle.dag.proofs.check_at.Tie as tie
-use Rattle.dag.proofs.check_at.Reads as reads
-use Rattle.dag.proofs.check_at.Lts as lts
-use Rattle.dag.proofs.record_check.Reads as record-check-reads
 
--- src/lib.rt:159:23
 mul-record-check : tie.Need-mul-record-check
 mul-record-check c = search needs
 
--- src/lib.rt:159:18
 mul-record-check-2 : tie.Need-mul-record-check-2
 mul-record-check-2 c = search needs
 
--- src/lib.rt:159:18
 shared-slice-read-record-check : tie.Need-shared-slice-read-record-check
 shared-slice-read-record-check c = search needs
 
--- src/lib.rt:159:36
 mul-record-check-3 : tie.Need-mul-record-check-3
 mul-record-check-3 c = search needs
 
--- src/lib.rt:159:36
 add-record-check : tie.Need-add-record-check
 add-record-check c = search needs
 
--- src/lib.rt:159:31
 mul-record-check-4 : tie.Need-mul-record-check-4
 mul-record-check-4 c = search needs
 
--- src/lib.rt:159:31
 shared-slice-read-record-check-2 : tie.Need-shared-slice-read-record-check-2
 shared-slice-read-record-check-2 c = search needs
 
--- src/lib.rt:159:53
 mul-record-check-5 : tie.Need-mul-record-check-5
 mul-record-check-5 c = search needs
 
--- src/lib.rt:159:53
 add-record-check-2 : tie.Need-add-record-check-2
 add-record-check-2 c = search needs
 
--- src/lib.rt:159:48
 mul-record-check-6 : tie.Need-mul-record-check-6
 mul-record-check-6 c = search needs
 
--- src/lib.rt:159:48
 shared-slice-read-record-check-3 : tie.Need-shared-slice-read-record-check-3
 shared-slice-read-record-check-3 c = search needs
 
--- src/lib.rt:159:5
 record-check-requires : tie.Need-record-check-requires
 record-check-requires c κs = search needs
 
--- src/lib.rt:155:1
 returns : tie.Need-returns
 unfolding Check.checkAt
 returns c = c .record-check .ensures

@@ -2,35 +2,27 @@ use borrow.Author.Tests.{eq-eqb, ne-eqb}
 use Rattle.dag.specs.Nodes as Nodes
 use Rattle.dag.proofs.decode.Statement.{statement}
 use Rattle.dag.proofs.decode.Tie as tie
-use Rattle.dag.proofs.decode.Reads as reads
-use Rattle.dag.proofs.decode.Lts as lts
 
--- src/lib.rt:205:9
 returns : tie.Need-returns
 unfolding Nodes.decode
 returns c = simp (eq-eqb _ _ (c .if1 .taken))
 
--- src/lib.rt:208:9
 returns-2 : tie.Need-returns-2
 unfolding Nodes.decode
 returns-2 c = simp (ne-eqb _ _ (c .before .if1 .left), eq-eqb _ _ (c .if2 .taken))
 
--- src/lib.rt:211:9
 returns-3 : tie.Need-returns-3
 unfolding Nodes.decode
 returns-3 c = simp (ne-eqb _ _ (c .before .before .if1 .left), ne-eqb _ _ (c .before .if2 .left), eq-eqb _ _ (c .if3 .taken))
 
--- src/lib.rt:214:9
 returns-4 : tie.Need-returns-4
 unfolding Nodes.decode
 returns-4 c = simp (ne-eqb _ _ (c .before .before .before .if1 .left), ne-eqb _ _ (c .before .before .if2 .left), ne-eqb _ _ (c .before .if3 .left), eq-eqb _ _ (c .if4 .taken))
 
--- src/lib.rt:217:9
 returns-5 : tie.Need-returns-5
 unfolding Nodes.decode
 returns-5 c = simp (ne-eqb _ _ (c .before .before .before .before .if1 .left), ne-eqb _ _ (c .before .before .before .if2 .left), ne-eqb _ _ (c .before .before .if3 .left), ne-eqb _ _ (c .before .if4 .left), eq-eqb _ _ (c .if5 .taken))
 
--- src/lib.rt:201:1
 returns-6 : tie.Need-returns-6
 unfolding Nodes.decode
 returns-6 c = simp (ne-eqb _ _ (c .before .before .before .before .if1 .left), ne-eqb _ _ (c .before .before .before .if2 .left), ne-eqb _ _ (c .before .before .if3 .left), ne-eqb _ _ (c .before .if4 .left), ne-eqb _ _ (c .if5 .left))

@@ -2,25 +2,19 @@ use borrow.Author.Tests.{lt-ltb, le-ltb, eq-eqb, ne-eqb}
 use Rattle.dag.specs.Check as Check
 use Rattle.dag.proofs.earlier.Statement.{statement}
 use Rattle.dag.proofs.earlier.Tie as tie
-use Rattle.dag.proofs.earlier.Reads as reads
-use Rattle.dag.proofs.earlier.Lts as lts
 
--- src/lib.rt:127:9
 returns : tie.Need-returns
 unfolding Check.earlier
 returns c = simp (lt-ltb _ _ (c .if1 .taken))
 
--- src/lib.rt:130:9
 returns-2 : tie.Need-returns-2
 unfolding Check.earlier
 returns-2 c = simp (le-ltb _ _ (c .before .if1 .left), eq-eqb _ _ (c .if2 .taken))
 
--- src/lib.rt:133:9
 returns-3 : tie.Need-returns-3
 unfolding Check.earlier
 returns-3 c = simp (le-ltb _ _ (c .before .before .if1 .left), ne-eqb _ _ (c .before .if2 .left), lt-ltb _ _ (c .if3 .taken))
 
--- src/lib.rt:122:1
 returns-4 : tie.Need-returns-4
 unfolding Check.earlier
 returns-4 c = simp (le-ltb _ _ (c .before .before .if1 .left), ne-eqb _ _ (c .before .if2 .left), le-ltb _ _ (c .if3 .left))

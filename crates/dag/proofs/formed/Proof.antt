@@ -4,40 +4,30 @@ use Rattle.dag.specs.Check as Check
 use borrow.Author.Needs.{needs}
 use Rattle.dag.proofs.formed.Statement.{statement}
 use Rattle.dag.proofs.formed.Tie as tie
-use Rattle.dag.proofs.formed.Reads as reads
-use Rattle.dag.proofs.formed.Lts as lts
-use Rattle.dag.proofs.is_key.Reads as is-key-reads
 
--- src/lib.rt:104:12
 is-key-requires : tie.Need-is-key-requires
 is-key-requires c κs = search needs
 
--- src/lib.rt:105:13
 returns : tie.Need-returns
 unfolding Check.formed
 returns c = simp (eq-eqb _ _ (c .before .before .if1 .taken), told (c .before .is-key .ensures) (c .if2 .taken))
 
--- src/lib.rt:107:9
 returns-2 : tie.Need-returns-2
 unfolding Check.formed
 returns-2 c = simp (eq-eqb _ _ (c .before .before .if1 .taken), told (c .before .is-key .ensures) (c .if2 .left))
 
--- src/lib.rt:111:13
 returns-3 : tie.Need-returns-3
 unfolding Check.formed
 returns-3 c = simp (ne-eqb _ _ (c .before .before .if1 .left), eq-eqb _ _ (c .before .if3 .taken), lt-ltb _ _ (c .if4 .taken))
 
--- src/lib.rt:113:9
 returns-4 : tie.Need-returns-4
 unfolding Check.formed
 returns-4 c = simp (ne-eqb _ _ (c .before .before .if1 .left), eq-eqb _ _ (c .before .if3 .taken), le-ltb _ _ (c .if4 .left))
 
--- src/lib.rt:116:9
 returns-5 : tie.Need-returns-5
 unfolding Check.formed
 returns-5 c = simp (ne-eqb _ _ (c .before .before .if1 .left), ne-eqb _ _ (c .before .if3 .left), eq-eqb _ _ (c .if5 .taken))
 
--- src/lib.rt:100:1
 returns-6 : tie.Need-returns-6
 unfolding Check.formed
 returns-6 c = simp (ne-eqb _ _ (c .before .before .if1 .left), ne-eqb _ _ (c .before .if3 .left), ne-eqb _ _ (c .if5 .left))

@@ -1,37 +1,26 @@
 use Rattle.dag.specs.CheckLaws.{good-told, bad-told}
 use Rattle.dag.specs.Check as Check
-use Rattle.dag.specs.CheckLaws.{not-refused, refused-then}
-use Rattle.dag.specs.Refusals.{isRefused}
-use Rattle.dag.specs.Told.{told}
+use Rattle.dag.specs.CheckLaws.{refused-then}
 use borrow.Author.Tests.{lt-ltb, le-ltb}
-use mathlib.Core.Path.{_∙_, ap}
+use mathlib.Core.Path.{_∙_}
 use borrow.Author.Needs.{needs}
 use Rattle.dag.proofs.list_check.Statement.{statement}
 use Rattle.dag.proofs.list_check.Tie as tie
-use Rattle.dag.proofs.list_check.Reads as reads
-use Rattle.dag.proofs.list_check.Lts as lts
-use Rattle.dag.proofs.is_refused.Reads as is-refused-reads
-use Rattle.dag.proofs.rootless_check.Reads as rootless-check-reads
 
--- src/lib.rt:209:9
 rootless-check-requires : tie.Need-rootless-check-requires
 rootless-check-requires c κs = search needs
 
--- src/lib.rt:210:8
 is-refused-requires : tie.Need-is-refused-requires
 is-refused-requires c κs = search needs
 
--- src/lib.rt:211:9
 returns : tie.Need-returns
 unfolding Check.listCheck
 returns c = c .before .before .rootless-check .ensures ∙ refused-then _ _ (bad-told (c .before .before .rootless-check .ensures) (c .before .is-refused .ensures) (c .if1 .taken))
 
--- src/lib.rt:214:9
 returns-2 : tie.Need-returns-2
 unfolding Check.listCheck
 returns-2 c = simp (good-told (c .before .before .before .rootless-check .ensures) (c .before .before .is-refused .ensures) (c .before .if1 .left), lt-ltb _ _ (c .if2 .taken))
 
--- src/lib.rt:206:1
 returns-3 : tie.Need-returns-3
 unfolding Check.listCheck
 returns-3 c = simp (good-told (c .before .before .before .rootless-check .ensures) (c .before .before .is-refused .ensures) (c .before .if1 .left), le-ltb _ _ (c .if2 .left))

@@ -8,12 +8,6 @@ use mathlib.Core.Path.{_≡_, refl}
 use Rattle.dag.specs.Store as Store
 use Rattle.dag.proofs.lookup.Statement.{statement}
 use Rattle.dag.proofs.lookup.Tie as tie
-use Rattle.dag.proofs.lookup.Reads as reads
-use Rattle.dag.proofs.lookup.Lts as lts
-use Rattle.dag.proofs.first_of.Reads as first-of-reads
-use Rattle.dag.proofs.second_of.Reads as second-of-reads
-use Rattle.dag.proofs.tag_of.Reads as tag-of-reads
-use Rattle.dag.proofs.words_are.Reads as words-are-reads
 
 abbrev Inv-loop : tie.InvT-loop
 Inv-loop list n t a b i₀ i = (i ≤ n) × (Store.lookupWords list t a b n ≡ Store.lookupWords list t a b i)
@@ -21,43 +15,33 @@ Inv-loop list n t a b i₀ i = (i ≤ n) × (Store.lookupWords list t a b n ≡ 
 abbrev μ-loop : tie.MeasureT-loop
 μ-loop list n t a b i₀ i = i
 
--- src/lib.rt:308:9
 tag-of-requires : tie.Need-tag-of-requires Inv-loop μ-loop
 tag-of-requires c κs = search needs
 
--- src/lib.rt:309:9
 first-of-requires : tie.Need-first-of-requires Inv-loop μ-loop
 first-of-requires c κs = search needs
 
--- src/lib.rt:310:9
 second-of-requires : tie.Need-second-of-requires Inv-loop μ-loop
 second-of-requires c κs = search needs
 
--- src/lib.rt:312:5
 loop-holds : tie.Need-loop-holds Inv-loop μ-loop
 loop-holds c = (omega arith, refl)
 
--- src/lib.rt:313:9
 sub-i : tie.Need-sub-i Inv-loop μ-loop
 sub-i c = omega arith
 
--- src/lib.rt:314:12
 words-are-requires : tie.Need-words-are-requires Inv-loop μ-loop
 words-are-requires c κs = omega (arith, c .before .before .before .before .before .before .pre .room)
 
--- src/lib.rt:315:13
 returns : tie.Need-returns Inv-loop μ-loop
 returns c = search-hit p (c .before .before .before .before .before .before .before .before .args .list .now) (c .before .before .before .before .before .before .before .before .args .n) (c .before .before .before .before .before .before .before .before .args .x) (c .before .before .before .before .before .before .tag-of .result) (c .before .before .before .before .before .first-of .result) (c .before .before .before .before .second-of .result) (c .before .before .before .before .before .before .before .before .pre) (c .before .before .before .before .before .before .tag-of .ensures) (c .before .before .before .before .before .first-of .ensures) (c .before .before .before .before .second-of .ensures) (c .before .before .before .loop .i) (c .before .before .loop-test .taken) (c .before .before .before .loop .inv .1) (told (c .before .words-are .ensures) (c .if1 .taken))
 
--- src/lib.rt:312:5
 loop-less : tie.Need-loop-less Inv-loop μ-loop
 loop-less c = omega arith
 
--- src/lib.rt:312:5
 loop-again : tie.Need-loop-again Inv-loop μ-loop
 loop-again c = (omega arith, search-on p (c .before .before .before .before .before .before .before .before .args .list .now) (c .before .before .before .before .before .before .before .before .args .n) (c .before .before .before .before .before .before .before .before .args .x) (c .before .before .before .before .before .before .tag-of .result) (c .before .before .before .before .before .first-of .result) (c .before .before .before .before .second-of .result) (c .before .before .before .loop .i) (c .before .before .loop-test .taken) (c .before .before .before .loop .inv .1) (told (c .before .words-are .ensures) (c .if1 .left)))
 
--- src/lib.rt:304:1
 returns-2 : tie.Need-returns-2 Inv-loop μ-loop
 returns-2 c = search-none p (c .before .before .before .before .before .before .args .list .now) (c .before .before .before .before .before .before .args .n) (c .before .before .before .before .before .before .args .x) (c .before .before .before .before .tag-of .result) (c .before .before .before .first-of .result) (c .before .before .second-of .result) (c .before .before .before .before .before .before .pre) (c .before .before .before .before .tag-of .ensures) (c .before .before .before .first-of .ensures) (c .before .before .second-of .ensures) (c .before .loop .i) (c .loop-test .left) (c .before .loop .inv .1)
 

@@ -1,40 +1,29 @@
 use borrow.Author.Tests.{not-true, not-false}
 use Rattle.dag.specs.Told.{told}
-use mathlib.Core.Path.{sym, _∙_}
 use borrow.Author.Tests.{le-leb, lt-leb}
 use Rattle.dag.specs.Check as Check
 use borrow.Author.Needs.{needs}
 use Rattle.dag.proofs.record_check.Statement.{statement}
 use Rattle.dag.proofs.record_check.Tie as tie
-use Rattle.dag.proofs.record_check.Reads as reads
-use Rattle.dag.proofs.record_check.Lts as lts
-use Rattle.dag.proofs.earlier.Reads as earlier-reads
-use Rattle.dag.proofs.formed.Reads as formed-reads
 
--- src/lib.rt:143:9
 returns : tie.Need-returns
 unfolding Check.recordCheck
 returns c = simp (lt-leb _ _ (c .if1 .taken))
 
--- src/lib.rt:145:9
 formed-requires : tie.Need-formed-requires
 formed-requires c κs = search needs
 
--- src/lib.rt:146:9
 returns-2 : tie.Need-returns-2
 unfolding Check.recordCheck
 returns-2 c = simp (le-leb _ _ (c .before .before .if1 .left), told (c .before .formed .ensures) (not-true _ (c .if2 .taken)))
 
--- src/lib.rt:148:9
 earlier-requires : tie.Need-earlier-requires
 earlier-requires c κs = search needs
 
--- src/lib.rt:149:9
 returns-3 : tie.Need-returns-3
 unfolding Check.recordCheck
 returns-3 c = simp (le-leb _ _ (c .before .before .before .before .if1 .left), told (c .before .before .before .formed .ensures) (not-false _ (c .before .before .if2 .left)), told (c .before .earlier .ensures) (not-true _ (c .if3 .taken)))
 
--- src/lib.rt:139:1
 returns-4 : tie.Need-returns-4
 unfolding Check.recordCheck
 returns-4 c = simp (le-leb _ _ (c .before .before .before .before .if1 .left), told (c .before .before .before .formed .ensures) (not-false _ (c .before .before .if2 .left)), told (c .before .earlier .ensures) (not-false _ (c .if3 .left)))

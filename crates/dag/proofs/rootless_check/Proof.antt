@@ -3,34 +3,25 @@ use borrow.Author.Tests.{le-leb, lt-leb}
 use borrow.Author.Needs.{needs}
 use Rattle.dag.proofs.rootless_check.Statement.{statement}
 use Rattle.dag.proofs.rootless_check.Tie as tie
-use Rattle.dag.proofs.rootless_check.Reads as reads
-use Rattle.dag.proofs.rootless_check.Lts as lts
-use Rattle.dag.proofs.records_check.Reads as records-check-reads
 
--- src/lib.rt:194:9
 returns : tie.Need-returns
 unfolding Check.rootlessCheck
 returns c = simp (lt-leb _ _ (c .if1 .taken))
 
--- src/lib.rt:197:9
 returns-2 : tie.Need-returns-2
 unfolding Check.rootlessCheck
 returns-2 c = simp (le-leb _ _ (c .before .if1 .left), lt-leb _ _ (c .if2 .taken))
 
--- src/lib.rt:199:21
 mul-if3 : tie.Need-mul-if3
 mul-if3 c = search needs
 
--- src/lib.rt:200:9
 returns-3 : tie.Need-returns-3
 unfolding Check.rootlessCheck
 returns-3 c = simp (le-leb _ _ (c .before .before .if1 .left), le-leb _ _ (c .before .if2 .left), lt-leb _ _ (c .if3 .taken))
 
--- src/lib.rt:202:5
 records-check-requires : tie.Need-records-check-requires
 records-check-requires c κs = search needs
 
--- src/lib.rt:190:1
 returns-4 : tie.Need-returns-4
 unfolding Check.rootlessCheck
 returns-4 c = simp (le-leb _ _ (c .before .before .before .if1 .left), le-leb _ _ (c .before .before .if2 .left), le-leb _ _ (c .before .if3 .left)) (c .records-check .ensures)

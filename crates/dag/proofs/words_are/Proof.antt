@@ -4,64 +4,48 @@ use Rattle.dag.specs.Store as Store
 use borrow.Author.Needs.{needs}
 use Rattle.dag.proofs.words_are.Statement.{statement}
 use Rattle.dag.proofs.words_are.Tie as tie
-use Rattle.dag.proofs.words_are.Reads as reads
-use Rattle.dag.proofs.words_are.Lts as lts
 
--- src/lib.rt:306:13
 mul-if1 : tie.Need-mul-if1
 mul-if1 c = search needs
 
--- src/lib.rt:306:8
 mul-if1-2 : tie.Need-mul-if1-2
 mul-if1-2 c = search needs
 
--- src/lib.rt:306:8
 shared-slice-read-if1 : tie.Need-shared-slice-read-if1
 shared-slice-read-if1 c = search needs
 
--- src/lib.rt:307:17
 mul-if2 : tie.Need-mul-if2
 mul-if2 c = search needs
 
--- src/lib.rt:307:17
 add-if2 : tie.Need-add-if2
 add-if2 c = search needs
 
--- src/lib.rt:307:12
 mul-if2-2 : tie.Need-mul-if2-2
 mul-if2-2 c = search needs
 
--- src/lib.rt:307:12
 shared-slice-read-if2 : tie.Need-shared-slice-read-if2
 shared-slice-read-if2 c = search needs
 
--- src/lib.rt:308:25
 mul-result : tie.Need-mul-result
 mul-result c = search needs
 
--- src/lib.rt:308:25
 add-result : tie.Need-add-result
 add-result c = search needs
 
--- src/lib.rt:308:20
 mul-result-2 : tie.Need-mul-result-2
 mul-result-2 c = search needs
 
--- src/lib.rt:308:20
 shared-slice-read-result : tie.Need-shared-slice-read-result
 shared-slice-read-result c = search needs
 
--- src/lib.rt:308:13
 returns : tie.Need-returns
 unfolding Store.wordsAre
 returns c = and-rest _ (eq-eqb _ _ (c .before .before .before .if1 .taken)) (eq-eqb _ _ (c .before .if2 .taken))
 
--- src/lib.rt:302:1
 returns-2 : tie.Need-returns-2
 unfolding Store.wordsAre
 returns-2 c = simp (eq-eqb _ _ (c .before .before .if1 .taken), ne-eqb _ _ (c .if2 .left))
 
--- src/lib.rt:302:1
 returns-3 : tie.Need-returns-3
 unfolding Store.wordsAre
 returns-3 c = simp (ne-eqb _ _ (c .if1 .left))

@@ -2,7 +2,6 @@ use native.Mathlib.Nat.{mul-le-mul-right}
 use borrow.Author.Tests.{lt-leb, le-leb}
 use Rattle.evaluate.specs.Entries as Entries
 use native.Mathlib.Omega.{arith}
-use Prim.Native.Nat.{_-_}
 use Rattle.evaluate.proofs.entries_check.Statement.{statement}
 use Rattle.evaluate.proofs.entries_check.Tie as tie
 

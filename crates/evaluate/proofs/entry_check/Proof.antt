@@ -3,7 +3,6 @@ use Rattle.dag.specs.Keys.{isKey}
 use borrow.Author.Tests.{not-true, not-false}
 use Rattle.dag.specs.Told.{told}
 use mathlib.Core.Path.{_∙_, ap}
-use Prim.Native.Nat.{_-_}
 use borrow.Author.Needs.{needs}
 use Rattle.evaluate.proofs.entry_check.Statement.{statement}
 use Rattle.evaluate.proofs.entry_check.Tie as tie

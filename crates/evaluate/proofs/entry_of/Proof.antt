@@ -3,7 +3,7 @@ use Rattle.evaluate.specs.Entries as Entries
 use Rattle.dag.specs.Told.{told}
 use native.Mathlib.Omega.{arith}
 use mathlib.Core.Path.{_≡_, refl, _∙_}
-use Prim.Native.Nat.{_≤_, _-_}
+use Prim.Native.Nat.{_≤_}
 use Rattle.evaluate.proofs.entry_of.Statement.{statement}
 use Rattle.evaluate.proofs.entry_of.Tie as tie
 

@@ -5,7 +5,6 @@ use Rattle.dag.specs.PassLaws.{rooted}
 use Rattle.field.specs.Field.{p}
 use native.Mathlib.Omega.{arith}
 use mathlib.Core.Path.{_∙_}
-use Prim.Native.Nat.{_-_}
 use borrow.Author.Needs.{needs}
 use Rattle.evaluate.proofs.evaluate_check.Statement.{statement}
 use Rattle.evaluate.proofs.evaluate_check.Tie as tie

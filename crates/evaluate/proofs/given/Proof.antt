@@ -2,7 +2,6 @@ use Rattle.evaluate.specs.EntryLaws.{entry-inside}
 use Rattle.evaluate.specs.Calls as Calls
 use Rattle.dag.specs.Told.{told}
 use native.Mathlib.Omega.{arith}
-use Prim.Native.Nat.{_-_}
 use borrow.Author.Needs.{needs}
 use Rattle.evaluate.proofs.given.Statement.{statement}
 use Rattle.evaluate.proofs.given.Tie as tie

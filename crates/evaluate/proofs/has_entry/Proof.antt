@@ -1,4 +1,3 @@
-use Prim.Native.Nat.{_-_}
 use types.Run.{OneOf}
 use denote.Enum.Declared.{tagOf}
 use mathlib.Core.Bool.{true}

@@ -3,7 +3,6 @@ use Rattle.evaluate.specs.Asked.{elementAt}
 use Rattle.evaluate.specs.Calls.{given}
 use Rattle.field.specs.Field.{quad}
 use native.Mathlib.Omega.{arith}
-use Prim.Native.Nat.{_-_}
 use borrow.Author.Needs.{needs}
 use Rattle.evaluate.proofs.value_of.Statement.{statement}
 use Rattle.evaluate.proofs.value_of.Tie as tie

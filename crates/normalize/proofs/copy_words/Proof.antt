@@ -2,12 +2,10 @@ use Rattle.normalize.specs.CallLaws.{copied, copied-none, copied-more}
 use lib.ListN.{length, length-set}
 use native.Mathlib.Omega.{arith}
 use native.Mathlib.Nat.{le-antisymm}
-use mathlib.Core.Path.{_≡_, refl, sym, _∙_}
+use mathlib.Core.Path.{_≡_, refl}
 use Prim.Native.Nat.{_≤_, _-_}
 use Rattle.normalize.proofs.copy_words.Statement.{statement}
 use Rattle.normalize.proofs.copy_words.Tie as tie
-use Rattle.normalize.proofs.copy_words.Reads as reads
-use Rattle.normalize.proofs.copy_words.Lts as lts
 
 abbrev Inv-loop : tie.InvT-loop
 Inv-loop list m result₀ i₀ result i = (i ≤ m) × (length result ≡ length result₀) × (result ≡ copied list result₀ i)
@@ -15,43 +13,33 @@ Inv-loop list m result₀ i₀ result i = (i ≤ m) × (length result ≡ length
 abbrev μ-loop : tie.MeasureT-loop
 μ-loop list m result₀ i₀ result i = m - i
 
--- src/lib.rt:499:5
 loop-holds : tie.Need-loop-holds Inv-loop μ-loop
 loop-holds c = (omega arith, refl, copied-none _ _)
 
--- src/lib.rt:500:21
 mul-result : tie.Need-mul-result Inv-loop μ-loop
 mul-result c = omega (arith, c .before .before .good .0 .1, c .before .before .pre .0, c .loop-test .taken)
 
--- src/lib.rt:500:21
 shared-slice-read-result : tie.Need-shared-slice-read-result Inv-loop μ-loop
 shared-slice-read-result c = omega (arith, c .before .before .before .pre .0, c .before .loop-test .taken)
 
--- src/lib.rt:500:9
 mul-result-2 : tie.Need-mul-result-2 Inv-loop μ-loop
 mul-result-2 c = omega (arith, c .before .before .before .good .0 .1, c .before .before .before .pre .0, c .before .loop-test .taken)
 
--- src/lib.rt:500:9
 slice-write-result : tie.Need-slice-write-result Inv-loop μ-loop
 slice-write-result c = omega (arith, c .before .before .before .pre .1, c .before .before .loop .inv .1, c .before .loop-test .taken)
 
--- src/lib.rt:501:9
 add-i : tie.Need-add-i Inv-loop μ-loop
 add-i c = omega (arith, c .before .before .before .good .0 .0, c .before .before .before .pre .0, c .before .loop-test .taken)
 
--- src/lib.rt:499:5
 loop-less : tie.Need-loop-less Inv-loop μ-loop
 loop-less c = omega (arith, c .before .loop-test .taken)
 
--- src/lib.rt:499:5
 loop-again : tie.Need-loop-again Inv-loop μ-loop
 loop-again c = (omega (arith, c .before .loop-test .taken), simp length-set (c .before .before .loop .inv .1), rw (c .before .before .loop .inv .2) (copied-more (c .before .before .before .args .list .now) (c .before .before .before .args .result .now) (c .before .before .loop .i) (omega (arith, c .before .before .before .pre .0, c .before .loop-test .taken)) (omega (arith, c .before .before .before .pre .1, c .before .loop-test .taken))))
 
--- src/lib.rt:494:1
 same-length : tie.Need-same-length Inv-loop μ-loop
 same-length c = c .before .loop .inv .1
 
--- src/lib.rt:494:1
 returns : tie.Need-returns Inv-loop μ-loop
 returns c = rw (le-antisymm (c .before .loop .inv .0) (c .loop-test .left)) at (c .before .loop .inv .2)
 

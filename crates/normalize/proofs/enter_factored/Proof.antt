@@ -1,46 +1,32 @@
 use Rattle.normalize.specs.declared.Plan.the-variants.{Factored}
 use Rattle.normalize.specs.EnterLaws as Enter
-use Rattle.dag.specs.Told.{told}
-use mathlib.Core.Path.{refl, _∙_}
+use mathlib.Core.Path.{refl}
 use native.Mathlib.Omega.{arith}
 use borrow.Author.Needs.{needs}
 use Rattle.normalize.proofs.enter_factored.Statement.{statement}
 use Rattle.normalize.proofs.enter_factored.Tie as tie
-use Rattle.normalize.proofs.enter_factored.Reads as reads
-use Rattle.normalize.proofs.enter_factored.Lts as lts
-use Rattle.builder.proofs.mapped.Reads as mapped-reads
-use Rattle.builder.proofs.push.Reads as push-reads
-use Rattle.normalize.proofs.like.Reads as like-reads
 
--- src/lib.rt:365:52
 mapped-requires : tie.Need-mapped-requires
 mapped-requires c κs = search needs
 
--- src/lib.rt:365:77
 mapped-requires-2 : tie.Need-mapped-requires-2
 mapped-requires-2 c κs = search needs
 
--- src/lib.rt:365:44
 like-requires : tie.Need-like-requires
 like-requires c κs = search needs
 
--- src/lib.rt:365:9
 push-requires : tie.Need-push-requires
 push-requires c κs = (Enter.inner-request (c .before .before .before .before .before .before .args .work .now) (c .before .before .before .before .before .before .args .count) (c .before .before .before .before .before .before .args .map .now) (c .before .before .before .before .before .before .pre .0) (c .before .before .before .before .before .before .args .x) (Factored (c .before .before .before .before .before .before .args .factor) (c .before .before .before .before .before .before .args .a) (c .before .before .before .before .before .before .args .b)) (c .before .before .before .before .before .before .pre .1) _ _ _ refl _ _ (c .before .before .mapped .ensures) (c .before .mapped2 .ensures) _ (c .like .ensures), let h = c .before .before .before .before .before .before .pre .1 .room in omega arith)
 
--- src/lib.rt:366:52
 mapped-requires-3 : tie.Need-mapped-requires-3
 mapped-requires-3 c κs = search needs
 
--- src/lib.rt:366:5
 push-requires-2 : tie.Need-push-requires-2
 push-requires-2 c κs = Enter.outer-request (c .before .before .before .before .before .before .before .before .before .before .before .args .work .now) (c .before .before .before .before .before .before .before .before .before .before .before .args .count) (c .before .before .before .before .before .before .before .before .before .before .before .args .map .now) (c .before .before .before .before .before .before .before .before .before .before .before .pre .0) (c .before .before .before .before .before .before .before .before .before .before .before .args .x) (Factored (c .before .before .before .before .before .before .before .before .before .before .before .args .factor) (c .before .before .before .before .before .before .before .before .before .before .before .args .a) (c .before .before .before .before .before .before .before .before .before .before .before .args .b)) (c .before .before .before .before .before .before .before .before .before .before .before .pre .1) _ _ _ refl _ _ (c .before .before .before .before .before .before .before .mapped .ensures) (c .before .before .before .before .before .before .mapped2 .ensures) _ (c .before .before .before .before .before .like .ensures) _ _ (c .before .before .before .before .push .ensures) _ (c .mapped3 .ensures)
 
--- src/lib.rt:361:1
 same-length : tie.Need-same-length
 same-length c = search needs
 
--- src/lib.rt:361:1
 returns : tie.Need-returns
 returns c = Enter.factored-planned (c .before .before .before .before .before .before .before .before .before .before .before .before .before .before .args .work .now) (c .before .before .before .before .before .before .before .before .before .before .before .before .before .before .args .count) (c .before .before .before .before .before .before .before .before .before .before .before .before .before .before .args .map .now) (c .before .before .before .before .before .before .before .before .before .before .before .before .before .before .pre .0) (c .before .before .before .before .before .before .before .before .before .before .before .before .before .before .args .x) (Factored (c .before .before .before .before .before .before .before .before .before .before .before .before .before .before .args .factor) (c .before .before .before .before .before .before .before .before .before .before .before .before .before .before .args .a) (c .before .before .before .before .before .before .before .before .before .before .before .before .before .before .args .b)) (c .before .before .before .before .before .before .before .before .before .before .before .before .before .before .pre .1) _ _ _ refl _ _ (c .before .before .before .before .before .before .before .before .before .before .mapped .ensures) (c .before .before .before .before .before .before .before .before .before .mapped2 .ensures) _ (c .before .before .before .before .before .before .before .before .like .ensures) _ _ (c .before .before .before .before .before .before .before .push .ensures) _ (c .before .before .before .mapped3 .ensures) _ _ (c .before .before .push2 .ensures)
 

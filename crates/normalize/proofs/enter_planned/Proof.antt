@@ -1,80 +1,54 @@
-use Rattle.normalize.specs.declared.Plan.the-variants.{Factored}
 use Rattle.normalize.specs.EnterLaws as Enter
-use Rattle.dag.specs.Told.{told}
-use mathlib.Core.Path.{refl, _∙_}
 use native.Mathlib.Omega.{arith}
 use borrow.Author.Needs.{needs}
 use Rattle.normalize.proofs.enter_planned.Statement.{statement}
 use Rattle.normalize.proofs.enter_planned.Tie as tie
-use Rattle.normalize.proofs.enter_planned.Reads as reads
-use Rattle.normalize.proofs.enter_planned.Lts as lts
-use Rattle.builder.proofs.mapped.Reads as mapped-reads
-use Rattle.builder.proofs.push.Reads as push-reads
-use Rattle.builder.proofs.renamed.Reads as renamed-reads
-use Rattle.normalize.proofs.enter_factored.Reads as enter-factored-reads
-use Rattle.normalize.proofs.like.Reads as like-reads
 
--- src/lib.rt:376:13
 enum-known-plan : tie.Need-enum-known-plan
 enum-known-plan c = search needs
 
--- src/lib.rt:379:14
 enter-factored-requires : tie.Need-enter-factored-requires
 enter-factored-requires c κs = (c .before .before .before .before .before .before .pre .0, Enter.entering-as (c .before .before .before .before .before .before .args .work .now) (c .before .before .before .before .before .before .args .count) (c .before .before .before .before .before .before .args .map .now) (c .before .before .before .before .before .before .pre .0) (c .before .before .before .before .before .before .args .x) (c .before .before .before .before .before .before .args .plan) (c .before .before .before .before .before .before .pre .1) (c .before .before .plan .given .1))
 
--- src/lib.rt:381:13
 enum-known-plan-2 : tie.Need-enum-known-plan-2
 enum-known-plan-2 c = search needs
 
--- src/lib.rt:386:21
 mapped-requires : tie.Need-mapped-requires
 mapped-requires c κs = Enter.rotated-fit (c .before .before .before .before .before .before .args .work .now) (c .before .before .before .before .before .before .args .count) (c .before .before .before .before .before .before .args .map .now) (c .before .before .before .before .before .before .pre .0) (c .before .before .before .before .before .before .args .x) (c .before .before .before .before .before .before .args .plan) (c .before .before .before .before .before .before .pre .1) _ _ (c .before .before .plan2 .given .1) .0
 
--- src/lib.rt:386:53
 mapped-requires-2 : tie.Need-mapped-requires-2
 mapped-requires-2 c κs = Enter.rotated-fit (c .before .before .before .before .before .before .before .args .work .now) (c .before .before .before .before .before .before .before .args .count) (c .before .before .before .before .before .before .before .args .map .now) (c .before .before .before .before .before .before .before .pre .0) (c .before .before .before .before .before .before .before .args .x) (c .before .before .before .before .before .before .before .args .plan) (c .before .before .before .before .before .before .before .pre .1) _ _ (c .before .before .before .plan2 .given .1) .1
 
--- src/lib.rt:386:13
 like-requires : tie.Need-like-requires
 like-requires c κs = search needs
 
--- src/lib.rt:383:14
 push-requires : tie.Need-push-requires
 push-requires c κs = (Enter.rotated-request (c .before .before .before .before .before .before .before .before .before .args .work .now) (c .before .before .before .before .before .before .before .before .before .args .count) (c .before .before .before .before .before .before .before .before .before .args .map .now) (c .before .before .before .before .before .before .before .before .before .pre .0) (c .before .before .before .before .before .before .before .before .before .args .x) (c .before .before .before .before .before .before .before .before .before .args .plan) (c .before .before .before .before .before .before .before .before .before .pre .1) _ _ (c .before .before .before .before .before .plan2 .given .1) _ _ (c .before .before .mapped .ensures) (c .before .mapped2 .ensures) _ (c .like .ensures), let h = c .before .before .before .before .before .before .before .before .before .pre .1 .room in omega arith)
 
--- src/lib.rt:388:38
 enum-told : tie.Need-enum-told
 enum-told c = search needs
 
--- src/lib.rt:388:51
 renamed-requires : tie.Need-renamed-requires
 renamed-requires c κs = Enter.record-fits (c .before .before .before .before .before .args .work .now) (c .before .before .before .before .before .args .count) (c .before .before .before .before .before .args .map .now) (c .before .before .before .before .before .pre .0) (c .before .before .before .before .before .args .x) (c .before .before .before .before .before .args .plan) (c .before .before .before .before .before .pre .1)
 
--- src/lib.rt:388:24
 push-requires-2 : tie.Need-push-requires-2
 push-requires-2 c κs = (rw (c .renamed .ensures) (Enter.plain-request (c .before .before .before .before .before .before .args .work .now) (c .before .before .before .before .before .before .args .count) (c .before .before .before .before .before .before .args .map .now) (c .before .before .before .before .before .before .pre .0) (c .before .before .before .before .before .before .args .x) (c .before .before .before .before .before .before .args .plan) (c .before .before .before .before .before .before .pre .1)), let h = c .before .before .before .before .before .before .pre .1 .room in omega arith)
 
--- src/lib.rt:370:1
 same-length : tie.Need-same-length
 same-length c = search needs
 
--- src/lib.rt:370:1
 returns : tie.Need-returns
 returns c = Enter.planned-as (c .before .before .before .before .before .before .before .before .before .args .work .now) (c .before .before .before .before .before .before .before .before .before .args .count) (c .before .before .before .before .before .before .before .before .before .args .map .now) (c .before .before .before .before .before .before .before .before .before .pre .0) (c .before .before .before .before .before .before .before .before .before .args .x) (c .before .before .before .before .before .before .before .before .before .args .plan) (c .before .before .before .before .before .before .before .before .before .pre .1) _ _ (c .before .before .before .before .before .plan .given .1) (c .before .before .enter-factored .ensures)
 
--- src/lib.rt:370:1
 same-length-2 : tie.Need-same-length-2
 same-length-2 c = search needs
 
--- src/lib.rt:370:1
 returns-2 : tie.Need-returns-2
 returns-2 c = Enter.rotated-planned (c .before .before .before .before .before .before .before .before .before .before .before .before .args .work .now) (c .before .before .before .before .before .before .before .before .before .before .before .before .args .count) (c .before .before .before .before .before .before .before .before .before .before .before .before .args .map .now) (c .before .before .before .before .before .before .before .before .before .before .before .before .pre .0) (c .before .before .before .before .before .before .before .before .before .before .before .before .args .x) (c .before .before .before .before .before .before .before .before .before .before .before .before .args .plan) (c .before .before .before .before .before .before .before .before .before .before .before .before .pre .1) _ _ (c .before .before .before .before .before .before .before .before .plan2 .given .1) _ _ (c .before .before .before .before .before .mapped .ensures) (c .before .before .before .before .mapped2 .ensures) _ (c .before .before .before .like .ensures) _ _ (c .before .before .push .ensures)
 
--- src/lib.rt:370:1
 same-length-3 : tie.Need-same-length-3
 same-length-3 c = search needs
 
--- src/lib.rt:370:1
 returns-3 : tie.Need-returns-3
 returns-3 c = Enter.plain-planned (c .before .before .before .before .before .before .before .before .before .args .work .now) (c .before .before .before .before .before .before .before .before .before .args .count) (c .before .before .before .before .before .before .before .before .before .args .map .now) (c .before .before .before .before .before .before .before .before .before .pre .0) (c .before .before .before .before .before .before .before .before .before .args .x) (c .before .before .before .before .before .before .before .before .before .args .plan) (c .before .before .before .before .before .before .before .before .before .pre .1) (c .before .before .before .before .before .enum-told .given .1) _ _ (rw (c .before .before .before .renamed .ensures) at (c .before .before .push2 .ensures))
 

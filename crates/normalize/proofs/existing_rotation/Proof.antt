@@ -1,76 +1,50 @@
 use Rattle.normalize.specs.Asked as Asked
-use Rattle.normalize.specs.Rounds as Rounds
-use Rattle.builder.specs.Steps as Steps
-use Rattle.normalize.specs.ReadLaws.{onto-hit, onto-late, onto-none, first-found, then-other, no-rotation, rotation-first, rotation-other, no-factor, factor-read}
-use mathlib.Core.Path.{refl, sym, _∙_, ap, ap₂}
-use Rattle.dag.specs.Told.{told, and-when, and-never, and-rest}
-use borrow.Author.Tests.{eq-eqb, ne-eqb, not-true, not-false}
+use Rattle.normalize.specs.ReadLaws.{no-rotation, rotation-first, rotation-other}
+use Rattle.dag.specs.Told.{told}
+use borrow.Author.Tests.{not-true, not-false}
 use borrow.Author.Needs.{needs}
 use Rattle.normalize.proofs.existing_rotation.Statement.{statement}
 use Rattle.normalize.proofs.existing_rotation.Tie as tie
-use Rattle.normalize.proofs.existing_rotation.Reads as reads
-use Rattle.normalize.proofs.existing_rotation.Lts as lts
-use Rattle.dag.proofs.first_of.Reads as first-of-reads
-use Rattle.dag.proofs.node_at.Reads as node-at-reads
-use Rattle.dag.proofs.second_of.Reads as second-of-reads
-use Rattle.normalize.proofs.canonical.Reads as canonical-reads
-use Rattle.normalize.proofs.is_onto.Reads as is-onto-reads
-use Rattle.normalize.proofs.onto_before.Reads as onto-before-reads
-use Rattle.normalize.proofs.rotates.Reads as rotates-reads
 
--- src/lib.rt:227:9
 node-at-requires : tie.Need-node-at-requires
 node-at-requires c κs = search needs
 
--- src/lib.rt:228:24
 mul-rotates : tie.Need-mul-rotates
 mul-rotates c = search needs
 
--- src/lib.rt:228:24
 shared-slice-read-rotates : tie.Need-shared-slice-read-rotates
 shared-slice-read-rotates c = search needs
 
--- src/lib.rt:228:9
 rotates-requires : tie.Need-rotates-requires
 rotates-requires c κs = search needs
 
--- src/lib.rt:229:9
 returns : tie.Need-returns
 returns c = no-rotation (c .before .before .before .before .before .before .args .list .now) (c .before .before .before .before .before .before .args .n) (c .before .before .before .before .before .before .args .inner) (c .before .before .before .before .before .before .args .other) (c .before .before .before .before .before .before .pre .0) (c .before .before .before .before .before .before .args .fan .now) _ (c .before .before .before .node-at .ensures) (Asked.operation (c .before .before .before .before .before .before .args .op)) (c .before .before .before .before .before .before .args .i) (told (c .before .rotates .ensures) (not-true _ (c .if1 .taken)))
 
--- src/lib.rt:231:13
 first-of-requires : tie.Need-first-of-requires
 first-of-requires c κs = search needs
 
--- src/lib.rt:232:13
 second-of-requires : tie.Need-second-of-requires
 second-of-requires c κs = search needs
 
--- src/lib.rt:233:41
 canonical-requires : tie.Need-canonical-requires
 canonical-requires c κs = search needs
 
--- src/lib.rt:233:9
 onto-before-requires : tie.Need-onto-before-requires
 onto-before-requires c κs = search needs
 
--- src/lib.rt:234:8
 is-onto-requires : tie.Need-is-onto-requires
 is-onto-requires c κs = search needs
 
--- src/lib.rt:235:9
 returns-2 : tie.Need-returns-2
 returns-2 c = rotation-first (c .before .before .before .before .before .before .before .before .before .before .before .before .args .list .now) (c .before .before .before .before .before .before .before .before .before .before .before .before .args .n) (c .before .before .before .before .before .before .before .before .before .before .before .before .args .inner) (c .before .before .before .before .before .before .before .before .before .before .before .before .args .other) (c .before .before .before .before .before .before .before .before .before .before .before .before .pre .0) (c .before .before .before .before .before .before .before .before .before .before .before .before .args .fan .now) _ (c .before .before .before .before .before .before .before .before .before .node-at .ensures) (Asked.operation (c .before .before .before .before .before .before .before .before .before .before .before .before .args .op)) (c .before .before .before .before .before .before .before .before .before .before .before .before .args .i) (told (c .before .before .before .before .before .before .before .rotates .ensures) (not-false _ (c .before .before .before .before .before .before .if1 .left))) _ _ (c .before .before .before .before .before .first-of .ensures) (c .before .before .before .before .second-of .ensures) _ (c .before .before .before .canonical .ensures) _ (c .before .before .onto-before .ensures) (told (c .before .is-onto .ensures) (c .if2 .taken))
 
--- src/lib.rt:237:29
 canonical-requires-2 : tie.Need-canonical-requires-2
 canonical-requires-2 c κs = search needs
 
--- src/lib.rt:237:5
 onto-before-requires-2 : tie.Need-onto-before-requires-2
 onto-before-requires-2 c κs = search needs
 
--- src/lib.rt:223:1
 returns-3 : tie.Need-returns-3
 returns-3 c = rotation-other (c .before .before .before .before .before .before .before .before .before .before .before .before .before .before .args .list .now) (c .before .before .before .before .before .before .before .before .before .before .before .before .before .before .args .n) (c .before .before .before .before .before .before .before .before .before .before .before .before .before .before .args .inner) (c .before .before .before .before .before .before .before .before .before .before .before .before .before .before .args .other) (c .before .before .before .before .before .before .before .before .before .before .before .before .before .before .pre .0) (c .before .before .before .before .before .before .before .before .before .before .before .before .before .before .args .fan .now) _ (c .before .before .before .before .before .before .before .before .before .before .before .node-at .ensures) (Asked.operation (c .before .before .before .before .before .before .before .before .before .before .before .before .before .before .args .op)) (c .before .before .before .before .before .before .before .before .before .before .before .before .before .before .args .i) (told (c .before .before .before .before .before .before .before .before .before .rotates .ensures) (not-false _ (c .before .before .before .before .before .before .before .before .if1 .left))) _ _ (c .before .before .before .before .before .before .before .first-of .ensures) (c .before .before .before .before .before .before .second-of .ensures) _ (c .before .before .before .before .before .canonical .ensures) _ (c .before .before .before .before .onto-before .ensures) (told (c .before .before .before .is-onto .ensures) (c .before .before .if2 .left)) _ (c .before .canonical2 .ensures) _ (c .onto-before2 .ensures)
 

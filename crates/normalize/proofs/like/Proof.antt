@@ -1,57 +1,42 @@
 use Rattle.dag.specs.Nodes as Nodes
-use mathlib.Core.Path.{refl, sym, _∙_, ap, ap₂}
-use Rattle.dag.specs.Told.{told}
+use mathlib.Core.Path.{sym, ap}
 use borrow.Author.Needs.{needs}
 use Rattle.normalize.proofs.like.Statement.{statement}
 use Rattle.normalize.proofs.like.Tie as tie
-use Rattle.normalize.proofs.like.Reads as reads
-use Rattle.normalize.proofs.like.Lts as lts
 
--- src/lib.rt:350:25
 enum-known-x : tie.Need-enum-known-x
 enum-known-x c = search needs
 
--- src/lib.rt:351:28
 enum-known-x-2 : tie.Need-enum-known-x-2
 enum-known-x-2 c = search needs
 
--- src/lib.rt:352:32
 enum-told : tie.Need-enum-told
 enum-told c = search needs
 
--- src/lib.rt:353:32
 enum-told-2 : tie.Need-enum-told-2
 enum-told-2 c = search needs
 
--- src/lib.rt:354:32
 enum-told-3 : tie.Need-enum-told-3
 enum-told-3 c = search needs
 
--- src/lib.rt:355:29
 enum-told-4 : tie.Need-enum-told-4
 enum-told-4 c = search needs
 
--- src/lib.rt:346:1
 returns : tie.Need-returns
 returns c = sym (ap (λ y. Nodes.like y (c .before .before .before .args .a) (c .before .before .before .args .b)) (c .before .x .given .1))
 
--- src/lib.rt:346:1
 returns-2 : tie.Need-returns-2
 returns-2 c = sym (ap (λ y. Nodes.like y (c .before .before .before .args .a) (c .before .before .before .args .b)) (c .before .x2 .given .1))
 
--- src/lib.rt:346:1
 returns-3 : tie.Need-returns-3
 returns-3 c = sym (ap (λ y. Nodes.like y (c .before .before .args .a) (c .before .before .args .b)) (c .enum-told .given .1))
 
--- src/lib.rt:346:1
 returns-4 : tie.Need-returns-4
 returns-4 c = sym (ap (λ y. Nodes.like y (c .before .before .args .a) (c .before .before .args .b)) (c .enum-told2 .given .1))
 
--- src/lib.rt:346:1
 returns-5 : tie.Need-returns-5
 returns-5 c = sym (ap (λ y. Nodes.like y (c .before .before .args .a) (c .before .before .args .b)) (c .enum-told3 .given .1))
 
--- src/lib.rt:346:1
 returns-6 : tie.Need-returns-6
 returns-6 c = sym (ap (λ y. Nodes.like y (c .before .before .args .a) (c .before .before .args .b)) (c .enum-told4 .given .1))
 

@@ -2,47 +2,35 @@ use Rattle.compact.specs.Reach.{here, there}
 use Rattle.dag.specs.Nodes as Nodes
 use Rattle.normalize.specs.Fanouts as Fanouts
 use native.Mathlib.Omega.{arith}
-use mathlib.Core.Path.{_∙_, ap, refl}
+use mathlib.Core.Path.{refl}
 use borrow.Author.Needs.{needs}
 use Rattle.normalize.proofs.mention_operands.Statement.{statement}
 use Rattle.normalize.proofs.mention_operands.Tie as tie
-use Rattle.normalize.proofs.mention_operands.Reads as reads
-use Rattle.normalize.proofs.mention_operands.Lts as lts
-use Rattle.normalize.proofs.mention.Reads as mention-reads
-use Rattle.normalize.proofs.mention_pair.Reads as mention-pair-reads
 
--- src/lib.rt:81:23
 enum-known-x : tie.Need-enum-known-x
 enum-known-x c = search needs
 
--- src/lib.rt:81:32
 mention-pair-requires : tie.Need-mention-pair-requires
 unfolding Nodes.operands
 mention-pair-requires c κs = let h = Fanouts.operands-as _ (c .before .before .x .given .1) (c .before .before .before .before .before .pre .0) in (h _ here, h _ (there here), c .before .before .before .before .before .pre .1)
 
--- src/lib.rt:82:23
 enum-known-x-2 : tie.Need-enum-known-x-2
 enum-known-x-2 c = search needs
 
--- src/lib.rt:82:32
 mention-pair-requires-2 : tie.Need-mention-pair-requires-2
 unfolding Nodes.operands
 mention-pair-requires-2 c κs = let h = Fanouts.operands-as _ (c .before .before .x2 .given .1) (c .before .before .before .before .before .pre .0) in (h _ here, h _ (there here), c .before .before .before .before .before .pre .1)
 
--- src/lib.rt:83:23
 enum-known-x-3 : tie.Need-enum-known-x-3
 enum-known-x-3 c = search needs
 
--- src/lib.rt:83:32
 mention-pair-requires-3 : tie.Need-mention-pair-requires-3
 unfolding Nodes.operands
 mention-pair-requires-3 c κs = let h = Fanouts.operands-as _ (c .before .before .x3 .given .1) (c .before .before .before .before .before .pre .0) in (h _ here, h _ (there here), c .before .before .before .before .before .pre .1)
 
--- src/lib.rt:84:23
 enum-known-x-4 : tie.Need-enum-known-x-4
 enum-known-x-4 c = search needs
 
--- src/lib.rt:84:29
 mention-requires : tie.Need-mention-requires
 unfolding Nodes.operands
 mention-requires c κs = let h = Fanouts.operands-as _ (c .before .before .x4 .given .1) (c .before .before .before .before .before .pre .0) in (h _ here, let k = c .before .before .before .before .before .pre .1 (c .before .before .x4 .given .0 .0) in omega arith)
@@ -53,48 +41,38 @@ enum-told c = search needs
 enum-told-2 : tie.Need-enum-told-2
 enum-told-2 c = search needs
 
--- src/lib.rt:76:1
 same-length : tie.Need-same-length
 same-length c = search needs
 
--- src/lib.rt:76:1
 returns : tie.Need-returns
 unfolding Nodes.operands
 returns c = Fanouts.mentioned-as _ _ (c .before .before .before .before .before .x .given .1) (c .before .before .mention-pair .ensures)
 
--- src/lib.rt:76:1
 same-length-2 : tie.Need-same-length-2
 same-length-2 c = search needs
 
--- src/lib.rt:76:1
 returns-2 : tie.Need-returns-2
 unfolding Nodes.operands
 returns-2 c = Fanouts.mentioned-as _ _ (c .before .before .before .before .before .x2 .given .1) (c .before .before .mention-pair2 .ensures)
 
--- src/lib.rt:76:1
 same-length-3 : tie.Need-same-length-3
 same-length-3 c = search needs
 
--- src/lib.rt:76:1
 returns-3 : tie.Need-returns-3
 unfolding Nodes.operands
 returns-3 c = Fanouts.mentioned-as _ _ (c .before .before .before .before .before .x3 .given .1) (c .before .before .mention-pair3 .ensures)
 
--- src/lib.rt:76:1
 same-length-4 : tie.Need-same-length-4
 same-length-4 c = search needs
 
--- src/lib.rt:76:1
 returns-4 : tie.Need-returns-4
 unfolding Nodes.operands
 returns-4 c = Fanouts.mentioned-as _ _ (c .before .before .before .before .before .x4 .given .1) (c .before .before .mention .ensures)
 
--- src/lib.rt:76:1
 returns-5 : tie.Need-returns-5
 unfolding Nodes.operands Fanouts.mentioned
 returns-5 c = Fanouts.mentioned-as _ _ (c .enum-told .given .1) refl
 
--- src/lib.rt:76:1
 returns-6 : tie.Need-returns-6
 unfolding Nodes.operands Fanouts.mentioned
 returns-6 c = Fanouts.mentioned-as _ _ (c .enum-told2 .given .1) refl

@@ -1,26 +1,18 @@
 use Rattle.normalize.specs.Fanouts as Fanouts
 use native.Mathlib.Omega.{arith}
-use mathlib.Core.Path.{_∙_, ap, refl}
 use borrow.Author.Needs.{needs}
 use Rattle.normalize.proofs.mention_pair.Statement.{statement}
 use Rattle.normalize.proofs.mention_pair.Tie as tie
-use Rattle.normalize.proofs.mention_pair.Reads as reads
-use Rattle.normalize.proofs.mention_pair.Lts as lts
-use Rattle.normalize.proofs.mention.Reads as mention-reads
 
--- src/lib.rt:71:5
 mention-requires : tie.Need-mention-requires
 mention-requires c κs = (c .before .before .pre .0, let h = c .before .before .pre .2 (c .before .before .args .a) in omega arith)
 
--- src/lib.rt:72:5
 mention-requires-2 : tie.Need-mention-requires-2
 mention-requires-2 c κs = Fanouts.second-fits (c .before .before .before .before .before .before .args .fan .now) _ (c .before .before .before .before .before .before .args .a) (c .before .before .before .before .before .before .args .b) (c .before .before .before .before .before .before .pre .0) (c .before .before .before .before .before .before .pre .1) (c .before .before .before .mention .ensures) (c .before .before .before .before .before .before .pre .2)
 
--- src/lib.rt:67:1
 same-length : tie.Need-same-length
 same-length c = search needs
 
--- src/lib.rt:67:1
 returns : tie.Need-returns
 returns c = Fanouts.both-mentioned (c .before .before .before .before .before .before .before .before .before .args .fan .now) _ (c .before .before .before .before .before .before .before .before .before .args .a) (c .before .before .before .before .before .before .before .before .before .args .b) (c .before .before .before .before .before .before .before .before .before .pre .0) (c .before .before .before .before .before .before .before .before .before .pre .1) (c .before .before .before .before .before .before .mention .ensures) _ (c .before .before .mention2 .ensures)
 

@@ -4,40 +4,28 @@ use lib.ListN.{length}
 use borrow.Author.Needs.{needs}
 use Rattle.normalize.proofs.normalize.Statement.{statement}
 use Rattle.normalize.proofs.normalize.Tie as tie
-use Rattle.normalize.proofs.normalize.Reads as reads
-use Rattle.normalize.proofs.normalize.Lts as lts
-use Rattle.normalize.proofs.normalize_check.Reads as normalize-check-reads
-use Rattle.normalize.proofs.normalize_ready.Reads as normalize-ready-reads
 
--- src/lib.rt:567:9
 normalize-check-requires : tie.Need-normalize-check-requires
 normalize-check-requires c κs = search needs
 
--- src/lib.rt:569:26
 enum-known-checked : tie.Need-enum-known-checked
 enum-known-checked c = search needs
 
--- src/lib.rt:570:57
 enum-told : tie.Need-enum-told
 enum-told c = search needs
 
--- src/lib.rt:570:26
 normalize-ready-requires : tie.Need-normalize-ready-requires
 normalize-ready-requires c κs = passed (c .before .before .before .before .before .before .before .before .args .list .now) (c .before .before .before .before .before .before .before .before .args .n) (c .before .before .before .before .before .before .before .before .args .root) (length (c .before .before .before .before .before .before .before .before .args .result .now)) (length (c .before .before .before .before .before .before .before .before .args .work .now)) (told (c .before .before .before .before .normalize-check .ensures) (c .before .before .enum-told .given .1))
 
--- src/lib.rt:562:1
 returns : tie.Need-returns
 returns c = let h = normalize-refused (c .before .before .before .before .before .before .before .args .list .now) (c .before .before .before .before .before .before .before .args .n) (c .before .before .before .before .before .before .before .args .root) (c .before .before .before .before .before .before .before .args .result .now) (c .before .before .before .before .before .before .before .args .work .now) _ (told (c .before .before .before .normalize-check .ensures) (c .before .checked .given .1)) in (h .answer, (h .list-is, h .work-is))
 
--- src/lib.rt:562:1
 same-length : tie.Need-same-length
 same-length c = search needs
 
--- src/lib.rt:562:1
 same-length-2 : tie.Need-same-length-2
 same-length-2 c = search needs
 
--- src/lib.rt:562:1
 returns-2 : tie.Need-returns-2
 returns-2 c = let h = normalize-done (c .before .before .before .before .before .before .before .before .before .before .before .before .before .args .list .now) (c .before .before .before .before .before .before .before .before .before .before .before .before .before .args .n) (c .before .before .before .before .before .before .before .before .before .before .before .before .before .args .root) (c .before .before .before .before .before .before .before .before .before .before .before .before .before .args .result .now) (c .before .before .before .before .before .before .before .before .before .before .before .before .before .args .work .now) _ _ _ (told (c .before .before .before .before .before .before .before .before .before .normalize-check .ensures) (c .before .before .before .before .before .before .before .enum-told .given .1)) (c .before .before .before .before .normalize-ready .ensures) in (h .answer, (h .list-is, h .work-is))
 

@@ -8,43 +8,31 @@ use native.Mathlib.Omega.{arith}
 use borrow.Author.Needs.{needs}
 use Rattle.normalize.proofs.normalize_check.Statement.{statement}
 use Rattle.normalize.proofs.normalize_check.Tie as tie
-use Rattle.normalize.proofs.normalize_check.Reads as reads
-use Rattle.normalize.proofs.normalize_check.Lts as lts
-use Rattle.dag.proofs.is_refused.Reads as is-refused-reads
-use Rattle.dag.proofs.list_check.Reads as list-check-reads
 
--- src/lib.rt:532:9
 list-check-requires : tie.Need-list-check-requires
 list-check-requires c κs = search needs
 
--- src/lib.rt:533:8
 is-refused-requires : tie.Need-is-refused-requires
 is-refused-requires c κs = search needs
 
--- src/lib.rt:534:9
 returns : tie.Need-returns
 unfolding Calls.normalizeCheck
 returns c = c .before .before .list-check .ensures ∙ refused-then _ _ (bad-told (c .before .before .list-check .ensures) (c .before .is-refused .ensures) (c .if1 .taken))
 
--- src/lib.rt:536:23
 mul-if2 : tie.Need-mul-if2
 mul-if2 c = let h = rooted p _ _ _ (good-told (c .before .before .list-check .ensures) (c .before .is-refused .ensures) (c .if1 .left)) in omega (arith, h .list .most)
 
--- src/lib.rt:537:9
 returns-2 : tie.Need-returns-2
 unfolding Calls.normalizeCheck
 returns-2 c = rw (good-told (c .before .before .before .list-check .ensures) (c .before .before .is-refused .ensures) (c .before .if1 .left), lt-leb _ _ (c .if2 .taken))
 
--- src/lib.rt:539:21
 mul-if3 : tie.Need-mul-if3
 mul-if3 c = let h = rooted p _ _ _ (good-told (c .before .before .before .list-check .ensures) (c .before .before .is-refused .ensures) (c .before .if1 .left)) in omega (arith, h .list .most)
 
--- src/lib.rt:540:9
 returns-3 : tie.Need-returns-3
 unfolding Calls.normalizeCheck
 returns-3 c = rw (good-told (c .before .before .before .before .list-check .ensures) (c .before .before .before .is-refused .ensures) (c .before .before .if1 .left), le-leb _ _ (c .before .if2 .left)) (rw (lt-leb _ _ (c .if3 .taken)))
 
--- src/lib.rt:529:1
 returns-4 : tie.Need-returns-4
 unfolding Calls.normalizeCheck
 returns-4 c = rw (good-told (c .before .before .before .before .list-check .ensures) (c .before .before .before .is-refused .ensures) (c .before .before .if1 .left), le-leb _ _ (c .before .if2 .left)) (rw (le-leb _ _ (c .if3 .left)))

@@ -3,45 +3,31 @@ use mathlib.Core.Path.{_∙_}
 use borrow.Author.Needs.{needs}
 use Rattle.normalize.proofs.normalize_ready.Statement.{statement}
 use Rattle.normalize.proofs.normalize_ready.Tie as tie
-use Rattle.normalize.proofs.normalize_ready.Reads as reads
-use Rattle.normalize.proofs.normalize_ready.Lts as lts
-use Rattle.dag.proofs.blank_from.Reads as blank-from-reads
-use Rattle.normalize.proofs.copy_words.Reads as copy-words-reads
-use Rattle.normalize.proofs.normalize_rounds.Reads as normalize-rounds-reads
 
--- src/lib.rt:550:22
 mul-copy-words : tie.Need-mul-copy-words
 mul-copy-words c = search needs
 
--- src/lib.rt:550:5
 copy-words-requires : tie.Need-copy-words-requires
 copy-words-requires c κs = search needs
 
--- src/lib.rt:551:9
 normalize-rounds-requires : tie.Need-normalize-rounds-requires
 normalize-rounds-requires c κs = (rw (c .before .before .before .before .copy-words .kept .1 .1 .0) (c .before .before .before .before .before .before .before .before .before .pre), running-begins (c .before .before .before .before .before .before .before .before .before .args .list .now) (c .before .before .before .before .before .before .before .before .before .args .n) (c .before .before .before .before .before .before .before .before .before .args .root) (c .before .before .before .before .before .before .before .before .before .args .result .now) _ (c .before .before .before .before .before .before .before .before .before .pre .sound) (c .before .before .before .before .before .before .before .before .before .pre .inside) (c .before .before .before .before .copy-words .ensures ∙ copied-list (c .before .before .before .before .before .before .before .before .before .args .list .now) (c .before .before .before .before .before .before .before .before .before .args .result .now) (c .before .before .before .before .before .before .before .before .before .args .n) (c .before .before .before .before .before .before .before .before .before .pre .sound)))
 
--- src/lib.rt:552:29
 mul-blank-from : tie.Need-mul-blank-from
 mul-blank-from c = search needs
 
--- src/lib.rt:552:5
 blank-from-requires : tie.Need-blank-from-requires
 blank-from-requires c κs = search needs
 
--- src/lib.rt:553:5
 blank-from-requires-2 : tie.Need-blank-from-requires-2
 blank-from-requires-2 c κs = search needs
 
--- src/lib.rt:546:1
 same-length : tie.Need-same-length
 same-length c = search needs
 
--- src/lib.rt:546:1
 same-length-2 : tie.Need-same-length-2
 same-length-2 c = search needs
 
--- src/lib.rt:546:1
 returns : tie.Need-returns
 returns c = finished (c .before .before .before .before .before .before .before .before .before .before .before .before .before .before .before .before .before .before .before .before .before .before .before .args .list .now) (c .before .before .before .before .before .before .before .before .before .before .before .before .before .before .before .before .before .before .before .before .before .before .before .args .n) (c .before .before .before .before .before .before .before .before .before .before .before .before .before .before .before .before .before .before .before .before .before .before .before .args .root) (c .before .before .before .before .before .before .before .before .before .before .before .before .before .before .before .before .before .before .before .before .before .before .before .args .result .now) (c .before .before .before .before .before .before .before .before .before .before .before .before .before .before .before .before .before .before .before .before .before .before .before .args .work .now) _ _ (c .before .before .before .before .before .before .before .before .before .before .before .before .before .normalize-rounds .ensures) (c .before .before .before .before .before .before .before .before .before .before .before .before .before .normalize-rounds .kept .1 .1 .1 .0 ∙ c .before .before .before .before .before .before .before .before .before .before .before .before .before .before .before .before .before .before .copy-words .kept .1 .1 .0) _ (c .before .before .before .before .before .before .before .before .before .before .before .before .before .normalize-rounds .last .1 .1 .1 .1 .0) _ (c .before .before .before .before .before .before .blank-from .ensures) (c .before .before .before .before .before .before .before .before .before .before .before .before .before .normalize-rounds .kept .1 .1 .1 .1 .0) (c .before .before .blank-from2 .ensures)
 

@@ -1,14 +1,10 @@
-use Rattle.normalize.specs.CallLaws.{Passed, Running, running-ready, running-on, fewer, ended}
+use Rattle.normalize.specs.CallLaws.{Running, running-ready, running-on, fewer, ended}
 use lib.ListN.{length}
 use borrow.Author.Tests.{not-true, not-false}
 use native.Mathlib.Omega.{arith}
-use mathlib.Core.Path.{_≡_, refl, sym, _∙_}
-use Prim.Native.Nat.{_≤_, _-_}
+use mathlib.Core.Path.{_≡_, refl, _∙_}
 use Rattle.normalize.proofs.normalize_rounds.Statement.{statement}
 use Rattle.normalize.proofs.normalize_rounds.Tie as tie
-use Rattle.normalize.proofs.normalize_rounds.Reads as reads
-use Rattle.normalize.proofs.normalize_rounds.Lts as lts
-use Rattle.normalize.proofs.normalize_once.Reads as normalize-once-reads
 
 abbrev Inv-loop : tie.InvT-loop
 Inv-loop list n root result₀ work₀ count₀ place₀ rounds₀ result work count place rounds = (length result ≡ length result₀) × (length work ≡ length work₀) × Running list n root result count place rounds
@@ -16,35 +12,27 @@ Inv-loop list n root result₀ work₀ count₀ place₀ rounds₀ result work c
 abbrev μ-loop : tie.MeasureT-loop
 μ-loop list n root result₀ work₀ count₀ place₀ rounds₀ result work count place rounds = count
 
--- src/lib.rt:513:5
 loop-holds : tie.Need-loop-holds Inv-loop μ-loop
 loop-holds c = (refl, refl, c .before .before .before .pre .1)
 
--- src/lib.rt:514:13
 normalize-once-requires : tie.Need-normalize-once-requires Inv-loop μ-loop
 normalize-once-requires c κs = (running-ready (c .before .before .before .before .before .before .args .list .now) (c .before .before .before .before .before .before .args .n) (c .before .before .before .before .before .before .args .root) (c .before .before .loop .result) (c .before .before .loop .count) (c .before .before .loop .place) (c .before .before .loop .rounds) (c .before .before .loop .inv .2) _ (c .before .before .before .before .before .before .pre .0 .few) (omega (arith, c .before .before .before .before .before .before .pre .0 .work-room, c .before .before .loop .inv .1)), let a = c .before .before .loop .inv .2 .lost in omega (arith, a, c .before .before .before .before .before .before .pre .0 .result-room, c .before .before .loop .inv .0))
 
--- src/lib.rt:516:13
 same-length : tie.Need-same-length Inv-loop μ-loop
 same-length c = c .before .before .before .before .before .before .normalize-once .kept .0 ∙ c .before .before .before .before .before .before .before .before .before .loop .inv .0
 
--- src/lib.rt:516:13
 same-length-2 : tie.Need-same-length-2 Inv-loop μ-loop
 same-length-2 c = c .before .before .before .before .before .before .normalize-once .kept .1 .1 .1 .0 ∙ c .before .before .before .before .before .before .before .before .before .loop .inv .1
 
--- src/lib.rt:516:13
 returns : tie.Need-returns Inv-loop μ-loop
 returns c = ended (c .before .before .before .before .before .before .before .before .before .before .before .before .before .args .list .now) (c .before .before .before .before .before .before .before .before .before .before .before .before .before .args .n) (c .before .before .before .before .before .before .before .before .before .before .before .before .before .args .root) (c .before .before .before .before .before .before .before .before .before .loop .result) (c .before .before .before .before .before .before .before .before .before .loop .count) (c .before .before .before .before .before .before .before .before .before .loop .place) (c .before .before .before .before .before .before .before .before .before .loop .rounds) (c .before .before .before .before .before .before .before .before .before .loop .inv .2) _ _ (c .before .before .before .before .before .before .normalize-once .ensures) (not-true _ (c .if1 .taken))
 
--- src/lib.rt:524:9
 add-rounds : tie.Need-add-rounds Inv-loop μ-loop
 add-rounds c = let a = c .before .before .before .before .before .before .before .before .before .loop .inv .2 .lost in omega (arith, a, c .before .before .before .before .before .before .before .before .before .before .before .before .before .pre .0 .few)
 
--- src/lib.rt:513:5
 loop-less : tie.Need-loop-less Inv-loop μ-loop
 loop-less c = fewer (c .before .before .before .before .before .before .before .before .before .before .before .before .before .args .list .now) (c .before .before .before .before .before .before .before .before .before .before .before .before .before .args .n) (c .before .before .before .before .before .before .before .before .before .before .before .before .before .args .root) (c .before .before .before .before .before .before .before .before .before .loop .result) (c .before .before .before .before .before .before .before .before .before .loop .count) (c .before .before .before .before .before .before .before .before .before .loop .place) (c .before .before .before .before .before .before .before .before .before .loop .rounds) (c .before .before .before .before .before .before .before .before .before .loop .inv .2) _ _ (c .before .before .before .before .before .before .normalize-once .ensures) (not-false _ (c .if1 .left))
 
--- src/lib.rt:513:5
 loop-again : tie.Need-loop-again Inv-loop μ-loop
 loop-again c = (c .before .before .before .before .before .before .normalize-once .kept .0 ∙ c .before .before .before .before .before .before .before .before .before .loop .inv .0, c .before .before .before .before .before .before .normalize-once .kept .1 .1 .1 .0 ∙ c .before .before .before .before .before .before .before .before .before .loop .inv .1, running-on (c .before .before .before .before .before .before .before .before .before .before .before .before .before .args .list .now) (c .before .before .before .before .before .before .before .before .before .before .before .before .before .args .n) (c .before .before .before .before .before .before .before .before .before .before .before .before .before .args .root) (c .before .before .before .before .before .before .before .before .before .loop .result) (c .before .before .before .before .before .before .before .before .before .loop .count) (c .before .before .before .before .before .before .before .before .before .loop .place) (c .before .before .before .before .before .before .before .before .before .loop .rounds) (c .before .before .before .before .before .before .before .before .before .loop .inv .2) _ _ (c .before .before .before .before .before .before .normalize-once .ensures) (not-false _ (c .if1 .left)))
 

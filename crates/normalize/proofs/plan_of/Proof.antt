@@ -1,84 +1,58 @@
 use Rattle.builder.specs.Holds.{read}
 use Rattle.dag.specs.Nodes.{nodes}
-use Rattle.normalize.specs.PlanReads.{add-factored, add-rotated, plan-add, plan-sub, plan-mul, plan-neg, plan-input, plan-constant, planned-add, planned-sub, planned-mul}
-use mathlib.Core.Path.{refl, sym, _∙_, ap, ap₂}
-use Rattle.dag.specs.Told.{told}
+use Rattle.normalize.specs.PlanReads.{plan-add, plan-sub, plan-mul, plan-neg, plan-input, plan-constant, planned-add, planned-sub, planned-mul}
 use borrow.Author.Needs.{needs}
 use Rattle.normalize.proofs.plan_of.Statement.{statement}
 use Rattle.normalize.proofs.plan_of.Tie as tie
-use Rattle.normalize.proofs.plan_of.Reads as reads
-use Rattle.normalize.proofs.plan_of.Lts as lts
-use Rattle.normalize.proofs.add_plan.Reads as add-plan-reads
-use Rattle.normalize.proofs.common_factor.Reads as common-factor-reads
-use Rattle.normalize.proofs.either_rotation.Reads as either-rotation-reads
-use Rattle.normalize.proofs.factor_plan.Reads as factor-plan-reads
-use Rattle.normalize.proofs.rotation_plan.Reads as rotation-plan-reads
 
--- src/lib.rt:318:23
 enum-known-x : tie.Need-enum-known-x
 enum-known-x c = search needs
 
--- src/lib.rt:318:32
 add-plan-requires : tie.Need-add-plan-requires
 add-plan-requires c κs = planned-add (c .before .before .before .before .before .args .list .now) (c .before .before .before .before .before .args .n) (c .before .before .before .before .before .args .fan .now) (c .before .before .before .before .before .args .i) (c .before .before .before .before .before .args .x) (c .before .before .before .before .before .pre) _ _ (c .before .x .given .1)
 
--- src/lib.rt:319:23
 enum-known-x-2 : tie.Need-enum-known-x-2
 enum-known-x-2 c = search needs
 
--- src/lib.rt:319:44
 common-factor-requires : tie.Need-common-factor-requires
 common-factor-requires c κs = planned-sub (c .before .before .before .before .before .args .list .now) (c .before .before .before .before .before .args .n) (c .before .before .before .before .before .args .fan .now) (c .before .before .before .before .before .args .i) (c .before .before .before .before .before .args .x) (c .before .before .before .before .before .pre) _ _ (c .before .x2 .given .1)
 
--- src/lib.rt:319:32
 factor-plan-requires : tie.Need-factor-plan-requires
 factor-plan-requires c κs = search needs
 
--- src/lib.rt:320:23
 enum-known-x-3 : tie.Need-enum-known-x-3
 enum-known-x-3 c = search needs
 
--- src/lib.rt:320:46
 either-rotation-requires : tie.Need-either-rotation-requires
 either-rotation-requires c κs = planned-mul (c .before .before .before .before .before .args .list .now) (c .before .before .before .before .before .args .n) (c .before .before .before .before .before .args .fan .now) (c .before .before .before .before .before .args .i) (c .before .before .before .before .before .args .x) (c .before .before .before .before .before .pre) _ _ (c .before .x3 .given .1)
 
--- src/lib.rt:320:32
 rotation-plan-requires : tie.Need-rotation-plan-requires
 rotation-plan-requires c κs = search needs
 
--- src/lib.rt:321:29
 enum-told : tie.Need-enum-told
 enum-told c = search needs
 
--- src/lib.rt:322:31
 enum-told-2 : tie.Need-enum-told-2
 enum-told-2 c = search needs
 
--- src/lib.rt:323:34
 enum-told-3 : tie.Need-enum-told-3
 enum-told-3 c = search needs
 
--- src/lib.rt:313:1
 returns : tie.Need-returns
 returns c = plan-add (nodes (c .before .before .before .before .before .before .args .list .now) (c .before .before .before .before .before .before .args .n)) (read (c .before .before .before .before .before .before .args .fan .now)) (c .before .before .before .before .before .before .args .i) _ _ _ _ (c .before .before .x .given .1) (c .add-plan .ensures)
 
--- src/lib.rt:313:1
 returns-2 : tie.Need-returns-2
 returns-2 c = plan-sub (nodes (c .before .before .before .before .before .before .before .args .list .now) (c .before .before .before .before .before .before .before .args .n)) (read (c .before .before .before .before .before .before .before .args .fan .now)) (c .before .before .before .before .before .before .before .args .i) _ _ _ _ _ (c .before .before .before .x2 .given .1) (c .before .common-factor .ensures) (c .factor-plan .ensures)
 
--- src/lib.rt:313:1
 returns-3 : tie.Need-returns-3
 returns-3 c = plan-mul (nodes (c .before .before .before .before .before .before .before .args .list .now) (c .before .before .before .before .before .before .before .args .n)) (read (c .before .before .before .before .before .before .before .args .fan .now)) (c .before .before .before .before .before .before .before .args .i) _ _ _ _ _ (c .before .before .before .x3 .given .1) (c .before .either-rotation .ensures) (c .rotation-plan .ensures)
 
--- src/lib.rt:313:1
 returns-4 : tie.Need-returns-4
 returns-4 c = plan-neg (nodes (c .before .before .before .before .args .list .now) (c .before .before .before .before .args .n)) (read (c .before .before .before .before .args .fan .now)) (c .before .before .before .before .args .i) _ _ (c .enum-told .given .1)
 
--- src/lib.rt:313:1
 returns-5 : tie.Need-returns-5
 returns-5 c = plan-input (nodes (c .before .before .before .before .args .list .now) (c .before .before .before .before .args .n)) (read (c .before .before .before .before .args .fan .now)) (c .before .before .before .before .args .i) _ _ (c .enum-told2 .given .1)
 
--- src/lib.rt:313:1
 returns-6 : tie.Need-returns-6
 returns-6 c = plan-constant (nodes (c .before .before .before .before .args .list .now) (c .before .before .before .before .args .n)) (read (c .before .before .before .before .args .fan .now)) (c .before .before .before .before .args .i) _ _ (c .enum-told3 .given .1)
 

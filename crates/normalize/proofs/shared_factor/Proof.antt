@@ -2,12 +2,10 @@ use Rattle.normalize.specs.FactorSearch.{left, search-hit, search-miss, 
 use Rattle.normalize.specs.Asked.{sharedIn}
 use lib.ListN.{length}
 use native.Mathlib.Omega.{arith}
-use mathlib.Core.Path.{_≡_, refl, sym, _∙_}
+use mathlib.Core.Path.{_≡_, sym, _∙_}
 use Prim.Native.Nat.{_+_, _*_, _-_, _<_, _≤_}
 use Rattle.normalize.proofs.shared_factor.Statement.{statement}
 use Rattle.normalize.proofs.shared_factor.Tie as tie
-use Rattle.normalize.proofs.shared_factor.Reads as reads
-use Rattle.normalize.proofs.shared_factor.Lts as lts
 
 abbrev Inv-loop : tie.InvT-loop
 Inv-loop a b i j₀ j = (i < 2) × (j ≤ 2) × (length a ≡ 2) × (length b ≡ 2) × (sharedIn a b ≡ left a b (2 * i + j))
@@ -21,91 +19,69 @@ Inv-search a b i₀ i = (i ≤ 2) × (length a ≡ 2) × (length b ≡ 2) × (sh
 abbrev μ-search : tie.MeasureT-search
 μ-search a b i₀ i = 2 - i
 
--- src/lib.rt:109:9
 search-holds : tie.Need-search-holds Inv-loop μ-loop Inv-search μ-search
 search-holds c = (omega arith, c .pre .0, c .pre .1, search-begins (c .args .t1) (c .args .t2))
 
--- src/lib.rt:114:9
 loop-holds : tie.Need-loop-holds Inv-loop μ-loop Inv-search μ-search
 loop-holds c = (omega arith, omega arith, c .before .search .inv .1, c .before .search .inv .2, c .before .search .inv .3)
 
--- src/lib.rt:115:16
 mul-if2 : tie.Need-mul-if2 Inv-loop μ-loop Inv-search μ-search
 mul-if2 c = omega arith
 
--- src/lib.rt:115:16
 array-read-if2 : tie.Need-array-read-if2 Inv-loop μ-loop Inv-search μ-search
 array-read-if2 c = omega arith
 
--- src/lib.rt:115:24
 mul-if2-2 : tie.Need-mul-if2-2 Inv-loop μ-loop Inv-search μ-search
 mul-if2-2 c = omega arith
 
--- src/lib.rt:115:24
 array-read-if2-2 : tie.Need-array-read-if2-2 Inv-loop μ-loop Inv-search μ-search
 array-read-if2-2 c = omega arith
 
--- src/lib.rt:117:29
 mul-t19 : tie.Need-mul-t19 Inv-loop μ-loop Inv-search μ-search
 mul-t19 c = omega arith
 
--- src/lib.rt:117:29
 array-read-t22 : tie.Need-array-read-t22 Inv-loop μ-loop Inv-search μ-search
 array-read-t22 c = omega arith
 
--- src/lib.rt:118:32
 sub-t23 : tie.Need-sub-t23 Inv-loop μ-loop Inv-search μ-search
 sub-t23 c = omega arith
 
--- src/lib.rt:118:30
 mul-t24 : tie.Need-mul-t24 Inv-loop μ-loop Inv-search μ-search
 mul-t24 c = omega arith
 
--- src/lib.rt:118:30
 array-read-t27 : tie.Need-array-read-t27 Inv-loop μ-loop Inv-search μ-search
 array-read-t27 c = omega arith
 
--- src/lib.rt:119:32
 sub-t28 : tie.Need-sub-t28 Inv-loop μ-loop Inv-search μ-search
 sub-t28 c = omega arith
 
--- src/lib.rt:119:30
 mul-t29 : tie.Need-mul-t29 Inv-loop μ-loop Inv-search μ-search
 mul-t29 c = omega arith
 
--- src/lib.rt:119:30
 array-read-t32 : tie.Need-array-read-t32 Inv-loop μ-loop Inv-search μ-search
 array-read-t32 c = omega arith
 
--- src/lib.rt:122:13
 add-j : tie.Need-add-j Inv-loop μ-loop Inv-search μ-search
 add-j c = omega arith
 
--- src/lib.rt:114:9
 loop-less : tie.Need-loop-less Inv-loop μ-loop Inv-search μ-search
 loop-less c = omega arith
 
--- src/lib.rt:114:9
 loop-again : tie.Need-loop-again Inv-loop μ-loop Inv-search μ-search
 loop-again c = (omega arith, omega arith, c .before .before .loop .inv .2, c .before .before .loop .inv .3, c .before .before .loop .inv .4 ∙ search-miss (c .before .before .before .before .before .args .t1) (c .before .before .before .before .before .args .t2) (c .before .before .before .before .search .i) (c .before .before .loop .j) (omega arith) (omega arith) (c .if2 .left))
 
--- src/lib.rt:124:9
 add-i : tie.Need-add-i Inv-loop μ-loop Inv-search μ-search
 add-i c = omega arith
 
--- src/lib.rt:109:9
 search-less : tie.Need-search-less Inv-loop μ-loop Inv-search μ-search
 search-less c = omega arith
 
--- src/lib.rt:109:9
 search-again : tie.Need-search-again Inv-loop μ-loop Inv-search μ-search
 search-again c = (omega arith, c .before .loop .inv .2, c .before .loop .inv .3, search-next (c .before .before .before .before .args .t1) (c .before .before .before .before .args .t2) (c .before .before .before .search .i) (c .before .loop .j) (omega arith) (omega arith) (c .before .loop .inv .4))
 
--- src/lib.rt:104:1
 returns : tie.Need-returns Inv-loop μ-loop Inv-search μ-search
 returns c = search-ends (c .before .before .args .t1) (c .before .before .args .t2) (c .before .search .i) (c .if1 .taken) (omega arith) (c .before .search .inv .3)
 
--- src/lib.rt:104:1
 returns-2 : tie.Need-returns-2 Inv-loop μ-loop Inv-search μ-search
 returns-2 c = sym (c .before .before .loop .inv .4 ∙ search-hit (c .before .before .before .before .before .args .t1) (c .before .before .before .before .before .args .t2) (c .before .before .before .before .search .i) (c .before .before .loop .j) (omega arith) (omega arith) (c .if2 .taken))
 

@@ -1,40 +1,29 @@
-use Rattle.normalize.specs.Asked as Asked
-use Rattle.normalize.specs.Rounds as Rounds
 use Rattle.builder.specs.Steps as Steps
-use mathlib.Core.Path.{refl, sym, _∙_, ap, ap₂}
-use Rattle.dag.specs.Told.{told, and-when, and-never, and-rest}
-use borrow.Author.Tests.{eq-eqb, ne-eqb, not-true, not-false}
+use mathlib.Core.Path.{_∙_}
+use Rattle.dag.specs.Told.{told, and-when}
+use borrow.Author.Tests.{eq-eqb, ne-eqb}
 use borrow.Author.Needs.{needs}
 use Rattle.normalize.proofs.single_muls.Statement.{statement}
 use Rattle.normalize.proofs.single_muls.Tie as tie
-use Rattle.normalize.proofs.single_muls.Reads as reads
-use Rattle.normalize.proofs.single_muls.Lts as lts
-use Rattle.dag.proofs.tag_of.Reads as tag-of-reads
 
--- src/lib.rt:133:8
 tag-of-requires : tie.Need-tag-of-requires
 tag-of-requires c κs = search needs
 
--- src/lib.rt:134:9
 returns : tie.Need-returns
 unfolding Steps.isMul
 returns c = rw (ne-eqb _ _ (λ e. c .if1 .taken (c .before .tag-of .ensures ∙ e)))
 
--- src/lib.rt:136:8
 tag-of-requires-2 : tie.Need-tag-of-requires-2
 tag-of-requires-2 c κs = search needs
 
--- src/lib.rt:137:9
 returns-2 : tie.Need-returns-2
 unfolding Steps.isMul
 returns-2 c = rw (eq-eqb _ _ (told (c .before .before .before .tag-of .ensures) (c .before .before .if1 .left)), ne-eqb _ _ (λ e. c .if2 .taken (c .before .tag-of2 .ensures ∙ e)))
 
--- src/lib.rt:140:9
 returns-3 : tie.Need-returns-3
 unfolding Steps.isMul
 returns-3 c = rw (eq-eqb _ _ (told (c .before .before .before .before .tag-of .ensures) (c .before .before .before .if1 .left)), eq-eqb _ _ (told (c .before .before .tag-of2 .ensures) (c .before .if2 .left)), ne-eqb _ _ (c .if3 .taken))
 
--- src/lib.rt:130:1
 returns-4 : tie.Need-returns-4
 unfolding Steps.isMul
 returns-4 c = rw (eq-eqb _ _ (told (c .before .before .before .before .tag-of .ensures) (c .before .before .before .if1 .left)), eq-eqb _ _ (told (c .before .before .tag-of2 .ensures) (c .before .if2 .left))) (and-when (eq-eqb _ _ (c .if3 .left)))

@@ -66,7 +66,7 @@ pub(super) fn step(rng: &mut Rng, thorough: bool, sink: Sink) -> Flow {
 }
 
 /// Lists that make each rewrite in each position, and what stands in its way.
-fn rewriting() -> Vec<Vec<Record>> {
+pub(super) fn rewriting() -> Vec<Vec<Record>> {
     let mut lists = Vec::new();
     let factors = [[4, 0, 1], [4, 1, 0]];
     for tag in [2, 3] {
@@ -95,7 +95,7 @@ fn rewriting() -> Vec<Vec<Record>> {
 }
 
 /// The lists of document 01's examples A, B and C.
-fn examples() -> Vec<(Vec<Record>, u64)> {
+pub(super) fn examples() -> Vec<(Vec<Record>, u64)> {
     let a = [&inputs(3)[..], &[[4, 0, 1], [4, 0, 2], [2, 3, 4]]].concat();
     let b = [&inputs(3)[..], &[[2, 0, 2], [2, 0, 1], [2, 2, 4], [4, 3, 5]]].concat();
     vec![(a, 5), (b, 6), (inputs(2), 0)]

@@ -3,6 +3,7 @@
 mod columns;
 mod exhaustive;
 mod faults;
+mod files;
 mod fixed;
 mod lists;
 mod make;
@@ -13,6 +14,7 @@ use model::{Call, Case};
 
 use crate::Rng;
 
+pub use files::{LONGEST_FILE, fixed_files, random_file};
 pub use lists::{chain, expression, small_lists, unchanged};
 pub use make::{column_case, list_case};
 

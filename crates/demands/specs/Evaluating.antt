@@ -1,0 +1,191 @@
+-- Where Evaluate accepts a list, it accepts what Normalise, Compact or Build made of it, and answers the same.
+use Prim.Native.Nat.{ℕ, zero, suc, _*_, _-_, _<_, _≤_}
+use mathlib.Core.Bool.{true, _&&_}
+use mathlib.Core.List.{List, [], _∷_, _++_}
+use mathlib.Core.Path.{_≡_, refl, _∙_, ap}
+use native.Mathlib.Omega.{arith}
+use lib.Dec.{leb}
+use lib.ListN.{length, replicate}
+use Rattle.field.specs.Field.{p, quad, quad-laws, Below}
+use Rattle.field.specs.declared.QuadFelt.{QuadFelt}
+use Rattle.dag.specs.Nodes.{blank, nodes, at, wordsOf, filled}
+use Rattle.dag.specs.NodeLaws.{length-nodes}
+use Rattle.dag.specs.Refusals.{need, _then_, unlessRefused}
+use Rattle.dag.specs.Check.{listCheck}
+use Rattle.dag.specs.CheckLaws.{then-good, need-good}
+use Rattle.dag.specs.PassLaws.{Rooted, rooted}
+use Rattle.dag.specs.StoreLaws.{sound-well-formed}
+use Rattle.dag.specs.WellFormed.{WellFormed}
+use Rattle.dag.specs.declared.NodeKind.{NodeKind}
+use Rattle.dag.specs.declared.NodeKind.the-variants.{Input, Constant, Add, Sub, Mul, Neg}
+use Rattle.dag.specs.declared.Found.{Found}
+use Rattle.dag.specs.declared.Refusal.the-variants.{StoreTooShort, Unassigned}
+use Rattle.dag.specs.declared.Checked.{Checked}
+use Rattle.dag.specs.declared.Checked.the-variants as Checked'
+use Rattle.meaning.specs.Values.{value}
+use Rattle.builder.specs.Steps.{Replay, placeOf, replay}
+use Rattle.builder.specs.ReplayLaws.{Replayed, replay-replayed, replay-short, replay-faithful}
+use Rattle.builder.specs.Calls.{buildCheck, buildResult}
+use Rattle.compact.specs.Written.{nodes-words, words-pass}
+use Rattle.compact.specs.Calls.{compacted, keptOf, compactCheck, compactResult}
+use Rattle.compact.specs.AnswerLaws as Compacted
+use Rattle.evaluate.specs.Entries.{firstRefused, entriesCheck, entryOf, isFound, hasEntry, inputsCheck}
+use Rattle.evaluate.specs.EntryLaws.{good-below}
+use Rattle.evaluate.specs.Calls.{entryWords, given, evaluateCheck, evaluateAnswer}
+use Rattle.evaluate.specs.CallLaws.{entries-pass}
+use Rattle.evaluate.specs.ValueSteps.{given-low}
+use Rattle.evaluate.specs.declared.Evaluated.the-variants.{Value, Refused}
+use Rattle.normalize.specs.Calls.{normalizeCheck, normalized, normalizeResult}
+use Rattle.demands.specs.Inputs.{Keyed, Inputs, KeyOf, own-keys, inputs-through, replay-inputs, compact-inputs, normalize-inputs}
+use Rattle.demands.specs.Normalising.{countOf, rootOf, answer-list, answer-passes, answer-value}
+
+-- Evaluate's test of inputs, as a statement about every input
+module _ (find : ℕ → Found) where
+  Assigned : ℕ → Type 0
+  Assigned k = isFound (find k) ≡ true
+
+  assigned : (x : NodeKind) → hasEntry find x ≡ true → Keyed Assigned x
+  unfolding Assigned
+  assigned (Input k) e = e
+  assigned (Constant c) e = tt
+  assigned (Add a b) e = tt
+  assigned (Sub a b) e = tt
+  assigned (Mul a b) e = tt
+  assigned (Neg a) e = tt
+
+  has-entry : (x : NodeKind) → Keyed Assigned x → hasEntry find x ≡ true
+  unfolding Assigned
+  has-entry (Input k) e = e
+  has-entry (Constant c) e = refl
+  has-entry (Add a b) e = refl
+  has-entry (Sub a b) e = refl
+  has-entry (Mul a b) e = refl
+  has-entry (Neg a) e = refl
+
+  checked-inputs : (l : List NodeKind) → inputsCheck find l (length l) ≡ Checked'.Good → Inputs Assigned l
+  unfolding inputsCheck
+  checked-inputs l e i h =
+      assigned (at l i) (need-good (hasEntry find (at l i)) (Unassigned i) (good-below (λ i. need (hasEntry find (at l i)) (Unassigned i)) (length l) e i h))
+
+  inputs-checked : (l : List NodeKind) → Inputs Assigned l → inputsCheck find l (length l) ≡ Checked'.Good
+  unfolding inputsCheck firstRefused
+  inputs-checked l f = go (length l) f
+    where
+      go : (n : ℕ) → ((i : ℕ) → i < n → Keyed Assigned (at l i)) → inputsCheck find l n ≡ Checked'.Good
+      go zero f = refl
+      go (suc n) f = rw (go n (λ i h. f i (omega arith)), has-entry (at l n) (f n (omega arith)))
+
+-- t, count and root' in place of s, n and root: the list passes the list check, brings no new inputs, and its root has the same value
+pub record InPlaceOf (s : List ℕ) (n root : ℕ) (t : List ℕ) (count root' : ℕ) : Type 0 where
+  pub passes : listCheck p t count root' ≡ Checked'.Good
+  pub no-new : Inputs (KeyOf (nodes s n)) (nodes t count)
+  pub worth : (given : ℕ → QuadFelt) → ((k : ℕ) → Below (given k)) → value quad given (nodes t count) root' ≡ value quad given (nodes s n) root
+
+-- an answer that is a value was accepted
+accepts : (c : Checked) (w v : QuadFelt) → unlessRefused c Refused (Value w) ≡ Value v → c ≡ Checked'.Good
+accepts Checked'.Good w v e = refl
+accepts (Checked'.Refused r) w v e = let z : _≡_ {A = ℕ} 0 1 = cc in absurd (omega arith)
+
+module _ (s : List ℕ) (n root : ℕ) (t : List ℕ) (count root' : ℕ) (h : InPlaceOf s n root t count root') (a : List ℕ) (m : ℕ) where
+  module _ (e : evaluateCheck s n root a m ≡ Checked'.Good) where
+    find : ℕ → Found
+    find = entryOf entryWords a m
+
+    tests : (entriesCheck p entryWords a m ≡ Checked'.Good) × (inputsCheck find (nodes s n) n ≡ Checked'.Good)
+    unfolding evaluateCheck find
+    tests =
+        then-good (entriesCheck p entryWords a m) (inputsCheck find (nodes s n) n)
+        (then-good (listCheck p s n root) (entriesCheck p entryWords a m then inputsCheck find (nodes s n) n) e .1)
+
+    inputs : inputsCheck find (nodes t count) count ≡ Checked'.Good
+    inputs =
+        rw (length-nodes t count) at
+        (inputs-checked find (nodes t count)
+        (inputs-through (Assigned find) (nodes s n) (nodes t count) (h .no-new) (checked-inputs find (nodes s n) (rw (length-nodes s n) (tests .1)))))
+
+    accepted-too : evaluateCheck t count root' a m ≡ Checked'.Good
+    unfolding evaluateCheck find
+    accepted-too = rw (h .passes, tests .0, inputs)
+
+    same-answer : evaluateAnswer t count root' a m ≡ evaluateAnswer s n root a m
+    unfolding evaluateAnswer
+    same-answer = rw (accepted-too, e) (ap Value (h .worth (given a m) (given-low a m (entries-pass p entryWords a m (omega arith) (tests .0) .1))))
+
+  pub evaluates-alike : (v : QuadFelt) → evaluateAnswer s n root a m ≡ Value v → evaluateAnswer t count root' a m ≡ Value v
+  unfolding evaluateAnswer
+  evaluates-alike v e = same-answer (accepts (evaluateCheck s n root a m) (value quad (given a m) (nodes s n) root) v e) ∙ e
+
+-- Normalise: its answer stands in place of the list
+pub normalized-in-place : (s : List ℕ) (n root : ℕ) (result : List ℕ) (workWords : ℕ) → normalizeCheck s n root (length result) workWords ≡ Checked'.Good
+    → InPlaceOf s n root (normalizeResult s n root result workWords) (countOf s n root) (rootOf s n root)
+unfolding normalized
+normalized-in-place s n root result workWords e =
+    record {
+      passes = answer-passes s n root result workWords e;
+      no-new = rw (answer-list s n root result workWords e) (normalize-inputs (KeyOf (nodes s n)) quad (nodes s n) (root ∷ []) (own-keys (nodes s n)));
+      worth = answer-value s n root result workWords e;
+    }
+
+-- where Normalise accepts a list and Evaluate answers a value for it, Evaluate answers the same for the list answered
+pub evaluate-same : (s : List ℕ) (n root : ℕ) (result : List ℕ) (workWords : ℕ) → normalizeCheck s n root (length result) workWords ≡ Checked'.Good
+    → (a : List ℕ) (m : ℕ) (v : QuadFelt) → evaluateAnswer s n root a m ≡ Value v
+    → evaluateAnswer (normalizeResult s n root result workWords) (countOf s n root) (rootOf s n root) a m ≡ Value v
+evaluate-same s n root result workWords e =
+    evaluates-alike s n root (normalizeResult s n root result workWords) (countOf s n root) (rootOf s n root) (normalized-in-place s n root result workWords e)
+
+-- Compact: its answer stands in place of the list
+pub compacted-in-place : (s : List ℕ) (n root : ℕ) (result : List ℕ) → compactCheck s n root (length result) ≡ Checked'.Good
+    → InPlaceOf s n root (compactResult s n root result) (keptOf (compacted s n root) .count) (keptOf (compacted s n root) .root)
+unfolding compacted
+compacted-in-place s n root result e =
+    record {
+      passes = Compacted.answer-passes s n root result e;
+      no-new = rw (Compacted.answer-list s n root result e) (compact-inputs (KeyOf (nodes s n)) (nodes s n) (root ∷ []) (own-keys (nodes s n)));
+      worth = λ given low. Compacted.answer-value s n root result e quad given;
+    }
+
+pub compact-evaluates : (s : List ℕ) (n root : ℕ) (result : List ℕ) → compactCheck s n root (length result) ≡ Checked'.Good
+    → (a : List ℕ) (m : ℕ) (v : QuadFelt) → evaluateAnswer s n root a m ≡ Value v
+    → evaluateAnswer (compactResult s n root result) (keptOf (compacted s n root) .count) (keptOf (compacted s n root) .root) a m ≡ Value v
+compact-evaluates s n root result e =
+    evaluates-alike s n root (compactResult s n root result) (keptOf (compacted s n root) .count) (keptOf (compacted s n root) .root) (compacted-in-place s n root result e)
+
+-- Build: its answer stands in place of the list of requests
+module _ (s : List ℕ) (n root : ℕ) (result : List ℕ) (mapWords : ℕ) (e : buildCheck s n root (length result) mapWords ≡ Checked'.Good) where
+  abbrev built : Replay
+  built = replay quad (nodes s n) n
+
+  passed : Rooted p s n root
+  unfolding buildCheck
+  passed = rooted p s n root (then-good (listCheck p s n root) (need (leb (3 * n) (length result) && leb n mapWords) StoreTooShort) e .0)
+
+  well-formed : WellFormed Below (nodes s n)
+  well-formed = sound-well-formed p s n (passed .list .sound)
+
+  replayed : Replayed Below n built
+  replayed = replay-replayed quad quad-laws (nodes s n) well-formed n
+
+  behind : List ℕ
+  behind = replicate (length result - length (wordsOf (built .list))) blank
+
+  begins : buildResult s n root result mapWords ≡ wordsOf (built .list) ++ behind
+  unfolding buildResult filled behind
+  begins = rw e
+
+  holds : nodes (buildResult s n root result mapWords) (length (built .list)) ≡ built .list
+  holds = rw begins (nodes-words behind (built .list))
+
+  pub built-in-place : InPlaceOf s n root (buildResult s n root result mapWords) (length (built .list)) (placeOf built root)
+  built-in-place =
+      let same : n ≤ length (nodes s n) = omega (arith, length-nodes s n) in
+      record {
+        passes = rw begins
+            (words-pass behind p (built .list) (replayed .well-formed) (placeOf built root) (replayed .inside root (passed .inside))
+            (omega (arith, replay-short quad quad-laws (nodes s n) well-formed n, passed .list .most)));
+        no-new = rw holds (replay-inputs (KeyOf (nodes s n)) quad (nodes s n) (own-keys (nodes s n)) n same);
+        worth = λ given low. rw holds (replay-faithful quad quad-laws (nodes s n) well-formed given low n same root (passed .inside));
+      }
+
+  pub build-evaluates : (a : List ℕ) (m : ℕ) (v : QuadFelt) → evaluateAnswer s n root a m ≡ Value v
+      → evaluateAnswer (buildResult s n root result mapWords) (length (built .list)) (placeOf built root) a m ≡ Value v
+  build-evaluates = evaluates-alike s n root (buildResult s n root result mapWords) (length (built .list)) (placeOf built root) built-in-place

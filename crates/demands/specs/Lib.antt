@@ -1,0 +1,4 @@
+pub mod Inputs
+pub mod Repeated
+pub mod Normalising
+pub mod Evaluating

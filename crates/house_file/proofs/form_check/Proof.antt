@@ -1,0 +1,59 @@
+use native.Mathlib.Omega.{arith}
+use borrow.Author.Tests.{not-true, not-false}
+use Rattle.dag.specs.Told.{told}
+use Rattle.house_file.specs.FileLaws.{count-range}
+use Rattle.house_file.specs.File as File
+use borrow.Author.Tests.{lt-leb, le-leb, ne-eqb, eq-eqb}
+use borrow.Author.Needs.{needs}
+use Rattle.house_file.proofs.form_check.Statement.{statement}
+use Rattle.house_file.proofs.form_check.Tie as tie
+
+returns : tie.Need-returns
+unfolding File.formCheck
+returns c = simp (lt-leb _ _ (c .if1 .taken))
+
+shared-slice-read-if2 : tie.Need-shared-slice-read-if2
+shared-slice-read-if2 c = search needs
+
+returns-2 : tie.Need-returns-2
+unfolding File.formCheck
+returns-2 c = simp (le-leb _ _ (c .before .before .if1 .left), ne-eqb _ _ (c .if2 .taken))
+
+number-requires : tie.Need-number-requires
+number-requires c κs = search needs
+
+is-count-requires : tie.Need-is-count-requires
+is-count-requires c κs = search needs
+
+returns-3 : tie.Need-returns-3
+unfolding File.formCheck
+returns-3 c = rw (← c .before .before .number .ensures) (simp (le-leb _ _ (c .before .before .before .before .before .if1 .left), eq-eqb _ _ (c .before .before .before .if2 .left), told (c .before .is-count .ensures) (not-true _ (c .if3 .taken))))
+
+mul-if4 : tie.Need-mul-if4
+mul-if4 c = omega (arith, count-range _ (told (c .before .is-count .ensures) (not-false _ (c .if3 .left))) .1)
+
+add-if4 : tie.Need-add-if4
+add-if4 c = omega (arith, count-range _ (told (c .before .is-count .ensures) (not-false _ (c .if3 .left))) .1)
+
+returns-4 : tie.Need-returns-4
+unfolding File.formCheck
+returns-4 c = rw (← c .before .before .before .number .ensures) (simp (le-leb _ _ (c .before .before .before .before .before .before .if1 .left), eq-eqb _ _ (c .before .before .before .before .if2 .left), told (c .before .before .is-count .ensures) (not-false _ (c .before .if3 .left)), ne-eqb _ _ (c .if4 .taken)))
+
+returns-5 : tie.Need-returns-5
+unfolding File.formCheck
+returns-5 c = rw (← c .before .before .before .number .ensures) (simp (le-leb _ _ (c .before .before .before .before .before .before .if1 .left), eq-eqb _ _ (c .before .before .before .before .if2 .left), told (c .before .before .is-count .ensures) (not-false _ (c .before .if3 .left)), eq-eqb _ _ (c .if4 .left)))
+
+pub form-check-spec : {M : Type 1} → statement M
+form-check-spec =
+    tie.close
+    (tie.spec
+    returns
+    shared-slice-read-if2
+    returns-2
+    number-requires
+    is-count-requires
+    returns-3
+    mul-if4
+    add-if4
+    returns-4
+    returns-5)

@@ -1,0 +1,37 @@
+use Rattle.house_file.specs.FileLaws.{ready, done}
+use borrow.Author.Needs.{needs}
+use Rattle.house_file.proofs.read_good.Statement.{statement}
+use Rattle.house_file.proofs.read_good.Tie as tie
+
+file-count-requires : tie.Need-file-count-requires
+file-count-requires c κs = search needs
+
+put-records-requires : tie.Need-put-records-requires
+put-records-requires c κs = ready (c .before .before .before .before .args .file .now) (c .before .before .before .before .args .list .now) _ (c .before .before .before .before .pre) (c .before .file-count .ensures)
+
+mul-blank-from : tie.Need-mul-blank-from
+mul-blank-from c = search needs
+
+blank-from-requires : tie.Need-blank-from-requires
+blank-from-requires c κs = search needs
+
+file-root-requires : tie.Need-file-root-requires
+file-root-requires c κs = search needs
+
+same-length : tie.Need-same-length
+same-length c = search needs
+
+returns : tie.Need-returns
+returns c = done (c .before .before .before .before .before .before .before .before .before .before .before .before .args .file .now) (c .before .before .before .before .before .before .before .before .before .before .before .before .args .list .now) _ _ _ _ (c .before .before .before .before .before .before .before .before .before .before .before .before .pre) (c .before .before .before .before .before .before .before .put-records .ensures) (c .before .before .before .before .before .before .before .put-records .kept .1 .1 .0) (c .before .before .before .blank-from .ensures) (c .before .before .before .before .before .before .before .before .before .file-count .ensures) (c .file-root .ensures)
+
+pub read-good-spec : {M : Type 1} → statement M
+read-good-spec =
+    tie.close
+    (tie.spec
+    file-count-requires
+    put-records-requires
+    mul-blank-from
+    blank-from-requires
+    file-root-requires
+    same-length
+    returns)

@@ -1,0 +1,83 @@
+-- A house file (document 01, 'The installers' listing') as a list of bytes: its tests, and the list of words that it holds.
+use Prim.Native.Nat.{ℕ, zero, suc, _+_, _*_}
+use mathlib.Core.Bool.{Bool, _&&_}
+use mathlib.Core.List.{List, [], _∷_, _++_}
+use lib.Dec.{leb, eqb}
+use lib.ListN.{getD, length}
+use Rattle.field.specs.Field.{p}
+use Rattle.dag.specs.Nodes.{filled}
+use Rattle.dag.specs.Refusals.{need, _then_, unlessRefused}
+use Rattle.dag.specs.Check.{listCheck}
+use Rattle.dag.specs.declared.Refusal.the-variants.{StoreTooShort, FileTooShort, FileVersion, FileCount, FileLength}
+use Rattle.dag.specs.declared.Checked.{Checked}
+use Rattle.house_file.specs.declared.Words.{Words}
+use Rattle.house_file.specs.declared.FileAnswer.{FileAnswer}
+use Rattle.house_file.specs.declared.FileAnswer.the-variants as FileAnswer'
+
+-- the number that k bytes from a place on write, highest first
+unfoldable pub number : List ℕ → ℕ → ℕ → ℕ
+number file at zero = 0
+number file at (suc k) = number file at k * 256 + getD file (at + k) 0
+
+-- behind the version byte: count (4 bytes), then root (4)
+abbrev pub fileCount : List ℕ → ℕ
+fileCount file = number file 1 4
+
+abbrev pub fileRoot : List ℕ → ℕ
+fileRoot file = number file 5 4
+
+-- the most records that a file has
+abbrev pub mostFiled : ℕ
+mostFiled = 1024
+
+-- a file has from 1 to 1,024 records
+unfoldable pub isCount : ℕ → Bool
+isCount n = leb 1 n && leb n mostFiled
+
+-- where record i begins, behind 9 bytes and i records of 17
+abbrev pub recordPlace : ℕ → ℕ
+recordPlace i = 9 + 17 * i
+
+-- record i: tag byte, two 8-byte numbers
+unfoldable pub wordsAt : List ℕ → ℕ → Words
+wordsAt file i =
+    record {
+      tag = getD file (recordPlace i) 0;
+      first = number file (recordPlace i + 1) 8;
+      second = number file (recordPlace i + 9) 8;
+    }
+
+-- three words a record
+unfoldable pub wordsOfFirst : List ℕ → ℕ → List ℕ
+wordsOfFirst file zero = []
+wordsOfFirst file (suc n) = let w = wordsAt file n in wordsOfFirst file n ++ (w .tag ∷ w .first ∷ w .second ∷ [])
+
+unfoldable pub fileWords : List ℕ → List ℕ
+fileWords file = wordsOfFirst file (fileCount file)
+
+-- the tests of the file's form: 21, 22, 23, 24
+unfoldable pub formCheck : List ℕ → Checked
+formCheck file =
+    need (leb 9 (length file)) FileTooShort
+    then need (eqb (getD file 0 0) 1) FileVersion
+    then need (isCount (fileCount file)) FileCount
+    then need (eqb (length file) (recordPlace (fileCount file))) FileLength
+
+-- the list check of what it holds
+unfoldable pub heldCheck : List ℕ → Checked
+heldCheck file = listCheck p (fileWords file) (fileCount file) (fileRoot file)
+
+unfoldable pub fileCheck : List ℕ → Checked
+fileCheck file = formCheck file then heldCheck file
+
+-- reading into a store of `room` words: the store is tested before the records, as in the list check
+unfoldable pub readCheck : List ℕ → ℕ → Checked
+readCheck file room = formCheck file then need (leb (3 * fileCount file) room) StoreTooShort then heldCheck file
+
+-- count and root
+unfoldable pub readAnswer : List ℕ → ℕ → FileAnswer
+readAnswer file room = unlessRefused (readCheck file room) FileAnswer'.Refused (FileAnswer'.Read (fileCount file) (fileRoot file))
+
+-- the words, blanks behind them
+unfoldable pub readList : List ℕ → List ℕ → List ℕ
+readList file list = unlessRefused (readCheck file (length list)) (λ r. list) (filled (length list) (fileWords file))

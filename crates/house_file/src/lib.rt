@@ -1,0 +1,192 @@
+// The house file: bytes to the words of a list, or why not.
+use dag::Checked;
+use dag::Refusal;
+ghost use mathlib.Core.Path.{_≡_};
+ghost use Prim.Native.Nat.{_+_, _*_, _<_, _≤_};
+ghost use lib.ListN.{length};
+ghost use Rattle.field.specs.Field.{p};
+ghost use Rattle.dag.specs.Check as Check;
+ghost use Rattle.house_file.specs.File as File;
+ghost use Rattle.house_file.specs.FileLaws as FileLaws;
+
+// The most records that a file has.
+pub const MOST_FILED: u64 = 1024;
+
+// The three words of a record.
+pub struct Words {
+    pub tag: u64,
+    pub first: u64,
+    pub second: u64,
+}
+
+// What reading a file answers.
+pub enum FileAnswer {
+    Read { count: usize, root: usize },
+    Refused(Refusal),
+}
+
+// The number of a byte.
+fn wide(b: u8) -> u64
+    ensures { λ r. ⌜ (r ≡ b) × (r < 256) ⌝ }
+{
+    b as u64
+}
+
+// The number that k bytes from a place on write, highest first.
+pub fn number(file: &[u8], at: usize, k: usize) -> u64
+    requires { ⌜ (k ≤ 8) × (at + k ≤ length (now file)) ⌝ }
+    ensures { λ r. ⌜ r ≡ File.number (now (file .entry)) at k ⌝ }
+{
+    let mut value = 0;
+    let mut i = 0;
+    while i < k {
+        value = value * 256 + wide(file[at + i]);
+        i += 1;
+    }
+    value
+}
+
+// The number of records that a file says it has.
+fn file_count(file: &[u8]) -> usize
+    requires { ⌜ 9 ≤ length (now file) ⌝ }
+    ensures { λ r. ⌜ r ≡ File.fileCount (now (file .entry)) ⌝ }
+{
+    number(file, 1, 4) as usize
+}
+
+// The root that a file names.
+fn file_root(file: &[u8]) -> usize
+    requires { ⌜ 9 ≤ length (now file) ⌝ }
+    ensures { λ r. ⌜ r ≡ File.fileRoot (now (file .entry)) ⌝ }
+{
+    number(file, 5, 4) as usize
+}
+
+// The words of record i.
+fn words_at(file: &[u8], i: usize) -> Words
+    requires { ⌜ File.recordPlace i + 17 ≤ length (now file) ⌝ }
+    ensures { λ r. ⌜ r ≡ File.wordsAt (now (file .entry)) i ⌝ }
+{
+    let at = 9 + 17 * i;
+    Words {
+        tag: wide(file[at]),
+        first: number(file, at + 1, 8),
+        second: number(file, at + 9, 8),
+    }
+}
+
+// Whether a file may have this many records.
+fn is_count(n: u64) -> bool
+    ensures { λ r. ⌜ r ≡ File.isCount n ⌝ }
+{
+    if n < 1 {
+        return false;
+    }
+    n <= MOST_FILED
+}
+
+// The tests of the file's form: 21, 22, 23, 24.
+fn form_check(file: &[u8]) -> Checked
+    ensures { λ r. ⌜ r ≡ File.formCheck (now (file .entry)) ⌝ }
+{
+    if file.len() < 9 {
+        return Checked::Refused(Refusal::FileTooShort);
+    }
+    if file[0] != 1 {
+        return Checked::Refused(Refusal::FileVersion);
+    }
+    let n = number(file, 1, 4);
+    if !is_count(n) {
+        return Checked::Refused(Refusal::FileCount);
+    }
+    if file.len() as u64 != 9 + 17 * n {
+        return Checked::Refused(Refusal::FileLength);
+    }
+    Checked::Good
+}
+
+// The first bad record of a file.
+fn records_check(file: &[u8], n: usize) -> Checked
+    requires { ⌜ File.recordPlace n ≤ length (now file) ⌝ }
+    ensures { λ r. ⌜ r ≡ Check.recordsCheck p (File.wordsOfFirst (now (file .entry)) n) n ⌝ }
+{
+    let mut i = 0;
+    while i < n {
+        let w = words_at(file, i);
+        let checked = dag::record_check(w.tag, w.first, w.second, i);
+        if dag::is_refused(checked) {
+            return checked;
+        }
+        i += 1;
+    }
+    Checked::Good
+}
+
+// The tests of the list that a file of good form holds.
+fn held_check(file: &[u8]) -> Checked
+    requires { ⌜ FileLaws.Formed (now file) ⌝ }
+    ensures { λ r. ⌜ r ≡ File.heldCheck (now (file .entry)) ⌝ }
+{
+    let n = file_count(file);
+    let checked = records_check(file, n);
+    if dag::is_refused(checked) {
+        return checked;
+    }
+    if file_root(file) < n {
+        return Checked::Good;
+    }
+    Checked::Refused(Refusal::RootOutside)
+}
+
+// The tests of reading into a store of this many words.
+fn read_check(file: &[u8], room: usize) -> Checked
+    ensures { λ r. ⌜ r ≡ File.readCheck (now (file .entry)) room ⌝ }
+{
+    let formed = form_check(file);
+    if dag::is_refused(formed) {
+        return formed;
+    }
+    if room < 3 * file_count(file) {
+        return Checked::Refused(Refusal::StoreTooShort);
+    }
+    held_check(file)
+}
+
+// Writes the records of a file at the start of a store.
+fn put_records(file: &[u8], n: usize, list: &mut [u64])
+    requires { ⌜ FileLaws.Ready (now file) n (now list) ⌝ }
+    ensures { λ _. ⌜ FileLaws.Put (now (file .entry)) n n (now (list .exit)) ⌝ }
+{
+    let mut i = 0;
+    while i < n {
+        let w = words_at(file, i);
+        dag::put_node(list, i, dag::decode(w.tag, w.first, w.second));
+        i += 1;
+    }
+}
+
+// Reads a file that has passed its tests.
+fn read_good(file: &[u8], list: &mut [u64]) -> FileAnswer
+    requires { ⌜ FileLaws.Passed (now file) (length (now list)) ⌝ }
+    ensures { λ r. ⌜ FileLaws.Done (now (file .entry)) (now (list .entry)) r (now (list .exit)) ⌝ }
+{
+    let n = file_count(file);
+    put_records(file, n, list);
+    dag::blank_from(list, 3 * n);
+    FileAnswer::Read {
+        count: n,
+        root: file_root(file),
+    }
+}
+
+// Reads a file: the words of its list, blanks behind them, or why not.
+pub fn read_file(file: &[u8], list: &mut [u64]) -> FileAnswer
+    ensures answer { λ r. ⌜ r ≡ File.readAnswer (now (file .entry)) (length (now (list .entry))) ⌝ }
+    ensures list { λ _. ⌜ now (list .exit) ≡ File.readList (now (file .entry)) (now (list .entry)) ⌝ }
+{
+    let checked = read_check(file, list.len());
+    match checked {
+        Checked::Refused(r) => FileAnswer::Refused(r),
+        Checked::Good => read_good(file, list),
+    }
+}

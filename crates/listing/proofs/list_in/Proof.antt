@@ -1,0 +1,78 @@
+use mathlib.Core.Path.{refl, sym}
+use native.Mathlib.Omega.{arith}
+use lib.Seq.{length-take-le}
+use lib.ListN.{length}
+use Rattle.dag.specs.Told.{told}
+use Rattle.listing.specs.CallLaws.{laid-as, few, file-refused, file-done}
+use borrow.Author.Needs.{needs}
+use Rattle.listing.proofs.list_in.Statement.{statement}
+use Rattle.listing.proofs.list_in.Tie as tie
+
+read-file-requires : tie.Need-read-file-requires
+read-file-requires c κs = search needs
+
+enum-known-answer : tie.Need-enum-known-answer
+enum-known-answer c = search needs
+
+write-refused-requires : tie.Need-write-refused-requires
+write-refused-requires c κs = search needs
+
+enum-known-answer-2 : tie.Need-enum-known-answer-2
+enum-known-answer-2 c = search needs
+
+mul-m : tie.Need-mul-m
+mul-m c = omega (arith, few (c .before .before .before .before .before .before .before .before .before .before .before .before .args .file .now) (length (c .before .before .before .before .before .before .before .before .before .before .before .before .args .list .now)) (c .before .before .before .before .before .before .before .before .before .before .before .before .pre .list-room) _ _ (told (c .before .before .before .before .before .read-file .ensures .0) (c .before .answer2 .given .1)))
+
+slice-reshare-prefix-list-words : tie.Need-slice-reshare-prefix-list-words
+slice-reshare-prefix-list-words c = omega (arith, few (c .before .before .before .before .before .before .before .before .before .before .before .before .args .file .now) (length (c .before .before .before .before .before .before .before .before .before .before .before .before .args .list .now)) (c .before .before .before .before .before .before .before .before .before .before .before .before .pre .list-room) _ _ (told (c .before .before .before .before .before .read-file .ensures .0) (c .before .answer2 .given .1)), c .before .before .before .before .before .read-file .kept .1 .0, c .before .before .before .before .before .before .before .before .before .before .before .before .pre .list-room)
+
+slice-aggregate-list-words : tie.Need-slice-aggregate-list-words
+slice-aggregate-list-words c = sym (length-take-le _ _ (omega (arith, few (c .before .before .before .before .before .before .before .before .before .before .before .before .before .args .file .now) (length (c .before .before .before .before .before .before .before .before .before .before .before .before .before .args .list .now)) (c .before .before .before .before .before .before .before .before .before .before .before .before .before .pre .list-room) _ _ (told (c .before .before .before .before .before .before .read-file .ensures .0) (c .before .before .answer2 .given .1)), c .before .before .before .before .before .before .read-file .kept .1 .0, c .before .before .before .before .before .before .before .before .before .before .before .before .before .pre .list-room)))
+
+list-words-requires : tie.Need-list-words-requires
+list-words-requires c κs = omega (arith, few (c .before .before .before .before .before .before .before .before .before .before .before .before .before .before .before .before .args .file .now) (length (c .before .before .before .before .before .before .before .before .before .before .before .before .before .before .before .before .args .list .now)) (c .before .before .before .before .before .before .before .before .before .before .before .before .before .before .before .before .pre .list-room) _ _ (told (c .before .before .before .before .before .before .before .before .before .read-file .ensures .0) (c .before .before .before .before .before .answer2 .given .1)), c .before .before .before .before .before .before .before .before .before .before .before .before .before .before .before .before .pre .out-room)
+
+same-length : tie.Need-same-length
+same-length c = search needs
+
+same-length-2 : tie.Need-same-length-2
+same-length-2 c = search needs
+
+returns : tie.Need-returns
+returns c = laid-as (file-refused (c .before .before .before .before .before .before .before .before .before .before .before .before .before .before .before .before .args .file .now) (length (c .before .before .before .before .before .before .before .before .before .before .before .before .before .before .before .before .args .list .now)) (c .before .before .before .before .before .before .before .before .before .before .before .before .before .before .before .before .pre .list-room) _ (told (c .before .before .before .before .before .before .before .before .before .read-file .ensures .0) (c .before .before .before .before .before .answer .given .1))) (c .before .before .write-refused .ensures)
+
+same-length-3 : tie.Need-same-length-3
+same-length-3 c = search needs
+
+same-length-4 : tie.Need-same-length-4
+same-length-4 c = search needs
+
+same-length-5 : tie.Need-same-length-5
+same-length-5 c = search needs
+
+same-length-6 : tie.Need-same-length-6
+same-length-6 c = search needs
+
+returns-2 : tie.Need-returns-2
+returns-2 c = laid-as (file-done (c .before .before .before .before .before .before .before .before .before .before .before .before .before .before .before .before .before .before .before .before .before .before .before .args .file .now) (length (c .before .before .before .before .before .before .before .before .before .before .before .before .before .before .before .before .before .before .before .before .before .before .before .args .list .now)) (c .before .before .before .before .before .before .before .before .before .before .before .before .before .before .before .before .before .before .before .before .before .before .before .pre .list-room) _ _ (told (c .before .before .before .before .before .before .before .before .before .before .before .before .before .before .before .before .read-file .ensures .0) (c .before .before .before .before .before .before .before .before .before .before .before .before .answer2 .given .1)) (c .before .before .before .before .before .before .before .before .before .before .before .before .before .before .before .before .before .before .before .before .before .before .before .args .list .now) _ refl (c .before .before .before .before .before .before .before .before .before .before .before .before .before .before .before .before .read-file .ensures .1) _ _ (c .before .before .before .before .before .before .before .before .before .before .before .before .before .before .before .before .before .before .before .before .before .before .before .pre .result-room) (c .before .before .before .before .before .before .before .before .before .before .before .before .before .before .before .before .before .before .before .before .before .before .before .pre .work-room)) (c .before .before .before .before .before .before .list-words .ensures)
+
+pub list-in-spec : {M : Type 1} → statement M
+list-in-spec =
+    tie.close
+    (tie.spec
+    read-file-requires
+    enum-known-answer
+    write-refused-requires
+    enum-known-answer-2
+    mul-m
+    slice-reshare-prefix-list-words
+    slice-aggregate-list-words
+    list-words-requires
+    same-length
+    same-length-2
+    returns
+    same-length-3
+    same-length-4
+    same-length-5
+    same-length-6
+    returns-2)

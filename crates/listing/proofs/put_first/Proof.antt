@@ -1,0 +1,48 @@
+use native.Mathlib.Omega.{arith}
+use Rattle.text.specs.Writing.{and-then, wrote-as}
+use Rattle.text.specs.Text.{ascii}
+use Rattle.listing.specs.LineLaws.{named-short, first-is}
+use borrow.Author.Needs.{needs}
+use Rattle.listing.proofs.put_first.Statement.{statement}
+use Rattle.listing.proofs.put_first.Tie as tie
+
+slice-aggregate-put-named : tie.Need-slice-aggregate-put-named
+slice-aggregate-put-named c = search needs
+
+put-named-requires : tie.Need-put-named-requires
+unfolding ascii
+put-named-requires c κs = omega (arith, named-short (ascii "nodes") (c .before .before .before .args .count) 32 (c .before .before .before .fits .count .fits))
+
+slice-aggregate-put-named-2 : tie.Need-slice-aggregate-put-named-2
+slice-aggregate-put-named-2 c = search needs
+
+put-named-requires-2 : tie.Need-put-named-requires-2
+unfolding ascii
+put-named-requires-2 c κs = omega (arith, c .before .before .before .before .before .before .before .before .pre, named-short (ascii "nodes") (c .before .before .before .before .before .before .before .before .args .count) 32 (c .before .before .before .before .before .before .before .before .fits .count .fits), named-short (ascii "root") (c .before .before .before .before .before .before .before .before .args .root) 32 (c .before .before .before .before .before .before .before .before .fits .root .fits), c .before .before .before .before .put-named .ensures .end-is, c .before .before .before .before .put-named .kept .0)
+
+slice-aggregate-put-named-3 : tie.Need-slice-aggregate-put-named-3
+slice-aggregate-put-named-3 c = search needs
+
+put-named-requires-3 : tie.Need-put-named-requires-3
+unfolding ascii
+put-named-requires-3 c κs = omega (arith, c .before .before .before .before .before .before .before .before .before .before .before .before .before .pre, named-short (ascii "nodes") (c .before .before .before .before .before .before .before .before .before .before .before .before .before .args .count) 32 (c .before .before .before .before .before .before .before .before .before .before .before .before .before .fits .count .fits), named-short (ascii "root") (c .before .before .before .before .before .before .before .before .before .before .before .before .before .args .root) 32 (c .before .before .before .before .before .before .before .before .before .before .before .before .before .fits .root .fits), named-short (ascii "rounds") (c .before .before .before .before .before .before .before .before .before .before .before .before .before .args .rounds) 10 (c .before .before .before .before .before .before .before .before .before .before .before .before .before .fits .rounds .fits), c .before .before .before .before .before .before .before .before .before .put-named .ensures .end-is, c .before .before .before .before .before .before .before .before .before .put-named .kept .0, c .before .before .before .before .put-named2 .ensures .end-is, c .before .before .before .before .put-named2 .kept .0)
+
+same-length : tie.Need-same-length
+same-length c = search needs
+
+returns : tie.Need-returns
+unfolding ascii
+returns c = (wrote-as (first-is _ _ _) (and-then (c .before .before .before .before .before .before .before .before .before .before .before .before .put-named .ensures) (and-then (c .before .before .before .before .before .before .before .put-named2 .ensures) (c .before .before .put-named3 .ensures))), omega (arith, named-short (ascii "nodes") (c .before .before .before .before .before .before .before .before .before .before .before .before .before .before .before .before .args .count) 32 (c .before .before .before .before .before .before .before .before .before .before .before .before .before .before .before .before .fits .count .fits), named-short (ascii "root") (c .before .before .before .before .before .before .before .before .before .before .before .before .before .before .before .before .args .root) 32 (c .before .before .before .before .before .before .before .before .before .before .before .before .before .before .before .before .fits .root .fits), named-short (ascii "rounds") (c .before .before .before .before .before .before .before .before .before .before .before .before .before .before .before .before .args .rounds) 10 (c .before .before .before .before .before .before .before .before .before .before .before .before .before .before .before .before .fits .rounds .fits), c .before .before .before .before .before .before .before .before .before .before .before .before .put-named .ensures .end-is, c .before .before .before .before .before .before .before .put-named2 .ensures .end-is, c .before .before .put-named3 .ensures .end-is))
+
+pub put-first-spec : {M : Type 1} → statement M
+put-first-spec =
+    tie.close
+    (tie.spec
+    slice-aggregate-put-named
+    put-named-requires
+    slice-aggregate-put-named-2
+    put-named-requires-2
+    slice-aggregate-put-named-3
+    put-named-requires-3
+    same-length
+    returns)

@@ -1,0 +1,55 @@
+use Prim.Native.Nat.{_≤_, _-_, _+_, _*_}
+use native.Mathlib.Nat.{le-antisymm}
+use native.Mathlib.Omega.{arith}
+use Rattle.text.specs.Writing.{Wrote, wrote-nothing, wrote-length}
+use Rattle.dag.specs.Nodes as Nodes
+use Rattle.listing.specs.LineLaws.{lines-more}
+use Rattle.listing.specs.Listing as Listing
+use Rattle.listing.proofs.put_records.Statement.{statement}
+use Rattle.listing.proofs.put_records.Tie as tie
+
+abbrev Inv-loop : tie.InvT-loop
+Inv-loop out₀ at list n next₀ i₀ out next i = (i ≤ n) × (next ≤ at + 53 * i) × Wrote out₀ at (Listing.recordLines (Nodes.nodes list n) i) out next
+
+abbrev μ-loop : tie.MeasureT-loop
+μ-loop out₀ at list n next₀ i₀ out next i = n - i
+
+loop-holds : tie.Need-loop-holds Inv-loop μ-loop
+unfolding Listing.recordLines
+loop-holds c = (omega arith, omega arith, wrote-nothing _ _ (omega (arith, c .before .before .pre .2)))
+
+node-at-requires : tie.Need-node-at-requires Inv-loop μ-loop
+node-at-requires c κs = omega (arith, c .before .before .before .before .before .pre .0)
+
+put-record-requires : tie.Need-put-record-requires Inv-loop μ-loop
+put-record-requires c κs = (omega (arith, c .before .before .before .before .before .before .pre .1), let l = wrote-length (c .before .before .before .loop .inv .2) in omega (arith, c .before .before .before .before .before .before .pre .2, c .before .before .before .loop .inv .1, c .before .before .loop-test .taken))
+
+add-i : tie.Need-add-i Inv-loop μ-loop
+add-i c = omega (arith, c .before .before .before .before .before .loop-test .taken)
+
+loop-less : tie.Need-loop-less Inv-loop μ-loop
+loop-less c = omega arith
+
+loop-again : tie.Need-loop-again Inv-loop μ-loop
+loop-again c = (omega arith, omega (arith, c .before .before .before .before .before .before .loop .inv .1, c .before .before .put-record .ensures .1), lines-more (c .before .before .before .before .before .before .before .before .before .args .list .now) (c .before .before .before .before .before .before .before .before .before .args .n) (c .before .before .before .before .before .before .loop .i) (c .before .before .before .before .before .before .loop .inv .2) (c .before .before .before .before .before .loop-test .taken) (c .before .before .before .node-at .ensures) (c .before .before .put-record .ensures .0))
+
+same-length : tie.Need-same-length Inv-loop μ-loop
+same-length c = wrote-length (c .before .loop .inv .2)
+
+returns : tie.Need-returns Inv-loop μ-loop
+returns c = rw (le-antisymm (c .before .loop .inv .0) (c .loop-test .left)) at (c .before .loop .inv .2)
+
+pub put-records-spec : {M : Type 1} → statement M
+put-records-spec =
+    tie.close
+    (tie.spec
+    Inv-loop
+    μ-loop
+    loop-holds
+    node-at-requires
+    put-record-requires
+    add-i
+    loop-less
+    loop-again
+    same-length
+    returns)

@@ -1,0 +1,25 @@
+use Rattle.text.specs.Writing.{and-then, wrote-as, wrote-laid}
+use Rattle.listing.specs.LineLaws.{answer-is}
+use borrow.Author.Needs.{needs}
+use Rattle.listing.proofs.write_listing.Statement.{statement}
+use Rattle.listing.proofs.write_listing.Tie as tie
+
+put-first-requires : tie.Need-put-first-requires
+put-first-requires c κs = search needs
+
+put-records-requires : tie.Need-put-records-requires
+put-records-requires c κs = search needs
+
+blank-text-requires : tie.Need-blank-text-requires
+blank-text-requires c κs = search needs
+
+same-length : tie.Need-same-length
+same-length c = search needs
+
+returns : tie.Need-returns
+returns c = wrote-laid (wrote-as (answer-is _ _ _ _) (and-then (c .before .before .before .before .before .before .before .before .before .before .put-first .ensures .0) (c .before .before .before .before .before .before .put-records .ensures))) (c .before .before .blank-text .ensures)
+
+pub write-listing-spec : {M : Type 1} → statement M
+write-listing-spec =
+    tie.close
+    (tie.spec put-first-requires put-records-requires blank-text-requires same-length returns)

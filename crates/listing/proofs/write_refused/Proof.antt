@@ -1,0 +1,47 @@
+use native.Mathlib.Omega.{arith}
+use Rattle.text.specs.Writing.{and-then, wrote-as, wrote-laid}
+use Rattle.text.specs.Text.{ascii}
+use Rattle.listing.specs.LineLaws.{named-short, word-short, refused-is, wrote-named, wrote-number}
+use borrow.Author.Needs.{needs}
+use Rattle.listing.proofs.write_refused.Statement.{statement}
+use Rattle.listing.proofs.write_refused.Tie as tie
+
+slice-aggregate-put-named : tie.Need-slice-aggregate-put-named
+slice-aggregate-put-named c = search needs
+
+number-of-requires : tie.Need-number-of-requires
+number-of-requires c κs = search needs
+
+put-named-requires : tie.Need-put-named-requires
+unfolding ascii
+put-named-requires c κs = omega (arith, c .before .before .before .before .pre, named-short (ascii "refused") (c .number-of .result) 32 (c .number-of .ok))
+
+place-of-requires : tie.Need-place-of-requires
+place-of-requires c κs = search needs
+
+put-number-requires : tie.Need-put-number-requires
+unfolding ascii
+put-number-requires c κs = omega (arith, c .before .before .before .before .before .before .before .before .before .pre, named-short (ascii "refused") (c .before .before .before .before .before .number-of .result) 32 (c .before .before .before .before .before .number-of .ok), word-short (c .place-of .result) 10 (c .place-of .ok), c .before .before .before .before .put-named .ensures .end-is, c .before .before .before .before .put-named .kept .0)
+
+blank-text-requires : tie.Need-blank-text-requires
+blank-text-requires c κs = search needs
+
+same-length : tie.Need-same-length
+same-length c = search needs
+
+returns : tie.Need-returns
+unfolding ascii
+returns c = wrote-laid (wrote-as (refused-is _) (and-then (wrote-named (ascii "refused") 32 (c .before .before .before .before .before .before .before .before .before .before .before .before .number-of .ensures) (c .before .before .before .before .before .before .before .before .before .before .before .put-named .ensures)) (wrote-number 10 (c .before .before .before .before .before .before .before .place-of .ensures) (c .before .before .before .before .before .before .put-number .ensures)))) (c .before .before .blank-text .ensures)
+
+pub write-refused-spec : {M : Type 1} → statement M
+write-refused-spec =
+    tie.close
+    (tie.spec
+    slice-aggregate-put-named
+    number-of-requires
+    put-named-requires
+    place-of-requires
+    put-number-requires
+    blank-text-requires
+    same-length
+    returns)

@@ -1,0 +1,5 @@
+pub mod Listing
+pub mod LineLaws
+pub mod CallLaws
+pub mod CutLaws
+pub mod Example

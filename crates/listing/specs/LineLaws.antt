@@ -1,0 +1,79 @@
+-- The lines of a listing, piece after piece, and how long they are.
+use Prim.Native.Nat.{ℕ, zero, suc, _+_, _*_, _^_, _≤_, _<_}
+use mathlib.Core.List.{List, [], _∷_, _++_, append-assoc}
+use mathlib.Core.Path.{_≡_, refl, sym, _∙_, ap, ap₂}
+use native.Mathlib.Nat.{lt-of-lt-of-le}
+use native.Mathlib.Numerals.{add-one}
+use native.Mathlib.Omega.{arith}
+use lib.Dec.{lit≤}
+use lib.ListN.{length, length-append}
+use Rattle.dag.specs.Nodes.{nodes, at, recordAt, first, second}
+use Rattle.dag.specs.NodeLaws.{length-nodes, at-nodes}
+use Rattle.dag.specs.Refusals.{number, place}
+use Rattle.dag.specs.declared.NodeKind.{NodeKind}
+use Rattle.dag.specs.declared.NodeKind.the-variants.{Input, Constant, Add, Sub, Mul, Neg}
+use Rattle.dag.specs.declared.Refusal.{Refusal}
+use Rattle.normalize.specs.Rounds.{Normal}
+use Rattle.text.specs.Text.{ascii, decimal, ended, line, space, newline}
+use Rattle.text.specs.DecimalLaws.{number-short}
+use Rattle.text.specs.Writing.{Wrote, and-then, wrote-as, wrote-nothing, length-ended, Laid}
+use Rattle.listing.specs.Listing.{kind, firstLine, recordLine, recordLines, listed, refusedLine}
+
+-- a word, a space, a number and the byte that ends it
+unfoldable pub named : List ℕ → ℕ → ℕ → List ℕ
+named word n end = ended word space ++ ended (decimal n) end
+
+pub length-named : (word : List ℕ) (n end : ℕ) → length (named word n end) ≡ length (ended word space) + length (ended (decimal n) end)
+unfolding named
+length-named word n end = length-append (ended word space) (ended (decimal n) end)
+
+-- a 64-bit word has at most 20 digits
+pub word-short : (n end : ℕ) → n < 2 ^ 64 → length (ended (decimal n) end) ≤ 21
+word-short n end h = number-short 19 n end (lt-of-lt-of-le h (lit≤ tt))
+
+pub named-short : (word : List ℕ) (n end : ℕ) → n < 2 ^ 64 → length (named word n end) ≤ length word + 22
+named-short word n end h = omega (arith, length-named word n end, length-ended word space, word-short n end h)
+
+pub kind-short : (x : NodeKind) → length (ended (kind x) space) ≤ 6
+unfolding kind ascii ended
+kind-short (Input k) = omega arith
+kind-short (Constant c) = omega arith
+kind-short (Add a b) = omega arith
+kind-short (Sub a b) = omega arith
+kind-short (Mul a b) = omega arith
+kind-short (Neg a) = omega arith
+
+module _ {s u : List ℕ} {at r : ℕ} where
+  -- the word of a kind
+  pub wrote-kind : {x y : NodeKind} {word : List ℕ} → x ≡ y → word ≡ kind y → Wrote s at (ended word space) u r → Wrote s at (ended (kind x) space) u r
+  wrote-kind e f w = wrote-as (ap (λ t. ended t space) (f ∙ ap kind (sym e))) w
+
+  -- the number that another is
+  pub wrote-number : (end : ℕ) {m n : ℕ} → m ≡ n → Wrote s at (ended (decimal m) end) u r → Wrote s at (ended (decimal n) end) u r
+  wrote-number end e w = wrote-as (ap (λ k. ended (decimal k) end) e) w
+
+  pub wrote-named : (word : List ℕ) (end : ℕ) {m n : ℕ} → m ≡ n → Wrote s at (named word m end) u r → Wrote s at (named word n end) u r
+  wrote-named word end e w = wrote-as (ap (λ k. named word k end) e) w
+
+pub first-is : (count root rounds : ℕ)
+    → named (ascii "nodes") count space ++ (named (ascii "root") root space ++ named (ascii "rounds") rounds newline) ≡ firstLine count (root ∷ []) rounds
+unfolding named firstLine line
+first-is count root rounds = simp append-assoc
+
+pub refused-is : (r : Refusal) → named (ascii "refused") (number r) space ++ ended (decimal (place r)) newline ≡ refusedLine r
+unfolding named refusedLine line
+refused-is r = simp append-assoc
+
+-- one more record's line
+pub lines-more : (list : List ℕ) (n i : ℕ) {s u v : List ℕ} {at q r : ℕ} {x : NodeKind} → Wrote s at (recordLines (nodes list n) i) u q → i < n → x ≡ recordAt list i → Wrote u q (recordLine i x) v r
+    → Wrote s at (recordLines (nodes list n) (i + 1)) v r
+unfolding recordLines
+lines-more list n i before h e w = rw (add-one i) (and-then before (wrote-as (ap (recordLine i) (e ∙ sym (at-nodes list n i h))) w))
+
+-- the listing of the list that a store holds, with one root
+unfoldable pub answerText : List ℕ → ℕ → ℕ → ℕ → List ℕ
+answerText s count root rounds = listed (record { list = nodes s count; roots = root ∷ []; rounds = rounds })
+
+pub answer-is : (s : List ℕ) (count root rounds : ℕ) → firstLine count (root ∷ []) rounds ++ recordLines (nodes s count) count ≡ answerText s count root rounds
+unfolding answerText listed
+answer-is s count root rounds = rw (length-nodes s count)

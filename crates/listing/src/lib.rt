@@ -1,0 +1,164 @@
+// The installers' listing: the text of what Normalise answers to a house file.
+use dag::NodeKind;
+use dag::Refusal;
+use house_file::FileAnswer;
+use normalize::NormalizeAnswer;
+use text::NEWLINE;
+use text::SPACE;
+ghost use mathlib.Core.Path.{_≡_};
+ghost use mathlib.Core.List.{[], _∷_};
+ghost use Prim.Native.Nat.{_+_, _*_, _<_, _≤_};
+ghost use lib.ListN.{length};
+ghost use Rattle.dag.specs.Nodes as Nodes;
+ghost use Rattle.text.specs.Text.{ended, decimal, space, laid};
+ghost use Rattle.text.specs.Writing.{Wrote, Laid};
+ghost use Rattle.listing.specs.Listing as Listing;
+ghost use Rattle.listing.specs.LineLaws as LineLaws;
+ghost use Rattle.listing.specs.CallLaws as CallLaws;
+
+// The longest listing of a house file, in bytes.
+pub const LONGEST: usize = 54353;
+
+// Writes a record's kind and a space.
+fn put_kind(out: &mut [u8], at: usize, x: NodeKind) -> usize
+    requires { ⌜ at + 6 ≤ length (now out) ⌝ }
+    ensures { λ r. ⌜ Wrote (now (out .entry)) at (ended (Listing.kind x) space) (now (out .exit)) r ⌝ }
+{
+    match x {
+        NodeKind::Input(_) => text::put_word(out, at, b"in", SPACE),
+        NodeKind::Constant(_) => text::put_word(out, at, b"const", SPACE),
+        NodeKind::Add(_, _) => text::put_word(out, at, b"add", SPACE),
+        NodeKind::Sub(_, _) => text::put_word(out, at, b"sub", SPACE),
+        NodeKind::Mul(_, _) => text::put_word(out, at, b"mul", SPACE),
+        NodeKind::Neg(_) => text::put_word(out, at, b"neg", SPACE),
+    }
+}
+
+// Writes the line of the record x at place i.
+fn put_record(out: &mut [u8], at: usize, i: usize, x: NodeKind) -> usize
+    requires { ⌜ (i < 10000) × (at + 53 ≤ length (now out)) ⌝ }
+    ensures { λ r. ⌜ Wrote (now (out .entry)) at (Listing.recordLine i x) (now (out .exit)) r × (r ≤ at + 53) ⌝ }
+{
+    let kind = text::put_number(out, at, i as u64, SPACE);
+    let first = put_kind(out, kind, x);
+    let second = text::put_number(out, first, dag::first_of(x), SPACE);
+    text::put_number(out, second, dag::second_of(x), NEWLINE)
+}
+
+// Writes the lines of the first n records of a list.
+fn put_records(out: &mut [u8], at: usize, list: &[u64], n: usize) -> usize
+    requires { ⌜ (3 * n ≤ length (now list)) × (n ≤ 4096) × (at + 53 * n ≤ length (now out)) ⌝ }
+    ensures { λ r. ⌜ Wrote (now (out .entry)) at (Listing.recordLines (Nodes.nodes (now (list .entry)) n) n) (now (out .exit)) r ⌝ }
+{
+    let mut next = at;
+    let mut i = 0;
+    while i < n {
+        next = put_record(out, next, i, dag::node_at(list, i));
+        i += 1;
+    }
+    next
+}
+
+// Writes a word, a space, a number and the byte that ends it.
+fn put_named(out: &mut [u8], at: usize, name: &[u8], n: u64, end: u8) -> usize
+    requires { ⌜ at + length (LineLaws.named (now name) n end) ≤ length (now out) ⌝ }
+    ensures { λ r. ⌜ Wrote (now (out .entry)) at (LineLaws.named (now (name .entry)) n end) (now (out .exit)) r ⌝ }
+{
+    let number = text::put_word(out, at, name, SPACE);
+    text::put_number(out, number, n, end)
+}
+
+// Writes a listing's first line.
+fn put_first(out: &mut [u8], count: usize, root: usize, rounds: usize) -> usize
+    requires { ⌜ 81 ≤ length (now out) ⌝ }
+    ensures { λ r. ⌜ Wrote (now (out .entry)) 0 (Listing.firstLine count (root ∷ []) rounds) (now (out .exit)) r × (r ≤ 81) ⌝ }
+{
+    let a = put_named(out, 0, b"nodes", count as u64, SPACE);
+    let b = put_named(out, a, b"root", root as u64, SPACE);
+    put_named(out, b, b"rounds", rounds as u64, NEWLINE)
+}
+
+// Writes the listing of an answer: a first line, then a line a record. Answers its length.
+pub fn write_listing(
+    list: &[u64],
+    count: usize,
+    root: usize,
+    rounds: usize,
+    out: &mut [u8],
+) -> usize
+    requires { ⌜ (3 * count ≤ length (now list)) × (count ≤ 4096) × (Listing.longest count ≤ length (now out)) ⌝ }
+    ensures { λ r. ⌜ Laid (now (out .entry)) (LineLaws.answerText (now (list .entry)) count root rounds) (now (out .exit)) r ⌝ }
+{
+    let lines = put_first(out, count, root, rounds);
+    let end = put_records(out, lines, list, count);
+    text::blank_text(out, end);
+    end
+}
+
+// Writes the line of a refusal. Answers its length.
+pub fn write_refused(r: Refusal, out: &mut [u8]) -> usize
+    requires { ⌜ 81 ≤ length (now out) ⌝ }
+    ensures { λ q. ⌜ Laid (now (out .entry)) (Listing.refusedLine r) (now (out .exit)) q ⌝ }
+{
+    let place = put_named(out, 0, b"refused", dag::number_of(r), SPACE);
+    let end = text::put_number(out, place, dag::place_of(r) as u64, NEWLINE);
+    text::blank_text(out, end);
+    end
+}
+
+// Normalises a list and writes the listing of the answer, or the refusal's line. Answers its length.
+fn list_words(
+    list: &[u64],
+    n: usize,
+    root: usize,
+    result: &mut [u64],
+    work: &mut [u64],
+    out: &mut [u8],
+) -> usize
+    requires { ⌜ Listing.longest n ≤ length (now out) ⌝ }
+    ensures { λ r. ⌜ Laid (now (out .entry)) (Listing.wordsListing (now (list .entry)) n root (length (now (result .entry))) (length (now (work .entry)))) (now (out .exit)) r ⌝ }
+{
+    let answer = normalize::normalize(list, n, root, result, work);
+    match answer {
+        NormalizeAnswer::Refused(r) => write_refused(r, out),
+        NormalizeAnswer::Done {
+            count,
+            root,
+            rounds,
+        } => write_listing(result, count, root, rounds, out),
+    }
+}
+
+// The listing of a file, with stores lent.
+fn list_in(
+    file: &[u8],
+    list: &mut [u64],
+    result: &mut [u64],
+    work: &mut [u64],
+    out: &mut [u8],
+) -> usize
+    requires { ⌜ CallLaws.Lent (now list) (now result) (now work) (now out) ⌝ }
+    ensures { λ r. ⌜ Laid (now (out .entry)) (Listing.listing (now (file .entry))) (now (out .exit)) r ⌝ }
+{
+    let answer = house_file::read_file(file, list);
+    match answer {
+        FileAnswer::Refused(r) => write_refused(r, out),
+        FileAnswer::Read { count, root } => {
+            let m = 3 * count;
+            list_words(&list[..m], count, root, result, work, out)
+        }
+    }
+}
+
+// Writes the listing of a house file, or the line of its refusal, 0 bytes behind it. Answers its length.
+pub fn list_file(file: &[u8], out: &mut [u8]) -> usize
+    requires { ⌜ Listing.longest 1024 ≤ length (now out) ⌝ }
+    ensures length { λ r. ⌜ r ≡ length (Listing.listing (now (file .entry))) ⌝ }
+    ensures text { λ _. ⌜ now (out .exit) ≡ laid (length (now (out .entry))) (Listing.listing (now (file .entry))) ⌝ }
+    ensures fits { λ r. ⌜ r ≤ length (now (out .exit)) ⌝ }
+{
+    let mut list = [0u64; 3072];
+    let mut result = [0u64; 3072];
+    let mut work = [0u64; 6144];
+    list_in(file, &mut list, &mut result, &mut work, out)
+}
