@@ -1,9 +1,9 @@
 -- What the tests of a file give, and its words one record after the other.
 use Prim.Native.Nat.{ℕ, zero, suc, _+_, _*_, _-_, _^_, _≤_, _<_}
-use mathlib.Core.Bool.{true, _&&_}
+use mathlib.Core.Bool.{true}
 use mathlib.Core.List.{List, [], _∷_, _++_}
 use mathlib.Core.Path.{_≡_, refl, sym, _∙_, ap, ap₂}
-use native.Mathlib.Nat.{pow-suc, pow-zero, pow-le-pow-right}
+use native.Mathlib.Nat.{pow-suc, pow-le-pow-right}
 use native.Mathlib.Numerals.{add-one}
 use native.Mathlib.Omega.{arith}
 use borrow.Author.Tests.{leb-true, eqb-true, le-leb, lt-ltb, le-ltb}
@@ -12,7 +12,7 @@ use lib.ListN.{getD, length, take, replicate, length-append, List·getD-append}
 use lib.Seq.{getD-append-add, getD-at, take-all}
 use Rattle.field.specs.Field.{p}
 use Rattle.dag.specs.Nodes.{blank, decode, recordAt, nodes, at, wordsOf, filled, mostRecords}
-use Rattle.dag.specs.NodeLaws.{length-nodes, at-nodes}
+use Rattle.dag.specs.NodeLaws.{at-nodes}
 use Rattle.dag.specs.Cases.{and-true, below-suc-elim}
 use Rattle.dag.specs.Refusals.{need, _then_, isRefused, unlessRefused}
 use Rattle.dag.specs.Check.{recordCheck, checkAt, recordsCheck, rootlessCheck, listCheck}

@@ -1,32 +1,28 @@
 -- From what the calls answer to the listing of the definition.
-use Prim.Native.Nat.{ℕ, suc, _+_, _*_, _-_, _≤_, _<_}
-use mathlib.Core.Bool.{true, _&&_}
+use Prim.Native.Nat.{ℕ, _*_, _-_, _≤_}
 use mathlib.Core.List.{List, [], _∷_, _++_}
 use mathlib.Core.Path.{_≡_, refl, sym, _∙_, ap, ap₂}
 use native.Mathlib.Omega.{arith}
 use borrow.Author.Tests.{le-leb}
-use lib.ListN.{length, getD, take, replicate, length-replicate}
+use lib.ListN.{length, getD, take, replicate}
 use lib.Seq.{take-at}
-use Rattle.field.specs.Field.{p, quad, quad-laws}
+use Rattle.field.specs.Field.{quad, quad-laws}
 use Rattle.dag.specs.Nodes.{blank, nodes, wordsOf, filled}
 use Rattle.dag.specs.NodeLaws.{length-nodes}
-use Rattle.dag.specs.Refusals.{need, _then_, unlessRefused}
-use Rattle.dag.specs.CheckLaws.{then-good}
-use Rattle.dag.specs.PassLaws.{rooted}
+use Rattle.dag.specs.Refusals.{unlessRefused}
 use Rattle.dag.specs.declared.Refusal.{Refusal}
 use Rattle.dag.specs.declared.Checked.{Checked}
 use Rattle.dag.specs.declared.Checked.the-variants.{Good, Refused}
 use Rattle.builder.specs.OutcomeLaws.{list-fine}
 use Rattle.compact.specs.Operands.{one-below}
 use Rattle.compact.specs.Written.{nodes-words}
-use Rattle.normalize.specs.Rounds.{normalize, Normal}
 use Rattle.normalize.specs.Demand3.{never-more, as-many-roots}
 use Rattle.normalize.specs.Calls.{normalizeCheck, normalized, normalizeAnswer, normalizeResult}
 use Rattle.normalize.specs.CallLaws.{Passed, passed}
 use Rattle.normalize.specs.declared.NormalizeAnswer.{NormalizeAnswer}
 use Rattle.normalize.specs.declared.NormalizeAnswer.the-variants as NormalizeAnswer'
 use Rattle.text.specs.Writing.{Laid}
-use Rattle.house_file.specs.File.{fileCount, fileRoot, mostFiled, fileWords, formCheck, heldCheck, fileCheck, readCheck, readAnswer, readList}
+use Rattle.house_file.specs.File.{fileCount, fileWords, heldCheck, fileCheck, readAnswer, readList}
 use Rattle.house_file.specs.declared.FileAnswer.the-variants as FileAnswer'
 use Rattle.house_file.specs.FileLaws as FileLaws
 use Rattle.house_file.specs.FileLaws.{length-words, room-enough, read-refused, Read, read-done}

@@ -1,22 +1,21 @@
 -- The lines of a listing, piece after piece, and how long they are.
-use Prim.Native.Nat.{ℕ, zero, suc, _+_, _*_, _^_, _≤_, _<_}
+use Prim.Native.Nat.{ℕ, _+_, _^_, _≤_, _<_}
 use mathlib.Core.List.{List, [], _∷_, _++_, append-assoc}
-use mathlib.Core.Path.{_≡_, refl, sym, _∙_, ap, ap₂}
+use mathlib.Core.Path.{_≡_, sym, _∙_, ap}
 use native.Mathlib.Nat.{lt-of-lt-of-le}
 use native.Mathlib.Numerals.{add-one}
 use native.Mathlib.Omega.{arith}
 use lib.Dec.{lit≤}
 use lib.ListN.{length, length-append}
-use Rattle.dag.specs.Nodes.{nodes, at, recordAt, first, second}
+use Rattle.dag.specs.Nodes.{nodes, at, recordAt}
 use Rattle.dag.specs.NodeLaws.{length-nodes, at-nodes}
 use Rattle.dag.specs.Refusals.{number, place}
 use Rattle.dag.specs.declared.NodeKind.{NodeKind}
 use Rattle.dag.specs.declared.NodeKind.the-variants.{Input, Constant, Add, Sub, Mul, Neg}
 use Rattle.dag.specs.declared.Refusal.{Refusal}
-use Rattle.normalize.specs.Rounds.{Normal}
 use Rattle.text.specs.Text.{ascii, decimal, ended, line, space, newline}
-use Rattle.text.specs.DecimalLaws.{number-short}
-use Rattle.text.specs.Writing.{Wrote, and-then, wrote-as, wrote-nothing, length-ended, Laid}
+use Rattle.text.specs.DecimalLaws.{decimal-short}
+use Rattle.text.specs.Writing.{Wrote, and-then, wrote-as, length-ended}
 use Rattle.listing.specs.Listing.{kind, firstLine, recordLine, recordLines, listed, refusedLine}
 
 -- a word, a space, a number and the byte that ends it
@@ -28,8 +27,11 @@ unfolding named
 length-named word n end = length-append (ended word space) (ended (decimal n) end)
 
 -- a 64-bit word has at most 20 digits
+pub word-digits : (n : ℕ) → n < 2 ^ 64 → length (decimal n) ≤ 20
+word-digits n h = decimal-short 19 n (lt-of-lt-of-le h (lit≤ tt))
+
 pub word-short : (n end : ℕ) → n < 2 ^ 64 → length (ended (decimal n) end) ≤ 21
-word-short n end h = number-short 19 n end (lt-of-lt-of-le h (lit≤ tt))
+word-short n end h = omega (arith, length-ended (decimal n) end, word-digits n h)
 
 pub named-short : (word : List ℕ) (n end : ℕ) → n < 2 ^ 64 → length (named word n end) ≤ length word + 22
 named-short word n end h = omega (arith, length-named word n end, length-ended word space, word-short n end h)

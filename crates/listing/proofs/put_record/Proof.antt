@@ -1,8 +1,8 @@
 use native.Mathlib.Omega.{arith}
-use Rattle.text.specs.Writing.{and-then}
+use Rattle.text.specs.Writing.{and-then, length-ended}
 use Rattle.text.specs.DecimalLaws.{number-short}
 use Rattle.text.specs.Text as Text
-use Rattle.listing.specs.LineLaws.{kind-short, word-short, wrote-number}
+use Rattle.listing.specs.LineLaws.{kind-short, word-digits, word-short, wrote-number}
 use Rattle.listing.specs.Listing as Listing
 use borrow.Author.Needs.{needs}
 use Rattle.listing.proofs.put_record.Statement.{statement}
@@ -24,7 +24,7 @@ second-of-requires : tie.Need-second-of-requires
 second-of-requires c κs = search needs
 
 put-number-requires-3 : tie.Need-put-number-requires-3
-put-number-requires-3 c κs = omega (arith, number-short 3 (c .before .before .before .before .before .before .before .before .before .before .before .before .before .before .before .before .args .i) 32 (c .before .before .before .before .before .before .before .before .before .before .before .before .before .before .before .before .pre .0), kind-short (c .before .before .before .before .before .before .before .before .before .before .before .before .before .before .before .before .args .x), word-short (c .before .before .before .before .before .first-of .result) 32 (c .before .before .before .before .before .first-of .ok), word-short (c .second-of .result) 10 (c .second-of .ok), c .before .before .before .before .before .before .before .before .before .before .before .before .before .before .before .before .pre .1, c .before .before .before .before .before .before .before .before .before .before .before .before .before .put-number .ensures .end-is, c .before .before .before .before .before .before .before .before .before .before .before .before .before .put-number .kept .0, c .before .before .before .before .before .before .before .before .before .put-kind .ensures .end-is, c .before .before .before .before .before .before .before .before .before .put-kind .kept .0, c .before .before .before .before .put-number2 .ensures .end-is, c .before .before .before .before .put-number2 .kept .0)
+put-number-requires-3 c κs = simp length-ended (omega (arith, number-short 3 (c .before .before .before .before .before .before .before .before .before .before .before .before .before .before .before .before .args .i) 32 (c .before .before .before .before .before .before .before .before .before .before .before .before .before .before .before .before .pre .0), kind-short (c .before .before .before .before .before .before .before .before .before .before .before .before .before .before .before .before .args .x), word-short (c .before .before .before .before .before .first-of .result) 32 (c .before .before .before .before .before .first-of .ok), word-digits (c .second-of .result) (c .second-of .ok), c .before .before .before .before .before .before .before .before .before .before .before .before .before .before .before .before .pre .1, c .before .before .before .before .before .before .before .before .before .before .before .before .before .put-number .ensures .end-is, c .before .before .before .before .before .before .before .before .before .before .before .before .before .put-number .kept .0, c .before .before .before .before .before .before .before .before .before .put-kind .ensures .end-is, c .before .before .before .before .before .before .before .before .before .put-kind .kept .0, c .before .before .before .before .put-number2 .ensures .end-is, c .before .before .before .before .put-number2 .kept .0))
 
 same-length : tie.Need-same-length
 same-length c = search needs
