@@ -8,6 +8,7 @@ use Rattle.dag.specs.declared.Checked.{Checked}
 use Rattle.compact.specs.declared.Compacted.{Compacted}
 use Rattle.normalize.specs.declared.NormalizeAnswer.{NormalizeAnswer}
 use Rattle.evaluate.specs.declared.Evaluated.{Evaluated}
+use Rattle.lower.specs.declared.LowerAnswer.{LowerAnswer}
 use Rattle.columns.specs.declared.Prepared.{Prepared}
 use Rattle.builder.specs.declared.StepAnswer.{StepAnswer}
 use Rattle.builder.specs.declared.BuildAnswer.{BuildAnswer}
@@ -41,3 +42,7 @@ checkedWords (Checked.Refused r) count forms = number r ∷ place r ∷ replicat
 
 abbrev pub prepareWords : Prepared → List ℕ
 prepareWords a = checkedWords (a .checked) (a .count) (a .forms)
+
+abbrev pub lowerWords : LowerAnswer → List ℕ
+lowerWords (LowerAnswer.Done count) = 0 ∷ count ∷ 0 ∷ 0 ∷ []
+lowerWords (LowerAnswer.Refused r) = refusedWords r

@@ -6,6 +6,7 @@ use compact::Compacted;
 use dag::Checked;
 use dag::Refusal;
 use evaluate::Evaluated;
+use lower::LowerAnswer;
 use normalize::NormalizeAnswer;
 ghost use mathlib.Core.Path.{_≡_};
 ghost use lib.ListN.{length};
@@ -13,6 +14,7 @@ ghost use Rattle.builder.specs.Calls as Calls;
 ghost use Rattle.columns.specs.Prepare as Prepare;
 ghost use Rattle.compact.specs.Calls as Compaction;
 ghost use Rattle.evaluate.specs.Calls as Evaluation;
+ghost use Rattle.lower.specs.Lower as Lowering;
 ghost use Rattle.normalize.specs.Calls as Normalising;
 ghost use Rattle.ace.specs.Answers as Answers;
 ghost use Rattle.field.specs.Field.{p};
@@ -128,6 +130,16 @@ fn prepare_words(a: Prepared) -> [u64; 18]
     }
 }
 
+// The words of Lower's answer.
+fn lower_words(a: LowerAnswer) -> [u64; 4]
+    ensures { λ w. ⌜ w ≡ Answers.lowerWords a ⌝ }
+{
+    match a {
+        LowerAnswer::Done { count } => [0, count as u64, 0, 0],
+        LowerAnswer::Refused(r) => refused_words(r),
+    }
+}
+
 // Step. Accepted: place, new n.
 #[no_mangle]
 pub extern "C" fn ace_step(
@@ -214,4 +226,25 @@ pub extern "C" fn ace_prepare(lengths: &[u64], entries: &[u64], answer: &mut [u6
     ensures answer { λ _. ⌜ now (answer .exit) ≡ Answers.prepareWords (Prepare.prepare p (now (lengths .entry)) (now (entries .entry))) ⌝ }
 {
     *answer = prepare_words(columns::prepare(lengths, entries));
+}
+
+// Lower. Accepted: count.
+#[no_mangle]
+pub extern "C" fn ace_lower(
+    list: &[u64],
+    n: usize,
+    lengths: &[u64],
+    entries: &[u64],
+    period: u64,
+    result: &mut [u64],
+    work: &mut [u64],
+    places: &mut [u64],
+    answer: &mut [u64; 4],
+)
+    ensures result { λ _. ⌜ now (result .exit) ≡ Lowering.lowerResult (now (list .entry)) n (now (lengths .entry)) (now (entries .entry)) period (now (result .entry)) (now (work .entry)) (now (places .entry)) ⌝ }
+    ensures work { λ _. ⌜ now (work .exit) ≡ Lowering.lowerWork (now (list .entry)) n (now (lengths .entry)) (now (entries .entry)) period (now (result .entry)) (now (work .entry)) (now (places .entry)) ⌝ }
+    ensures places { λ _. ⌜ now (places .exit) ≡ Lowering.lowerPlaces (now (list .entry)) n (now (lengths .entry)) (now (entries .entry)) period (now (result .entry)) (now (work .entry)) (now (places .entry)) ⌝ }
+    ensures answer { λ _. ⌜ now (answer .exit) ≡ Answers.lowerWords (Lowering.lowerAnswer (now (list .entry)) n (now (lengths .entry)) (now (entries .entry)) period (now (result .entry)) (now (work .entry)) (now (places .entry))) ⌝ }
+{
+    *answer = lower_words(lower::lower(list, n, lengths, entries, period, result, work, places));
 }

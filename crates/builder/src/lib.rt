@@ -283,7 +283,7 @@ fn found_or_new(list: &[u64], n: usize, x: NodeKind) -> Outcome
 }
 
 // The place of a request's result among the first n records, or the new record that it needs.
-fn resolve(list: &[u64], n: usize, x: NodeKind) -> Outcome
+pub fn resolve(list: &[u64], n: usize, x: NodeKind) -> Outcome
     requires { ⌜ Said.Request (now list) n x ⌝ }
     ensures { λ r. ⌜ r ≡ Said.resolved (Nodes.nodes (now (list .entry)) n) n x ⌝ }
 {

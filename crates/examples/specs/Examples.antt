@@ -7,14 +7,21 @@ use Rattle.field.specs.Field.{p, felt, quad, same, new}
 use Rattle.field.specs.declared.QuadFelt.{QuadFelt}
 use Rattle.dag.specs.declared.NodeKind.{NodeKind}
 use Rattle.dag.specs.declared.NodeKind.the-variants.{Input, Constant, Add, Sub, Mul, Neg}
-use Rattle.dag.specs.Nodes.{at, sameNode, operands, rename}
+use Rattle.dag.specs.Nodes.{at, sameNode, operands, rename, recordAt, nodes, decode}
 use Rattle.dag.specs.Lookup.{lookup}
 use Rattle.builder.specs.Steps.{isConstant, isAdd, isSub, isMul, isNeg, element, isThe, lowFirst, addRule, subRule, mulOutcome, negOutcome, follow, addWithin, subWithin, addOutcome, subOutcome, outcome, interned, intern, enter, step, Built, placeOf, recorded}
 use Rattle.compact.specs.Reach.{marked, sweep, marks}
 use Rattle.compact.specs.Compact.{rank, kept, compact, Rooted}
 use Rattle.normalize.specs.Rounds.{count, mentions, fanout, sharedFactor, commonFactor, orElse, ontoBefore, existingRotation, eitherRotation, planOf, planned, round, fired, rounded, isKept, roundsFrom, normalize, Normal}
 use Rattle.columns.specs.Columns.{logWithin, logLength, count as occurrences, isSparse, standalone, placesFrom, withNew, valuesFrom, values, weight, heaviest, dominant, isScaled, scalings, combinationCost, offset, equalEntries, gain, sameEntries, isAmong, saving, savings, goesOver, form, formNumber}
-use Rattle.columns.specs.Prepare.{upTo}
+use Rattle.columns.specs.Prepare.{upTo, firstOf, total, columns, prepareCheck}
+use Rattle.dag.specs.Keys.{isKey}
+use Rattle.dag.specs.Check.{formed, earlier, recordCheck, checkAt, recordsCheck, rootlessCheck}
+use Rattle.dag.specs.declared.Checked.{Checked}
+use Rattle.dag.specs.declared.Checked.the-variants.{Good}
+use Rattle.periodic.specs.Builder.{turns, done}
+use Rattle.periodic.specs.Periodic.{buildPeriodicNodes}
+use Rattle.lower.specs.Lower.{periodGood, lowerCheck, lowered}
 
 -- the two sides of an example
 pub record Example : Type 1 where
@@ -131,9 +138,16 @@ K-four = record { Answer = List ℕ; computed = savingsAndForms (unit 0 ∷ unit
 abbrev K-copies : Example
 K-copies = record { Answer = List ℕ; computed = savingsAndForms (unit 5 ∷ unit 5 ∷ unit 5 ∷ unit 5 ∷ []); stated = 17 ∷ 0 ∷ 0 ∷ 0 ∷ 0 ∷ [] }
 
+-- without columns the shared period 3 isn't read: all tests pass, and the list is copied
+abbrev L-accepted : Example
+L-accepted = record { Answer = Checked; computed = lowerCheck (0 ∷ 0 ∷ 0 ∷ []) 1 [] [] 3 12288 0; stated = Good }
+
+abbrev L-copied : Example
+L-copied = record { Answer = List NodeKind; computed = lowered (0 ∷ 0 ∷ 0 ∷ []) 1 [] [] 3 .list; stated = Input 0 ∷ [] }
+
 pub examples : List Example
-examples = A ∷ B ∷ C-normalized ∷ C-compacted ∷ D ∷ E ∷ F ∷ G ∷ H ∷ I ∷ J ∷ K-three ∷ K-four ∷ K-copies ∷ []
+examples = A ∷ B ∷ C-normalized ∷ C-compacted ∷ D ∷ E ∷ F ∷ G ∷ H ∷ I ∷ J ∷ K-three ∷ K-four ∷ K-copies ∷ L-accepted ∷ L-copied ∷ []
 
 pub all-examples : All examples
-unfolding examples felt quad same at sameNode operands rename lookup isConstant isAdd isSub isMul isNeg element isThe lowFirst addRule subRule mulOutcome negOutcome follow addWithin subWithin addOutcome subOutcome outcome interned intern enter step placeOf recorded marked sweep marks rank kept compact count mentions fanout sharedFactor commonFactor orElse ontoBefore existingRotation eitherRotation planOf planned round fired rounded isKept roundsFrom normalize unit logWithin logLength occurrences isSparse standalone placesFrom withNew valuesFrom values weight heaviest dominant isScaled scalings combinationCost offset equalEntries gain sameEntries isAmong saving savings goesOver form upTo
-all-examples = (refl, (refl, (refl, (refl, (refl, (refl, (refl, (refl, (refl, (refl, (refl, (refl, (refl, (refl, tt))))))))))))))
+unfolding examples felt quad same at sameNode operands rename lookup isConstant isAdd isSub isMul isNeg element isThe lowFirst addRule subRule mulOutcome negOutcome follow addWithin subWithin addOutcome subOutcome outcome interned intern enter step placeOf recorded marked sweep marks rank kept compact count mentions fanout sharedFactor commonFactor orElse ontoBefore existingRotation eitherRotation planOf planned round fired rounded isKept roundsFrom normalize unit logWithin logLength occurrences isSparse standalone placesFrom withNew valuesFrom values weight heaviest dominant isScaled scalings combinationCost offset equalEntries gain sameEntries isAmong saving savings goesOver form upTo lowerCheck rootlessCheck recordsCheck checkAt recordCheck formed earlier isKey prepareCheck firstOf total columns periodGood lowered buildPeriodicNodes turns done recordAt nodes decode
+all-examples = (refl, (refl, (refl, (refl, (refl, (refl, (refl, (refl, (refl, (refl, (refl, (refl, (refl, (refl, (refl, (refl, tt))))))))))))))))

@@ -10,6 +10,7 @@ pub enum Call {
     Normalize,
     Evaluate,
     Prepare,
+    Lower,
 }
 
 // How many numbers a call takes, stores it reads and stores it writes, and words it answers.
@@ -40,6 +41,7 @@ pub fn shape_of(call: Call) -> Shape {
         Call::Normalize => Shape::new(2, 1, 2, 4),
         Call::Evaluate => Shape::new(3, 2, 0, 4),
         Call::Prepare => Shape::new(0, 2, 0, 18),
+        Call::Lower => Shape::new(2, 3, 3, 4),
     }
 }
 
@@ -126,6 +128,35 @@ fn prepare(s: &[u8], said: usize, lengths: &[u64], entries: &[u64]) -> bool {
     answers_long(s, said, &answer)
 }
 
+// Lower on the case at a place: whether its answer is the one recorded at `said`.
+fn lower(
+    s: &[u8],
+    at: usize,
+    said: usize,
+    list: &[u64],
+    lengths: &[u64],
+    entries: &[u64],
+    result: &mut [u64],
+    work: &mut [u64],
+    places: &mut [u64],
+) -> bool {
+    let mut answer = [0u64; 4];
+    let n = number(s, at, 0) as usize;
+    let period = number(s, at, 1);
+    ace::ace_lower(
+        list,
+        n,
+        lengths,
+        entries,
+        period,
+        result,
+        work,
+        places,
+        &mut answer,
+    );
+    answers(s, said, &answer)
+}
+
 // A call on the stores that it reads, a to c, and those that it writes, x to z.
 pub fn ask(
     call: Call,
@@ -146,5 +177,6 @@ pub fn ask(
         Call::Normalize => normalize(s, at, said, a, x, y),
         Call::Evaluate => evaluate(s, at, said, a, b),
         Call::Prepare => prepare(s, said, a, b),
+        Call::Lower => lower(s, at, said, a, b, c, x, y, z),
     }
 }

@@ -1,0 +1,83 @@
+use Prim.Native.Nat.{_+_, _-_}
+use mathlib.Core.Path.{_≡_, sym, _∙_, ap}
+use native.Mathlib.Omega.{arith}
+use lib.ListN.{length}
+use Rattle.field.specs.Field.{quad}
+use Rattle.periodic.specs.Periodic as Periodic
+use Rattle.periodic.specs.RunLaws.{entered-ready, then-enter}
+use Rattle.periodic.specs.ListLaws.{listed-ready, all-later}
+use lib.Seq.{length-take-le}
+use Rattle.periodic.specs.SameLaws.{same-refl, listing-like, then-listed}
+use Rattle.periodic.specs.SparseLaws.{listing-same}
+use Rattle.basis.specs.BasisLaws.{products-later, backwards-is, backwards-inside, length-backwards}
+use borrow.Author.Needs.{needs}
+use Rattle.basis.proofs.basis_back.Statement.{statement}
+use Rattle.basis.proofs.basis_back.Tie as tie
+
+constant-requires : tie.Need-constant-requires
+constant-requires c κs = search needs
+
+backwards-requires : tie.Need-backwards-requires
+backwards-requires c κs = search needs
+
+array-share-prefix-turned : tie.Need-array-share-prefix-turned
+array-share-prefix-turned c = search needs
+
+slice-aggregate-chain : tie.Need-slice-aggregate-chain
+slice-aggregate-chain c = sym (ap length (backwards-is _ _ _ (c .before .before .backwards .ensures) (c .before .before .before .before .before .before .before .before .before .before .before .pre .1 .suffix-long)) ∙ (length-backwards _ ∙ c .before .before .before .before .before .before .before .before .before .before .before .pre .1 .suffix-long))
+
+sub-chain : tie.Need-sub-chain
+sub-chain c = search needs
+
+slice-aggregate-chain-2 : tie.Need-slice-aggregate-chain-2
+slice-aggregate-chain-2 c = search needs
+
+chain-requires : tie.Need-chain-requires
+chain-requires c κs =
+    let turned = backwards-is (c .before .before .before .before .before .before .before .before .before .before .before .before .args .factors .now) _ (length (c .before .before .before .before .before .before .before .before .before .before .before .before .args .col .now)) (c .before .before .before .backwards .ensures) (c .before .before .before .before .before .before .before .before .before .before .before .before .pre .1 .suffix-long) in
+    let long = length-backwards (c .before .before .before .before .before .before .before .before .before .before .before .before .args .factors .now) ∙ c .before .before .before .before .before .before .before .before .before .before .before .before .pre .1 .suffix-long in
+    (entered-ready _ _ _ _ _ (c .before .before .before .before .before .before .before .before .before .before .before .before .pre .0) (c .before .before .before .before .before .before .constant .ensures), c .before .before .before .before .before .before .constant .ensures .inside, rw turned (all-later (c .before .before .before .before .before .before .constant .ensures .ran .longer) (backwards-inside _ _ (c .before .before .before .before .before .before .before .before .before .before .before .before .pre .1 .suffix-inside))), rw turned (omega arith), omega (arith, c .before .before .before .before .before .before .before .before .before .before .before .before .pre .2 .short, c .before .before .before .before .before .before .before .before .before .before .before .before .pre .2 .some))
+
+array-share-prefix-suffix : tie.Need-array-share-prefix-suffix
+array-share-prefix-suffix c = search needs
+
+slice-aggregate-basis-sum : tie.Need-slice-aggregate-basis-sum
+slice-aggregate-basis-sum c = sym (length-take-le _ _ (omega (arith, c .before .before .before .before .before .before .before .before .before .before .before .before .before .before .before .before .before .before .pre .2 .short)))
+
+basis-sum-requires : tie.Need-basis-sum-requires
+basis-sum-requires c κs =
+    let whole : length (c .before .before .before .before .before .before .before .before .before .before .before .before .before .before .before .before .before .before .args .col .now) - 1 + 1 ≡ length (c .before .before .before .before .before .before .before .before .before .before .before .before .before .before .before .before .before .before .args .col .now) = omega (arith, c .before .before .before .before .before .before .before .before .before .before .before .before .before .before .before .before .before .before .pre .2 .some) in
+    let listed = listing-like _ _ _ _ _ _ _ _ _ (same-refl _) whole (c .before .before .before .before .before .chain .ensures) in
+    let later = products-later (c .before .before .before .before .before .chain .ensures .ran .longer) (products-later (c .before .before .before .before .before .before .before .before .before .before .before .before .constant .ensures .ran .longer) (c .before .before .before .before .before .before .before .before .before .before .before .before .before .before .before .before .before .before .pre .1)) in (
+      listed-ready _ _ _ _ _ _ _ (entered-ready _ _ _ _ _ (c .before .before .before .before .before .before .before .before .before .before .before .before .before .before .before .before .before .before .pre .0) (c .before .before .before .before .before .before .before .before .before .before .before .before .constant .ensures)) (c .before .before .before .before .before .chain .ensures),
+      record { prefix-long = c .before .before .before .before .before .before .before .before .before .before .before .before .before .before .before .before .before .before .pre .1 .prefix-long; suffix-long = length-take-le _ _ (omega (arith, c .before .before .before .before .before .before .before .before .before .before .before .before .before .before .before .before .before .before .pre .2 .short)); prefix-inside = later .prefix-inside; suffix-inside = listed .inside },
+      c .before .before .before .before .before .before .before .before .before .before .before .before .before .before .before .before .before .before .pre .2,
+    )
+
+same-length : tie.Need-same-length
+same-length c = search needs
+
+returns : tie.Need-returns
+unfolding Periodic.basisBack
+returns c =
+    let whole : length (c .before .before .before .before .before .before .before .before .before .before .before .before .before .before .before .before .before .before .before .before .before .args .col .now) - 1 + 1 ≡ length (c .before .before .before .before .before .before .before .before .before .before .before .before .before .before .before .before .before .before .before .before .before .args .col .now) = omega (arith, c .before .before .before .before .before .before .before .before .before .before .before .before .before .before .before .before .before .before .before .before .before .pre .2 .some) in
+    let turned = backwards-is (c .before .before .before .before .before .before .before .before .before .before .before .before .before .before .before .before .before .before .before .before .before .args .factors .now) _ (length (c .before .before .before .before .before .before .before .before .before .before .before .before .before .before .before .before .before .before .before .before .before .args .col .now)) (c .before .before .before .before .before .before .before .before .before .before .before .before .backwards .ensures) (c .before .before .before .before .before .before .before .before .before .before .before .before .before .before .before .before .before .before .before .before .before .pre .1 .suffix-long) in
+    let listed = listing-like _ _ _ _ _ _ _ _ _ (same-refl _) whole (listing-same _ _ _ _ _ _ _ _ (ap (λ fs. Periodic.chain quad (c .before .before .before .before .before .before .before .before .before .before .before .before .before .before .before .constant .result .place) fs (length (c .before .before .before .before .before .before .before .before .before .before .before .before .before .before .before .before .before .before .before .before .before .args .col .now) - 1)) turned) (c .before .before .before .before .before .before .before .before .chain .ensures)) in
+    then-enter _ _ _ _ _ _ _ _ (c .before .before .before .before .before .before .before .before .before .before .before .before .before .before .before .constant .ensures) (then-listed _ _ _ _ _ _ _ _ _ _ listed (c .before .before .basis-sum .ensures))
+
+pub basis-back-spec : {M : Type 1} → statement M
+basis-back-spec =
+    tie.close
+    (tie.spec
+    constant-requires
+    backwards-requires
+    array-share-prefix-turned
+    slice-aggregate-chain
+    sub-chain
+    slice-aggregate-chain-2
+    chain-requires
+    array-share-prefix-suffix
+    slice-aggregate-basis-sum
+    basis-sum-requires
+    same-length
+    returns)

@@ -1,0 +1,73 @@
+-- The invariant: the places after k turns.
+use Prim.Native.Nat.{_-_, _<_, _≤_}
+use mathlib.Core.List.{[]}
+use mathlib.Core.Path.{_≡_, refl}
+use native.Mathlib.Omega.{arith}
+use lib.ListN.{length}
+use Rattle.field.specs.Field.{p, quad}
+use Rattle.periodic.specs.Builder as Builder
+use Rattle.periodic.specs.Periodic as Periodic
+use Rattle.periodic.specs.Running as Said
+use Rattle.periodic.specs.RunLaws.{entered-ready, inside-later}
+use Rattle.periodic.specs.ListLaws.{list-none, list-next, list-all, set-length}
+use Rattle.field.specs.Field.{felt}
+use Rattle.field.specs.Generators.{generator, half}
+use Rattle.periodic.specs.ListLaws.{none-inside}
+use Rattle.basis.proofs.basis_factors.Statement.{statement}
+use Rattle.basis.proofs.basis_factors.Tie as tie
+
+abbrev Inv-loop : tie.InvT-loop
+Inv-loop list₀ n point col places₀ count₀ k₀ list places count k = (k ≤ length col) × (length places ≡ length places₀) × Said.Listing list₀ count₀ (Builder.turns (λ k fs. Builder.also fs (Periodic.factor quad p felt generator half col point k)) k []) list count places k × Said.Ready list count × Said.Inside count point
+
+abbrev μ-loop : tie.MeasureT-loop
+μ-loop list₀ n point col places₀ count₀ k₀ list places count k = length col - k
+
+loop-holds : tie.Need-loop-holds Inv-loop μ-loop
+loop-holds c = (omega arith, refl, list-none _ _ _ _ _ _ refl (none-inside _), c .before .before .before .pre .0, c .before .before .before .pre .1)
+
+basis-factor-requires : tie.Need-basis-factor-requires Inv-loop μ-loop
+basis-factor-requires c κs = (c .before .before .loop .inv .3, c .before .before .loop .inv .4)
+
+mul-places : tie.Need-mul-places Inv-loop μ-loop
+mul-places c = omega (arith, c .before .before .before .before .before .before .before .before .before .pre .2)
+
+slice-write-places : tie.Need-slice-write-places Inv-loop μ-loop
+slice-write-places c = omega (arith, c .before .before .before .before .before .before .before .before .before .pre .2)
+
+add-k : tie.Need-add-k Inv-loop μ-loop
+add-k c = omega arith
+
+loop-less : tie.Need-loop-less Inv-loop μ-loop
+loop-less c = omega arith
+
+loop-again : tie.Need-loop-again Inv-loop μ-loop
+loop-again c =
+    let h : c .before .before .before .before .before .loop .k < length (c .before .before .before .before .before .loop .places) = omega (arith, c .before .before .before .before .before .before .before .before .before .pre .2) in
+    (omega arith, set-length (c .before .before .before .before .before .loop .places) _ _ _ (c .before .before .before .before .before .loop .inv .1), list-next _ _ _ _ _ _ _ _ _ _ _ h (c .before .before .before .before .before .loop .inv .2) (c .before .before .basis-factor .ensures), entered-ready _ _ _ _ _ (c .before .before .before .before .before .loop .inv .3) (c .before .before .basis-factor .ensures), inside-later (c .before .before .basis-factor .ensures .ran .longer) (c .before .before .before .before .before .loop .inv .4))
+
+same-length : tie.Need-same-length Inv-loop μ-loop
+same-length c = c .before .loop .inv .2 .ran .kept
+
+same-length-2 : tie.Need-same-length-2 Inv-loop μ-loop
+same-length-2 c = c .before .loop .inv .1
+
+returns : tie.Need-returns Inv-loop μ-loop
+unfolding Periodic.factors
+returns c = list-all _ _ _ _ _ _ _ _ _ _ _ (c .before .loop .inv .0) (c .loop-test .left) (omega arith) (c .before .loop .inv .2)
+
+pub basis-factors-spec : {M : Type 1} → statement M
+basis-factors-spec =
+    tie.close
+    (tie.spec
+    Inv-loop
+    μ-loop
+    loop-holds
+    basis-factor-requires
+    mul-places
+    slice-write-places
+    add-k
+    loop-less
+    loop-again
+    same-length
+    same-length-2
+    returns)

@@ -1,0 +1,63 @@
+-- The invariant: acc is the place after j turns.
+use Rattle.basis.specs.Contracts as Basis
+use Prim.Native.Nat.{_-_, _≤_}
+use mathlib.Core.Path.{_∙_}
+use native.Mathlib.Omega.{arith}
+use lib.Dec.{lit<}
+use lib.ListN.{length}
+use Rattle.field.specs.Field.{p, quad}
+use Rattle.periodic.specs.Builder as Builder
+use Rattle.periodic.specs.Periodic as Periodic
+use Rattle.periodic.specs.Running as Said
+use Rattle.periodic.specs.RunLaws.{entered-ready, then-enter, enter-none, enter-next, enter-all}
+use Rattle.field.specs.Field.{felt}
+use Rattle.field.specs.Generators.{generator, half}
+use Rattle.basis.specs.BasisLaws.{products-later}
+use Rattle.basis.proofs.class_sum.Statement.{statement}
+use Rattle.basis.proofs.class_sum.Tie as tie
+
+abbrev Inv-loop : tie.InvT-loop
+Inv-loop list₀ n prefix suffix col v acc₀ j₀ list acc j = (j ≤ length col) × Said.Entering list₀ (acc₀ .count) (Builder.turns (λ j acc. Periodic.classTurn quad p felt generator half col prefix suffix v j acc) j (acc₀ .place)) list acc × Said.Ready list (acc .count) × Basis.Products (acc .count) col prefix suffix
+
+abbrev μ-loop : tie.MeasureT-loop
+μ-loop list₀ n prefix suffix col v acc₀ j₀ list acc j = length col - j
+
+constant-requires : tie.Need-constant-requires Inv-loop μ-loop
+constant-requires c κs = (c .before .before .before .before .before .pre .0, lit< tt)
+
+loop-holds : tie.Need-loop-holds Inv-loop μ-loop
+loop-holds c = (omega arith, enter-none _ _ _ _ (c .before .before .constant .ensures .inside), entered-ready _ _ _ _ _ (c .before .before .before .before .before .before .before .before .pre .0) (c .before .before .constant .ensures), products-later (c .before .before .constant .ensures .ran .longer) (c .before .before .before .before .before .before .before .before .pre .1))
+
+class-turn-requires : tie.Need-class-turn-requires Inv-loop μ-loop
+class-turn-requires c κs = (c .before .before .loop .inv .2, c .before .before .loop .inv .3, c .before .loop-test .taken, c .before .before .loop .inv .1 .inside)
+
+add-j : tie.Need-add-j Inv-loop μ-loop
+add-j c = omega arith
+
+loop-less : tie.Need-loop-less Inv-loop μ-loop
+loop-less c = omega arith
+
+loop-again : tie.Need-loop-again Inv-loop μ-loop
+loop-again c = (omega arith, enter-next _ _ _ _ _ _ _ _ _ (c .before .before .before .before .before .loop .inv .1) (c .before .before .class-turn .ensures), entered-ready _ _ _ _ _ (c .before .before .before .before .before .loop .inv .2) (c .before .before .class-turn .ensures), products-later (c .before .before .class-turn .ensures .ran .longer) (c .before .before .before .before .before .loop .inv .3))
+
+same-length : tie.Need-same-length Inv-loop μ-loop
+same-length c = c .before .loop .inv .1 .ran .kept ∙ c .before .before .before .before .constant .ensures .ran .kept
+
+returns : tie.Need-returns Inv-loop μ-loop
+unfolding Periodic.classSum
+returns c = then-enter _ _ _ _ _ _ _ _ (c .before .before .before .before .constant .ensures) (enter-all _ _ _ _ _ _ _ _ (c .before .loop .inv .0) (c .loop-test .left) (c .before .loop .inv .1))
+
+pub class-sum-spec : {M : Type 1} → statement M
+class-sum-spec =
+    tie.close
+    (tie.spec
+    Inv-loop
+    μ-loop
+    constant-requires
+    loop-holds
+    class-turn-requires
+    add-j
+    loop-less
+    loop-again
+    same-length
+    returns)

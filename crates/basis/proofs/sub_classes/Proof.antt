@@ -1,0 +1,70 @@
+-- The invariant: sum is the place after k turns.
+use Rattle.basis.specs.Contracts as Basis
+use Prim.Native.Nat.{_-_, _≤_}
+use mathlib.Core.Path.{ap}
+use native.Mathlib.Omega.{arith}
+use lib.ListN.{length, getD}
+use Rattle.field.specs.Field.{p, quad}
+use Rattle.periodic.specs.Builder as Builder
+use Rattle.periodic.specs.Periodic as Periodic
+use Rattle.periodic.specs.Running as Said
+use Rattle.periodic.specs.RunLaws.{entered-ready, enter-none, enter-next, enter-all}
+use Rattle.field.specs.Field.{felt}
+use Rattle.field.specs.Generators.{generator, half}
+use Rattle.columns.specs.ClassLaws.{below-at}
+use Rattle.periodic.specs.SparseLaws.{entering-same}
+use Rattle.basis.specs.BasisLaws.{products-later}
+use Rattle.basis.proofs.sub_classes.Statement.{statement}
+use Rattle.basis.proofs.sub_classes.Tie as tie
+
+abbrev Inv-loop : tie.InvT-loop
+Inv-loop list₀ n prefix suffix col values d start sum₀ k₀ list sum k = (k ≤ length values) × Said.Entering list₀ n (Builder.turns (λ k sum. Periodic.subTurn quad p felt generator half col prefix suffix (getD values k 0) sum) k start) list sum × Said.Ready list (sum .count) × Basis.Products (sum .count) col prefix suffix
+
+abbrev μ-loop : tie.MeasureT-loop
+μ-loop list₀ n prefix suffix col values d start sum₀ k₀ list sum k = length values - k
+
+loop-holds : tie.Need-loop-holds Inv-loop μ-loop
+loop-holds c = (omega arith, enter-none _ _ _ _ (c .before .before .before .before .before .pre .2), c .before .before .before .before .before .pre .0, c .before .before .before .before .before .pre .1)
+
+mul-sub-turn : tie.Need-mul-sub-turn Inv-loop μ-loop
+mul-sub-turn c = omega arith
+
+shared-slice-read-sub-turn : tie.Need-shared-slice-read-sub-turn Inv-loop μ-loop
+shared-slice-read-sub-turn c = omega arith
+
+sub-turn-requires : tie.Need-sub-turn-requires Inv-loop μ-loop
+sub-turn-requires c κs = (c .before .before .before .loop .inv .2, c .before .before .before .loop .inv .3, c .before .before .before .loop .inv .1 .inside, record { offset-is = c .before .before .before .before .before .before .before .before .before .pre .3 .offset-is; offset-low = c .before .before .before .before .before .before .before .before .before .pre .3 .offset-low; value-low = below-at p _ _ (c .before .before .before .before .before .before .before .before .before .pre .3 .low) (c .before .before .loop-test .taken) })
+
+add-k : tie.Need-add-k Inv-loop μ-loop
+add-k c = omega arith
+
+loop-less : tie.Need-loop-less Inv-loop μ-loop
+loop-less c = omega arith
+
+loop-again : tie.Need-loop-again Inv-loop μ-loop
+loop-again c = (omega arith, enter-next _ _ _ _ _ _ _ _ _ (c .before .before .before .before .before .before .loop .inv .1) (c .before .before .sub-turn .ensures), entered-ready _ _ _ _ _ (c .before .before .before .before .before .before .loop .inv .2) (c .before .before .sub-turn .ensures), products-later (c .before .before .sub-turn .ensures .ran .longer) (c .before .before .before .before .before .before .loop .inv .3))
+
+same-length : tie.Need-same-length Inv-loop μ-loop
+same-length c = c .before .loop .inv .1 .ran .kept
+
+returns : tie.Need-returns Inv-loop μ-loop
+unfolding Periodic.subClasses
+returns c =
+    entering-same _ _ _ _ _ _ (ap (λ vs. Builder.turns (λ k sum. Periodic.subTurn quad p felt generator half (c .before .before .before .before .before .before .before .args .col .now) (c .before .before .before .before .before .before .before .args .prefix .now) (c .before .before .before .before .before .before .before .args .suffix .now) (getD vs k 0) sum) (length vs) (c .before .before .before .before .before .before .before .args .start)) (c .before .before .before .before .before .before .before .pre .3 .are))
+    (enter-all _ _ _ _ _ _ _ _ (c .before .loop .inv .0) (c .loop-test .left) (c .before .loop .inv .1))
+
+pub sub-classes-spec : {M : Type 1} → statement M
+sub-classes-spec =
+    tie.close
+    (tie.spec
+    Inv-loop
+    μ-loop
+    loop-holds
+    mul-sub-turn
+    shared-slice-read-sub-turn
+    sub-turn-requires
+    add-k
+    loop-less
+    loop-again
+    same-length
+    returns)

@@ -1,0 +1,100 @@
+-- The classes of a column in basis, by the tests that the code makes.
+use Prim.Native.Nat.{ℕ, zero, suc, _+_, _-_, _<_, _≤_}
+use mathlib.Core.Bool.{Bool, true, false, cond, not, _&&_}
+use mathlib.Core.List.{List, [], _∷_}
+use mathlib.Core.Path.{_≡_, refl, sym, _∙_, ap, subst}
+use native.Mathlib.Omega.{arith}
+use borrow.Author.Tests.{eq-eqb, ne-eqb}
+use lib.Dec.{eqb}
+use lib.ListN.{getD, length, take, replicate}
+use lib.Seq.{take-at}
+use Rattle.field.specs.Field.{p, felt, quad}
+use Rattle.field.specs.Generators.{generator, half}
+use Rattle.columns.specs.Columns.{offset, values}
+use Rattle.columns.specs.Prepare.{upTo, padded, allBelow}
+use Rattle.columns.specs.ClassLaws.{below-values}
+use Rattle.columns.specs.ArrayLaws.{length-upTo, getD-upTo}
+use Rattle.builder.specs.declared.Entered.{Entered}
+use Rattle.periodic.specs.Builder.{Builder, done, _>>=_, add}
+use Rattle.periodic.specs.Periodic.{backwards, element, classTurn, coefficient, isAdded, isSubtracted, addClass, subClass, addTurn, subTurn}
+use Rattle.periodic.specs.Running.{Inside, AllInside, Entering}
+use Rattle.periodic.specs.RunLaws.{ran-done}
+use Rattle.periodic.specs.ListLaws.{all-later}
+use Rattle.basis.specs.Contracts.{Products, Offset}
+
+pub entered-done : (s : List ℕ) (n a : ℕ) → Inside n a → Entering s n (done a) s (record { place = a; count = n })
+entered-done s n a h = record { ran = ran-done s n a; inside = h }
+
+pub products-later : {n k : ℕ} {c prefix suffix : List ℕ} → n ≤ k → Products n c prefix suffix → Products k c prefix suffix
+products-later h d =
+    record {
+      prefix-long = d .prefix-long;
+      suffix-long = d .suffix-long;
+      prefix-inside = all-later h (d .prefix-inside);
+      suffix-inside = all-later h (d .suffix-inside);
+    }
+
+module _ (c prefix suffix : List ℕ) where
+  module _ (v j acc : ℕ) where
+    pub row-skipped : (getD c j 0 ≡ v → ⊥) → done acc ≡ classTurn quad p felt generator half c prefix suffix v j acc
+    unfolding classTurn
+    row-skipped e = rw (ne-eqb _ _ e)
+
+    pub row-taken : getD c j 0 ≡ v → (element quad p felt generator half c prefix suffix j >>= λ e. add quad acc e) ≡ classTurn quad p felt generator half c prefix suffix v j acc
+    unfolding classTurn
+    row-taken e = rw (eq-eqb _ _ e)
+
+  module _ (d v k sum : ℕ) (ed : d ≡ offset p c) where
+    pub add-offset : v ≡ d → done sum ≡ addTurn quad p felt generator half c prefix suffix v sum
+    unfolding addTurn isAdded
+    add-offset e = rw (eq-eqb v (offset p c) (e ∙ ed))
+
+    pub sub-offset : v ≡ d → done sum ≡ subTurn quad p felt generator half c prefix suffix v sum
+    unfolding subTurn isSubtracted
+    sub-offset e = rw (eq-eqb v (offset p c) (e ∙ ed))
+
+    module _ (n : v ≡ d → ⊥) (ek : k ≡ felt .sub v d) where
+      pub is-coefficient : k ≡ coefficient quad p felt generator half c v
+      unfolding coefficient felt
+      is-coefficient = ek ∙ ap (felt .sub v) ed
+
+      other : v ≡ offset p c → ⊥
+      other e = n (e ∙ sym ed)
+
+      pub add-minus : k ≡ p - 1 → done sum ≡ addTurn quad p felt generator half c prefix suffix v sum
+      unfolding addTurn isAdded
+      add-minus e = rw (ne-eqb v (offset p c) other, eq-eqb (coefficient quad p felt generator half c v) (p - 1) (sym is-coefficient ∙ e))
+
+      pub add-taken : (k ≡ p - 1 → ⊥) → addClass quad p felt generator half c prefix suffix v sum ≡ addTurn quad p felt generator half c prefix suffix v sum
+      unfolding addTurn isAdded
+      add-taken e = rw (ne-eqb v (offset p c) other, ne-eqb (coefficient quad p felt generator half c v) (p - 1) (λ q. e (is-coefficient ∙ q)))
+
+      pub sub-other : (k ≡ p - 1 → ⊥) → done sum ≡ subTurn quad p felt generator half c prefix suffix v sum
+      unfolding subTurn isSubtracted
+      sub-other e = rw (ne-eqb v (offset p c) other, ne-eqb (coefficient quad p felt generator half c v) (p - 1) (λ q. e (is-coefficient ∙ q)))
+
+      pub sub-taken : k ≡ p - 1 → subClass quad p felt generator half c prefix suffix v sum ≡ subTurn quad p felt generator half c prefix suffix v sum
+      unfolding subTurn isSubtracted
+      sub-taken e = rw (ne-eqb v (offset p c) other, eq-eqb (coefficient quad p felt generator half c v) (p - 1) (sym is-coefficient ∙ e))
+
+-- a list of places from its end
+pub backwards-is : (ps turned : List ℕ) (n : ℕ) → turned ≡ padded 0 128 (backwards ps) → length ps ≡ n → take n turned ≡ backwards ps
+unfolding backwards padded
+backwards-is ps turned n e h =
+    rw e (take-at (upTo (λ i. getD ps (length ps - (i + 1)) 0) (length ps)) (replicate (128 - length (upTo (λ i. getD ps (length ps - (i + 1)) 0) (length ps))) 0) n (length-upTo (λ i. getD ps (length ps - (i + 1)) 0) (length ps) ∙ h))
+
+pub backwards-inside : (n : ℕ) (ps : List ℕ) → AllInside n ps → AllInside n (backwards ps)
+unfolding backwards
+backwards-inside n ps a =
+    record {
+      at = λ i h.
+          let k : i < length ps = subst (λ x. i < x) (length-upTo (λ i. getD ps (length ps - (i + 1)) 0) (length ps)) h in
+          rw (getD-upTo (λ i. getD ps (length ps - (i + 1)) 0) 0 (length ps) i k) (a .at (length ps - (i + 1)) (omega arith));
+    }
+
+pub length-backwards : (ps : List ℕ) → length (backwards ps) ≡ length ps
+unfolding backwards
+length-backwards ps = length-upTo (λ i. getD ps (length ps - (i + 1)) 0) (length ps)
+
+pub offset-of : (c vs : List ℕ) (d : ℕ) → allBelow p c ≡ true → vs ≡ values c → d ≡ offset p c → d < p → Offset c vs d
+offset-of c vs d low e o h = record { are = e; low = rw e (below-values p c low); offset-is = o; offset-low = h }

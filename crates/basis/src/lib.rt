@@ -1,0 +1,327 @@
+// The value of a column in basis: the Lagrange basis of its rows, and the classes of its entries over it.
+use builder::Entered;
+use field::QuadFelt;
+use field::felt;
+ghost use mathlib.Core.Path.{_≡_};
+ghost use Prim.Native.Nat.{ℕ, _+_, _*_, _-_, _<_, _≤_};
+ghost use lib.ListN.{length, getD, take};
+ghost use Rattle.field.specs.Field.{p, felt, quad};
+ghost use Rattle.field.specs.Generators.{generator, half};
+ghost use Rattle.columns.specs.Prepare.{padded};
+ghost use Rattle.columns.specs.Contracts as Asked;
+ghost use Rattle.periodic.specs.Periodic as Periodic;
+ghost use Rattle.periodic.specs.Running as Run;
+ghost use Rattle.basis.specs.Contracts as Said;
+
+// point − w^k.
+fn basis_factor(list: &mut [u64], n: usize, point: usize, col: &[u64], k: usize) -> Entered
+    requires { ⌜ Run.Ready (now list) n × Run.Inside n point ⌝ }
+    ensures { λ r. ⌜ Run.Entering (now (list .entry)) n (Periodic.factor quad p felt generator half (now (col .entry)) point k) (now (list .exit)) r ⌝ }
+{
+    let root = periodic::constant(list, n, coefficients::root(col, k));
+    periodic::sub(list, root.count, point, root.place)
+}
+
+// point − w^k for each row k, into a store of places; answers the count.
+fn basis_factors(list: &mut [u64], n: usize, point: usize, col: &[u64], places: &mut [u64]) -> usize
+    requires { ⌜ Run.Ready (now list) n × Run.Inside n point × (length (now col) ≤ length (now places)) ⌝ }
+    ensures { λ r. ⌜ Run.Listing (now (list .entry)) n (Periodic.factors quad p felt generator half (now (col .entry)) point) (now (list .exit)) r (now (places .exit)) (length (now (col .entry))) ⌝ }
+{
+    let mut count = n;
+    let mut k = 0;
+    while k < col.len() {
+        let e = basis_factor(list, count, point, col, k);
+        places[k] = e.place as u64;
+        count = e.count;
+        k += 1;
+    }
+    count
+}
+
+// A list of places from its end, 0 past the last.
+fn backwards(places: &[u64]) -> [u64; 128]
+    requires { ⌜ length (now places) ≤ 128 ⌝ }
+    ensures { λ r. ⌜ r ≡ padded 0 128 (Periodic.backwards (now (places .entry))) ⌝ }
+{
+    let mut turned = [0u64; 128];
+    let mut i = 0;
+    while i < places.len() {
+        turned[i] = places[places.len() - (i + 1)];
+        i += 1;
+    }
+    turned
+}
+
+// Element j of the basis, from the products before and behind it.
+fn element(
+    list: &mut [u64],
+    n: usize,
+    prefix: &[u64],
+    suffix: &[u64],
+    col: &[u64],
+    j: usize,
+) -> Entered
+    requires { ⌜ Run.Ready (now list) n × Said.Products n (now col) (now prefix) (now suffix) × (j < length (now col)) ⌝ }
+    ensures { λ r. ⌜ Run.Entering (now (list .entry)) n (Periodic.element quad p felt generator half (now (col .entry)) (now (prefix .entry)) (now (suffix .entry)) j) (now (list .exit)) r ⌝ }
+{
+    let product = periodic::mul(
+        list,
+        n,
+        prefix[j] as usize,
+        suffix[col.len() - 1 - j] as usize,
+    );
+    let root = periodic::constant(list, product.count, coefficients::root(col, j));
+    periodic::mul(list, root.count, root.place, product.place)
+}
+
+// The sum of a class with row j added, where its entry is v.
+fn class_turn(
+    list: &mut [u64],
+    n: usize,
+    prefix: &[u64],
+    suffix: &[u64],
+    col: &[u64],
+    v: u64,
+    j: usize,
+    acc: usize,
+) -> Entered
+    requires { ⌜ Run.Ready (now list) n × Said.Products n (now col) (now prefix) (now suffix) × (j < length (now col)) × Run.Inside n acc ⌝ }
+    ensures { λ r. ⌜ Run.Entering (now (list .entry)) n (Periodic.classTurn quad p felt generator half (now (col .entry)) (now (prefix .entry)) (now (suffix .entry)) v j acc) (now (list .exit)) r ⌝ }
+{
+    if col[j] != v {
+        return Entered {
+            place: acc,
+            count: n,
+        };
+    }
+    let e = element(list, n, prefix, suffix, col, j);
+    periodic::add(list, e.count, acc, e.place)
+}
+
+// The sum of the elements whose entry is v.
+fn class_sum(
+    list: &mut [u64],
+    n: usize,
+    prefix: &[u64],
+    suffix: &[u64],
+    col: &[u64],
+    v: u64,
+) -> Entered
+    requires { ⌜ Run.Ready (now list) n × Said.Products n (now col) (now prefix) (now suffix) ⌝ }
+    ensures { λ r. ⌜ Run.Entering (now (list .entry)) n (Periodic.classSum quad p felt generator half (now (col .entry)) (now (prefix .entry)) (now (suffix .entry)) v) (now (list .exit)) r ⌝ }
+{
+    let mut acc = periodic::constant(list, n, 0);
+    let mut j = 0;
+    while j < col.len() {
+        acc = class_turn(list, acc.count, prefix, suffix, col, v, j, acc.place);
+        j += 1;
+    }
+    acc
+}
+
+// The sum with the class of value v added, where it is one that is.
+fn add_turn(
+    list: &mut [u64],
+    n: usize,
+    prefix: &[u64],
+    suffix: &[u64],
+    col: &[u64],
+    d: u64,
+    v: u64,
+    sum: usize,
+) -> Entered
+    requires { ⌜ Run.Ready (now list) n × Said.Products n (now col) (now prefix) (now suffix) × Run.Inside n sum × Said.Class (now col) d v ⌝ }
+    ensures { λ r. ⌜ Run.Entering (now (list .entry)) n (Periodic.addTurn quad p felt generator half (now (col .entry)) (now (prefix .entry)) (now (suffix .entry)) v sum) (now (list .exit)) r ⌝ }
+{
+    if v == d {
+        return Entered {
+            place: sum,
+            count: n,
+        };
+    }
+    let k = felt::sub(v, d);
+    if k == QuadFelt::MODULUS - 1 {
+        return Entered {
+            place: sum,
+            count: n,
+        };
+    }
+    let class = class_sum(list, n, prefix, suffix, col, v);
+    let scale = periodic::constant(list, class.count, k);
+    let term = periodic::mul(list, scale.count, scale.place, class.place);
+    periodic::add(list, term.count, sum, term.place)
+}
+
+// The sum with the class of value v subtracted, where it is one that is.
+fn sub_turn(
+    list: &mut [u64],
+    n: usize,
+    prefix: &[u64],
+    suffix: &[u64],
+    col: &[u64],
+    d: u64,
+    v: u64,
+    sum: usize,
+) -> Entered
+    requires { ⌜ Run.Ready (now list) n × Said.Products n (now col) (now prefix) (now suffix) × Run.Inside n sum × Said.Class (now col) d v ⌝ }
+    ensures { λ r. ⌜ Run.Entering (now (list .entry)) n (Periodic.subTurn quad p felt generator half (now (col .entry)) (now (prefix .entry)) (now (suffix .entry)) v sum) (now (list .exit)) r ⌝ }
+{
+    if v == d {
+        return Entered {
+            place: sum,
+            count: n,
+        };
+    }
+    if felt::sub(v, d) != QuadFelt::MODULUS - 1 {
+        return Entered {
+            place: sum,
+            count: n,
+        };
+    }
+    let class = class_sum(list, n, prefix, suffix, col, v);
+    periodic::sub(list, class.count, sum, class.place)
+}
+
+// The sum with all classes added that are.
+fn add_classes(
+    list: &mut [u64],
+    n: usize,
+    prefix: &[u64],
+    suffix: &[u64],
+    col: &[u64],
+    values: &[u64],
+    d: u64,
+    start: usize,
+) -> Entered
+    requires { ⌜ Run.Ready (now list) n × Said.Products n (now col) (now prefix) (now suffix) × Run.Inside n start × Said.Offset (now col) (now values) d ⌝ }
+    ensures { λ r. ⌜ Run.Entering (now (list .entry)) n (Periodic.addClasses quad p felt generator half (now (col .entry)) (now (prefix .entry)) (now (suffix .entry)) start) (now (list .exit)) r ⌝ }
+{
+    let mut sum = Entered {
+        place: start,
+        count: n,
+    };
+    let mut k = 0;
+    while k < values.len() {
+        sum = add_turn(
+            list,
+            sum.count,
+            prefix,
+            suffix,
+            col,
+            d,
+            values[k],
+            sum.place,
+        );
+        k += 1;
+    }
+    sum
+}
+
+// The sum with all classes subtracted that are.
+fn sub_classes(
+    list: &mut [u64],
+    n: usize,
+    prefix: &[u64],
+    suffix: &[u64],
+    col: &[u64],
+    values: &[u64],
+    d: u64,
+    start: usize,
+) -> Entered
+    requires { ⌜ Run.Ready (now list) n × Said.Products n (now col) (now prefix) (now suffix) × Run.Inside n start × Said.Offset (now col) (now values) d ⌝ }
+    ensures { λ r. ⌜ Run.Entering (now (list .entry)) n (Periodic.subClasses quad p felt generator half (now (col .entry)) (now (prefix .entry)) (now (suffix .entry)) start) (now (list .exit)) r ⌝ }
+{
+    let mut sum = Entered {
+        place: start,
+        count: n,
+    };
+    let mut k = 0;
+    while k < values.len() {
+        sum = sub_turn(
+            list,
+            sum.count,
+            prefix,
+            suffix,
+            col,
+            d,
+            values[k],
+            sum.place,
+        );
+        k += 1;
+    }
+    sum
+}
+
+// The offset and the classes of a column, over the products before and behind each row.
+fn basis_sum(list: &mut [u64], n: usize, prefix: &[u64], suffix: &[u64], col: &[u64]) -> Entered
+    requires { ⌜ Run.Ready (now list) n × Said.Products n (now col) (now prefix) (now suffix) × Asked.Column p (now col) ⌝ }
+    ensures { λ r. ⌜ Run.Entering (now (list .entry)) n (Periodic.basisSum quad p felt generator half (now (col .entry)) (now (prefix .entry)) (now (suffix .entry))) (now (list .exit)) r ⌝ }
+{
+    let mut store = [0u64; 128];
+    let t = columns::values(col, &mut store);
+    let values = &store[..t];
+    let d = columns::offset(col, values);
+    let start = periodic::constant(list, n, d);
+    let sum = add_classes(
+        list,
+        start.count,
+        prefix,
+        suffix,
+        col,
+        values,
+        d,
+        start.place,
+    );
+    sub_classes(list, sum.count, prefix, suffix, col, values, d, sum.place)
+}
+
+// The products behind each row, from its factors and the products before it, and then the sum.
+fn basis_back(list: &mut [u64], n: usize, factors: &[u64], prefix: &[u64], col: &[u64]) -> Entered
+    requires { ⌜ Run.Ready (now list) n × Said.Products n (now col) (now prefix) (now factors) × Asked.Column p (now col) ⌝ }
+    ensures { λ r. ⌜ Run.Entering (now (list .entry)) n (Periodic.basisBack quad p felt generator half (now (col .entry)) (now (factors .entry)) (now (prefix .entry))) (now (list .exit)) r ⌝ }
+{
+    let period = col.len();
+    let one = periodic::constant(list, n, 1);
+    let turned = backwards(factors);
+    let mut suffix = [0u64; 128];
+    let count = periodic::chain(
+        list,
+        one.count,
+        one.place,
+        &turned[..period],
+        period - 1,
+        &mut suffix,
+    );
+    basis_sum(list, count, prefix, &suffix[..period], col)
+}
+
+// The factors and the products before each row, and then the rest.
+fn basis_front(list: &mut [u64], n: usize, point: usize, col: &[u64]) -> Entered
+    requires { ⌜ Run.Ready (now list) n × Run.Inside n point × Asked.Column p (now col) ⌝ }
+    ensures { λ r. ⌜ Run.Entering (now (list .entry)) n (Periodic.basisFront quad p felt generator half (now (col .entry)) point) (now (list .exit)) r ⌝ }
+{
+    let period = col.len();
+    let mut store = [0u64; 128];
+    let listed = basis_factors(list, n, point, col, &mut store);
+    let factors = &store[..period];
+    let scale = periodic::constant(list, listed, coefficients::size_inverse(col));
+    let mut prefix = [0u64; 128];
+    let count = periodic::chain(
+        list,
+        scale.count,
+        scale.place,
+        factors,
+        period - 1,
+        &mut prefix,
+    );
+    basis_back(list, count, factors, &prefix[..period], col)
+}
+
+// The value of a column in basis whose point is ZK squared k times.
+pub fn basis_value(list: &mut [u64], n: usize, col: &[u64], k: usize) -> Entered
+    requires { ⌜ Run.Ready (now list) n × Asked.Column p (now col) ⌝ }
+    ensures { λ r. ⌜ Run.Entering (now (list .entry)) n (Periodic.basisValue quad p felt generator half (now (col .entry)) k) (now (list .exit)) r ⌝ }
+{
+    let z = periodic::z_power(list, n, k);
+    basis_front(list, z.count, z.place, col)
+}

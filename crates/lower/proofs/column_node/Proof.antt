@@ -1,0 +1,43 @@
+use mathlib.Core.Path.{ap}
+use native.Mathlib.Omega.{arith}
+use Rattle.field.specs.Field.{p}
+use Rattle.columns.specs.Columns as Columns
+use Rattle.columns.specs.PrepareLaws.{tested-column}
+use Rattle.periodic.specs.SparseLaws.{entering-same}
+use Rattle.lower.specs.FormLaws.{formed-of, node-is}
+use borrow.Author.Needs.{needs}
+use Rattle.lower.proofs.column_node.Statement.{statement}
+use Rattle.lower.proofs.column_node.Tie as tie
+
+column-requires : tie.Need-column-requires
+column-requires c κs = (c .before .before .before .before .before .pre .1 .tested .handed, c .before .before .before .before .before .pre .3)
+
+column-form-requires : tie.Need-column-form-requires
+column-form-requires c κs = (c .before .before .before .before .before .before .pre .1, c .before .before .before .before .before .before .pre .3)
+
+log-length-requires : tie.Need-log-length-requires
+log-length-requires c κs = search needs
+
+sub-column-value : tie.Need-sub-column-value
+sub-column-value c = omega (arith, c .log-length .ensures .0, ap Columns.logLength (c .before .before .before .column .ensures), c .before .before .before .before .before .before .before .before .before .pre .2 .covers _ (c .before .before .before .before .before .before .before .before .before .pre .3))
+
+column-value-requires : tie.Need-column-value-requires
+column-value-requires c κs = (c .before .before .before .before .before .before .before .before .before .pre .0, rw (c .before .before .before .column .ensures) (tested-column p _ _ _ (c .before .before .before .before .before .before .before .before .before .pre .3) (c .before .before .before .before .before .before .before .before .before .pre .2 .tested)), formed-of _ _ _ _ _ (c .before .before .before .before .before .before .before .before .before .pre .2 .tested .handed) (c .before .before .before .before .before .before .before .before .before .pre .3) (c .before .before .before .column .ensures) (c .before .before .column-form .ensures))
+
+same-length : tie.Need-same-length
+same-length c = c .before .before .column-value .ensures .ran .kept
+
+returns : tie.Need-returns
+returns c = entering-same _ _ _ _ _ _ (node-is _ _ _ _ _ _ (c .before .before .before .before .before .before .column .ensures) (c .before .before .before .before .before .column-form .ensures) (c .before .before .before .log-length .ensures .0)) (c .before .before .column-value .ensures)
+
+pub column-node-spec : {M : Type 1} → statement M
+column-node-spec =
+    tie.close
+    (tie.spec
+    column-requires
+    column-form-requires
+    log-length-requires
+    sub-column-value
+    column-value-requires
+    same-length
+    returns)

@@ -1,0 +1,303 @@
+-- Lower: its tests, what is built past them, and its answer and stores.
+use Prim.Native.Nat.{ℕ, zero, suc, _+_, _*_, _-_, _<_, _≤_}
+use mathlib.Core.Bool.{Bool, true, false, cond, _&&_, _||_}
+use mathlib.Core.List.{List, [], _∷_, _++_}
+use mathlib.Core.Logic.{_⊎_, inl, inr}
+use mathlib.Core.Path.{_≡_, refl, sym, _∙_, ap, ap₂, subst}
+use native.Mathlib.Nat.{le-trans}
+use native.Mathlib.Numerals.{add-one}
+use native.Mathlib.Omega.{arith}
+use borrow.Author.Tests.{le-leb, lt-leb, eq-eqb, ne-eqb, leb-true, leb-false, eqb-true}
+use lib.Dec.{leb, eqb}
+use lib.ListN.{getD, length, take, drop, set, replicate, length-append, length-replicate, drop-of-length-le, List·getD-append}
+use lib.Seq.{drop-cons, take-suc, take-suc-set, getD-take, length-take-le, take-length}
+use Rattle.field.specs.Field.{p, felt, quad}
+use Rattle.field.specs.Generators.{generator, half}
+use Rattle.dag.specs.Cases.{and-true, or-true, cond-elim}
+use Rattle.dag.specs.Nodes.{blank, mostRecords, recordAt, nodes, wordsOf, filled}
+use Rattle.dag.specs.NodeLaws.{length-nodes}
+use Rattle.dag.specs.Refusals.{need, _then_, isRefused, unlessRefused}
+use Rattle.dag.specs.Check.{checkAt, recordsCheck, rootlessCheck}
+use Rattle.dag.specs.CheckLaws.{then-good, need-good, refused-then}
+use Rattle.dag.specs.PassLaws.{Listed, listed}
+use Rattle.dag.specs.Store.{Sound}
+use Rattle.dag.specs.StoreLaws.{take-words}
+use Rattle.dag.specs.declared.Refusal.{Refusal}
+use Rattle.dag.specs.declared.Refusal.the-variants.{StoreTooShort, NoRoom, SharedPeriod}
+use Rattle.dag.specs.declared.Checked.{Checked}
+use Rattle.dag.specs.declared.Checked.the-variants.{Good, Refused}
+use Rattle.columns.specs.Columns.{logWithin, isPower}
+use Rattle.columns.specs.Prepare.{columns, prepareCheck}
+use Rattle.columns.specs.Contracts.{Tested}
+use Rattle.columns.specs.PrepareLaws.{prepared}
+use Rattle.periodic.specs.Builder.{Run}
+use Rattle.periodic.specs.Periodic.{buildPeriodicNodes}
+use Rattle.periodic.specs.Running.{Holds, Ready, Listing}
+use Rattle.periodic.specs.RunLaws.{le-or-lt}
+use Rattle.lower.specs.Lower.{longestFrom, longest, periodGood, lowerCheck, lowered, roomCheck, wholeCheck, lowerAnswer, lowerResult, lowerPlaces, lowerWork}
+use Rattle.lower.specs.Contracts.{Covered}
+use Rattle.lower.specs.FormLaws.{covered}
+use Rattle.lower.specs.declared.LowerAnswer.{LowerAnswer}
+use Rattle.lower.specs.declared.LowerAnswer.the-variants as LowerAnswer'
+
+-- the longest before place i, and those from there on
+pub longest-next : (ls : List ℕ) (i m k t : ℕ) → i < length ls → k ≡ cond (leb m (getD ls i 0)) (getD ls i 0) m → longestFrom m (drop i ls) ≡ t → longestFrom k (drop (i + 1) ls) ≡ t
+unfolding longestFrom
+longest-next ls i m k t h e inv = rw e (rw (drop-cons ls i 0 h, ← add-one i) at inv)
+
+pub longest-end : (ls : List ℕ) (i m t : ℕ) → length ls ≤ i → longestFrom m (drop i ls) ≡ t → m ≡ t
+unfolding longestFrom
+longest-end ls i m t h inv = rw (drop-of-length-le ls {i = i} h) at inv
+
+from-le : (m : ℕ) (ls : List ℕ) → m ≤ longestFrom m ls
+unfolding longestFrom
+from-le m [] = omega arith
+from-le m (n ∷ ls) =
+    cond-elim (λ k. k ≤ longestFrom k ls → m ≤ longestFrom k ls) (leb m n) n m (λ e h. le-trans (leb-true m n e) h) (λ e h. h) (from-le (cond (leb m n) n m) ls)
+
+longest-le : (m : ℕ) (ls : List ℕ) (j : ℕ) → j < length ls → getD ls j 0 ≤ longestFrom m ls
+unfolding longestFrom
+longest-le m [] j h = absurd (omega arith)
+longest-le m (n ∷ ls) (suc j) h = longest-le (cond (leb m n) n m) ls j (omega arith)
+longest-le m (n ∷ ls) zero h =
+    cond-elim (λ k. k ≤ longestFrom k ls → n ≤ longestFrom k ls) (leb m n) n m (λ e i. i) (λ e i. le-trans (omega (arith, leb-false m n e)) i) (from-le (cond (leb m n) n m) ls)
+
+-- the shared period
+module _ (ls : List ℕ) (period : ℕ) where
+  pub period-none : length ls ≡ 0 → true ≡ periodGood ls period
+  unfolding periodGood
+  period-none e = rw (eq-eqb (length ls) 0 e)
+
+  pub period-odd : (length ls ≡ 0 → ⊥) → isPower 32 period ≡ false → false ≡ periodGood ls period
+  unfolding periodGood
+  period-odd n e = rw (ne-eqb (length ls) 0 n, e)
+
+  pub period-told : (m : ℕ) → (length ls ≡ 0 → ⊥) → isPower 32 period ≡ true → m ≡ longest ls → leb m period ≡ periodGood ls period
+  unfolding periodGood
+  period-told m n e q = rw (ne-eqb (length ls) 0 n, e, q)
+
+  covers : periodGood ls period ≡ true → (j : ℕ) → j < length ls → getD ls j 0 ≤ period
+  unfolding periodGood longest
+  covers e j h = go (or-true (eqb (length ls) 0) (isPower 32 period && leb (longestFrom 0 ls) period) e)
+    where
+      go : (eqb (length ls) 0 ≡ true) ⊎ ((isPower 32 period && leb (longestFrom 0 ls) period) ≡ true) → getD ls j 0 ≤ period
+      go (inl z) = let q = eqb-true (length ls) 0 z in absurd (omega arith)
+      go (inr b) = le-trans (longest-le 0 ls j h) (leb-true (longestFrom 0 ls) period (and-true (isPower 32 period) (leb (longestFrom 0 ls) period) b .1))
+
+-- the tests in their order
+module _ (s : List ℕ) (n : ℕ) (ls es : List ℕ) (period workWords placeWords : ℕ) where
+  pub check-list : (r : Checked) → r ≡ rootlessCheck p 0 s n → isRefused (rootlessCheck p 0 s n) ≡ true → r ≡ lowerCheck s n ls es period workWords placeWords
+  unfolding lowerCheck
+  check-list r e bad = e ∙ refused-then (rootlessCheck p 0 s n) _ bad
+
+  module _ (good : rootlessCheck p 0 s n ≡ Good) where
+    pub check-columns : (r : Checked) → r ≡ prepareCheck p ls es → isRefused (prepareCheck p ls es) ≡ true → r ≡ lowerCheck s n ls es period workWords placeWords
+    unfolding lowerCheck
+    check-columns r e bad = rw good (e ∙ refused-then (prepareCheck p ls es) _ bad)
+
+    module _ (fine : prepareCheck p ls es ≡ Good) where
+      pub check-work : workWords < 3 * mostRecords → Refused StoreTooShort ≡ lowerCheck s n ls es period workWords placeWords
+      unfolding lowerCheck
+      check-work h = rw (good, fine, lt-leb (3 * mostRecords) workWords h)
+
+      pub check-places : 3 * mostRecords ≤ workWords → placeWords < length ls → Refused StoreTooShort ≡ lowerCheck s n ls es period workWords placeWords
+      unfolding lowerCheck
+      check-places h k = rw (good, fine, le-leb (3 * mostRecords) workWords h, lt-leb (length ls) placeWords k)
+
+      pub check-period : (t : Bool) → 3 * mostRecords ≤ workWords → length ls ≤ placeWords → t ≡ periodGood ls period → need t SharedPeriod ≡ lowerCheck s n ls es period workWords placeWords
+      unfolding lowerCheck
+      check-period t h k e = rw (good, fine, le-leb (3 * mostRecords) workWords h, le-leb (length ls) placeWords k, e)
+
+  -- what the tests give
+  pub record Passed : Type 0 where
+    pub list : Listed p s 0 n
+    pub tested : Tested p ls es
+    pub work-room : 3 * mostRecords ≤ workWords
+    pub place-room : length ls ≤ placeWords
+    pub covered : Covered ls es (logWithin 32 period)
+
+  pub passed : lowerCheck s n ls es period workWords placeWords ≡ Good → Passed
+  unfolding lowerCheck
+  passed e =
+      let stores = leb (3 * mostRecords) workWords && leb (length ls) placeWords in
+      let one = then-good (rootlessCheck p 0 s n) (prepareCheck p ls es then need stores StoreTooShort then need (periodGood ls period) SharedPeriod) e in
+      let two = then-good (prepareCheck p ls es) (need stores StoreTooShort then need (periodGood ls period) SharedPeriod) (one .1) in
+      let three = then-good (need stores StoreTooShort) (need (periodGood ls period) SharedPeriod) (two .1) in
+      let both = and-true (leb (3 * mostRecords) workWords) (leb (length ls) placeWords) (need-good stores StoreTooShort (three .0)) in
+      let t = prepared p ls es (two .0) in
+      record {
+        list = listed p 0 s n (one .0);
+        tested = t;
+        work-room = leb-true (3 * mostRecords) workWords (both .0);
+        place-room = leb-true (length ls) placeWords (both .1);
+        covered = covered ls es period t (covers ls period (need-good (periodGood ls period) SharedPeriod (three .1)));
+      }
+
+-- a store filled from another, word by word
+module _ (a b : List ℕ) (i : ℕ) where
+  pub fill-word : i < length a → i < length b → take i b ≡ take i a → take (i + 1) (set b i (getD a i 0)) ≡ take (i + 1) a
+  fill-word h k e = rw (add-one i, take-suc a i 0 h) (take-suc-set b i (getD a i 0) k ∙ ap (λ l. l ++ (getD a i 0 ∷ [])) e)
+
+pub filled-told : (a b c : List ℕ) (m n : ℕ) → m ≤ length a → take m b ≡ take m a → length b ≡ n → c ≡ take m b ++ replicate (length b - m) blank → c ≡ filled n (take m a)
+unfolding filled
+filled-told a b c m n h e k q = q ∙ rw (e, k, length-take-le m a h)
+
+-- stores that begin with the same words hold the same records
+module _ (s u : List ℕ) where
+  Same : ℕ → Type 0
+  Same n = (k : ℕ) → k < 3 * n → getD s k 0 ≡ getD u k 0
+
+  same-records : (n : ℕ) → Same n → nodes s n ≡ nodes u n
+  unfolding nodes recordAt Same
+  same-records zero a = refl
+  same-records (suc n) a =
+      rw (same-records n (λ k h. a k (omega arith)), a (3 * n) (omega arith), a (3 * n + 1) (omega arith), a (3 * n + 2) (omega arith))
+
+  same-checks : (n : ℕ) → Same n → recordsCheck p s n ≡ recordsCheck p u n
+  unfolding recordsCheck checkAt Same
+  same-checks zero a = refl
+  same-checks (suc n) a =
+      rw (same-checks n (λ k h. a k (omega arith)), a (3 * n) (omega arith), a (3 * n + 1) (omega arith), a (3 * n + 2) (omega arith))
+
+-- a work store with the list copied into it
+module _ (s : List ℕ) (n : ℕ) (work words : List ℕ) (sound : Sound p s n) (room : 3 * mostRecords ≤ length work) (few : n ≤ mostRecords) (e : words ≡ filled (length work) (take (3 * n) s)) where
+  same-words : Same s words n
+  unfolding Same filled
+  same-words k h =
+      sym (rw e (List·getD-append (take (3 * n) s) (replicate (length work - length (take (3 * n) s)) blank) 0 k (rw (length-take-le (3 * n) s (sound .room)) h)) ∙ getD-take (3 * n) s k 0 h)
+
+  copied-long : length words ≡ length work
+  unfolding filled
+  copied-long = rw e (length-append (take (3 * n) s) (replicate (length work - length (take (3 * n) s)) blank) ∙ (rw (length-replicate {A = ℕ} (length work - length (take (3 * n) s)) blank, length-take-le (3 * n) s (sound .room)) (omega arith)))
+
+  copied-sound : Sound p words n
+  copied-sound = record { room = omega (arith, copied-long); good = sym (same-checks s words n same-words) ∙ sound .good }
+
+  pub copied-ready : Ready words n
+  copied-ready = record { room = rw copied-long room; sound = λ _. copied-sound }
+
+  pub copied-holds : Holds words n (nodes s n)
+  copied-holds =
+      record {
+        sound = λ _. copied-sound;
+        list-is = λ _. sym (same-records s words n same-words);
+        too-long = λ h. absurd (omega arith);
+      }
+
+-- a list of count records has room
+abbrev pub hasRoom : ℕ → List ℕ → Bool
+hasRoom count result = leb count mostRecords && leb (3 * count) (length result)
+
+-- what was built is handed over where it has room
+pub record HandedOver (work : List ℕ) (count : ℕ) (ns result places : List ℕ) (r : LowerAnswer) (after listed : List ℕ) : Type 0 where
+  pub answer : r ≡ cond (hasRoom count result) (LowerAnswer'.Done count) (LowerAnswer'.Refused NoRoom)
+  pub result-is : after ≡ cond (hasRoom count result) (filled (length result) (take (3 * count) work)) result
+  pub places-are : listed ≡ cond (hasRoom count result) (filled (length places) ns) places
+
+module _ (work : List ℕ) (count : ℕ) (ns result places : List ℕ) where
+  refuses : hasRoom count result ≡ false → HandedOver work count ns result places (LowerAnswer'.Refused NoRoom) result places
+  refuses e = record { answer = rw e; result-is = rw e; places-are = rw e }
+
+  pub handed-long : mostRecords < count → HandedOver work count ns result places (LowerAnswer'.Refused NoRoom) result places
+  handed-long h = refuses (rw (lt-leb count mostRecords h))
+
+  pub handed-short : count ≤ mostRecords → length result < 3 * count → HandedOver work count ns result places (LowerAnswer'.Refused NoRoom) result places
+  handed-short h k = refuses (rw (le-leb count mostRecords h) (lt-leb (3 * count) (length result) k))
+
+  pub handed-done : (after listed : List ℕ) → count ≤ mostRecords → 3 * count ≤ length result → after ≡ filled (length result) (take (3 * count) work) → listed ≡ filled (length places) (take (length ns) ns)
+      → HandedOver work count ns result places (LowerAnswer'.Done count) after listed
+  handed-done after listed h k e f =
+      let t : hasRoom count result ≡ true = rw (le-leb count mostRecords h) (le-leb (3 * count) (length result) k) in
+      record { answer = rw t; result-is = rw t e; places-are = rw t (f ∙ ap (filled (length places)) (take-length ns)) }
+
+need-cond : {A : Type 0} (t : Bool) (q : Refusal) (f : Refusal → A) (g : A) → cond t g (f q) ≡ unlessRefused (need t q) f g
+need-cond true q f g = refl
+need-cond false q f g = refl
+
+-- the answer and the stores, past the first tests
+pub record Finished (s : List ℕ) (n : ℕ) (ls es : List ℕ) (period : ℕ) (result work places : List ℕ) (r : LowerAnswer) (after blanked listed : List ℕ) : Type 0 where
+  pub answer : r ≡ unlessRefused (roomCheck (lowered s n ls es period) (length result)) LowerAnswer'.Refused (LowerAnswer'.Done (length (lowered s n ls es period .list)))
+  pub result-is : after ≡ unlessRefused (roomCheck (lowered s n ls es period) (length result)) (λ q. result) (filled (length result) (wordsOf (lowered s n ls es period .list)))
+  pub work-is : blanked ≡ replicate (length work) blank
+  pub places-are : listed ≡ unlessRefused (roomCheck (lowered s n ls es period) (length result)) (λ q. places) (filled (length places) (lowered s n ls es period .answer))
+
+module _ (result places : List ℕ) (L : Run (List ℕ)) (work : List ℕ) (count : ℕ) (ns : List ℕ) (holds : Holds work count (L .list)) (answers : count ≤ mostRecords → ns ≡ L .answer) (r : LowerAnswer) (after listed : List ℕ) (h : HandedOver work count ns result places r after listed) where
+  fits : count ≤ mostRecords → length (L .list) ≡ count
+  fits i = ap length (sym (holds .list-is i)) ∙ length-nodes work count
+
+  same-room : hasRoom count result ≡ hasRoom (length (L .list)) result
+  same-room = go (le-or-lt count mostRecords)
+    where
+      go : (count ≤ mostRecords) ⊎ (mostRecords < count) → hasRoom count result ≡ hasRoom (length (L .list)) result
+      go (inl i) = rw (fits i)
+      go (inr i) = rw (lt-leb count mostRecords i, lt-leb (length (L .list)) mostRecords (holds .too-long i))
+
+  -- where there is room, what was handed over is the definition's
+  when-room : {A : Type 0} (x y : A) (z : A) → (count ≤ mostRecords → x ≡ y) → cond (hasRoom count result) x z ≡ cond (hasRoom (length (L .list)) result) y z
+  when-room x y z e = rw (← same-room) (go (leb count mostRecords) refl)
+    where
+      go : (t : Bool) → leb count mostRecords ≡ t → cond (t && leb (3 * count) (length result)) x z ≡ cond (t && leb (3 * count) (length result)) y z
+      go true q = ap (λ w. cond (leb (3 * count) (length result)) w z) (e (leb-true count mostRecords q))
+      go false q = refl
+
+  room-answer : r ≡ unlessRefused (roomCheck L (length result)) LowerAnswer'.Refused (LowerAnswer'.Done (length (L .list)))
+  unfolding roomCheck
+  room-answer =
+      h .answer ∙ (when-room (LowerAnswer'.Done count) (LowerAnswer'.Done (length (L .list))) (LowerAnswer'.Refused NoRoom) (λ i. ap LowerAnswer'.Done (sym (fits i))) ∙ need-cond (hasRoom (length (L .list)) result) NoRoom LowerAnswer'.Refused (LowerAnswer'.Done (length (L .list))))
+
+  room-result : after ≡ unlessRefused (roomCheck L (length result)) (λ q. result) (filled (length result) (wordsOf (L .list)))
+  unfolding roomCheck
+  room-result =
+      h .result-is
+      ∙ (when-room (filled (length result) (take (3 * count) work)) (filled (length result) (wordsOf (L .list))) result (λ i. ap (filled (length result)) (take-words p work count (holds .sound i) ∙ ap wordsOf (holds .list-is i)))
+      ∙ need-cond (hasRoom (length (L .list)) result) NoRoom (λ q. result) (filled (length result) (wordsOf (L .list))))
+
+  room-places : listed ≡ unlessRefused (roomCheck L (length result)) (λ q. places) (filled (length places) (L .answer))
+  unfolding roomCheck
+  room-places =
+      h .places-are
+      ∙ (when-room (filled (length places) ns) (filled (length places) (L .answer)) places (λ i. ap (filled (length places)) (answers i))
+      ∙ need-cond (hasRoom (length (L .list)) result) NoRoom (λ q. places) (filled (length places) (L .answer)))
+
+pub finished : (s : List ℕ) (n : ℕ) (ls es : List ℕ) (period : ℕ) (result work places : List ℕ) (words : List ℕ) (log : ℕ) (built : List ℕ) (count : ℕ) (ns : List ℕ) (r : LowerAnswer) (after listed blanked : List ℕ)
+    → Passed s n ls es period (length work) (length places)
+    → words ≡ filled (length work) (take (3 * n) s)
+    → log ≡ logWithin 32 period
+    → Listing words n (buildPeriodicNodes quad p felt generator half (columns ls es) log) built count ns (length ls)
+    → HandedOver built count (take (length ls) ns) result places r after listed
+    → blanked ≡ take 0 built ++ replicate (length built - 0) blank
+    → Finished s n ls es period result work places r after blanked listed
+unfolding lowered
+finished s n ls es period result work places words log built count ns r after listed blanked ok copy el d h b =
+    let holds = copied-holds s n work words (ok .list .sound) (ok .work-room) (ok .list .most) copy in
+    let long = copied-long s n work words (ok .list .sound) (ok .work-room) (ok .list .most) copy in
+    let run = subst (λ x. Listing words n (buildPeriodicNodes quad p felt generator half (columns ls es) x) built count ns (length ls)) el d in
+    let L = buildPeriodicNodes quad p felt generator half (columns ls es) (logWithin 32 period) .run (nodes s n) in
+    let g = run .ran .gives (nodes s n) holds in
+    let a = run .ran .answers (nodes s n) holds in
+    record {
+      answer = room-answer result places L built count (take (length ls) ns) g a r after listed h;
+      result-is = room-result result places L built count (take (length ls) ns) g a r after listed h;
+      work-is = b ∙ ap (λ k. replicate k blank) (zeros (length built) (length work) (run .ran .kept ∙ long));
+      places-are = room-places result places L built count (take (length ls) ns) g a r after listed h;
+    }
+  where
+    zeros : (k m : ℕ) → k ≡ m → k - 0 ≡ m
+    zeros k m e = omega arith
+
+-- the whole call
+pub record Called (s : List ℕ) (n : ℕ) (ls es : List ℕ) (period : ℕ) (result work places : List ℕ) (r : LowerAnswer) (after blanked listed : List ℕ) : Type 0 where
+  pub answer : r ≡ lowerAnswer s n ls es period result work places
+  pub result-is : after ≡ lowerResult s n ls es period result work places
+  pub work-is : blanked ≡ lowerWork s n ls es period result work places
+  pub places-are : listed ≡ lowerPlaces s n ls es period result work places
+
+module _ (s : List ℕ) (n : ℕ) (ls es : List ℕ) (period : ℕ) (result work places : List ℕ) where
+  pub lower-refused : (r : Refusal) → lowerCheck s n ls es period (length work) (length places) ≡ Refused r → Called s n ls es period result work places (LowerAnswer'.Refused r) result work places
+  unfolding lowerAnswer lowerResult lowerWork lowerPlaces wholeCheck
+  lower-refused r e = record { answer = rw e; result-is = rw e; work-is = rw e; places-are = rw e }
+
+  pub lower-done : (r : LowerAnswer) (after blanked listed : List ℕ) → lowerCheck s n ls es period (length work) (length places) ≡ Good → Finished s n ls es period result work places r after blanked listed → Called s n ls es period result work places r after blanked listed
+  unfolding lowerAnswer lowerResult lowerWork lowerPlaces wholeCheck
+  lower-done r after blanked listed e d =
+      record { answer = rw e (d .answer); result-is = rw e (d .result-is); work-is = rw e (d .work-is); places-are = rw e (d .places-are) }

@@ -1,0 +1,4 @@
+pub mod Lower
+pub mod Contracts
+pub mod FormLaws
+pub mod CallLaws

@@ -1,0 +1,232 @@
+// Lower: the nodes of periodic columns on a list.
+use builder::Entered;
+use columns::Form;
+use dag::Checked;
+use dag::Refusal;
+ghost use mathlib.Core.Path.{_≡_};
+ghost use mathlib.Core.Bool.{cond};
+ghost use lib.Dec.{leb};
+ghost use Prim.Native.Nat.{ℕ, _+_, _*_, _-_, _<_, _≤_};
+ghost use lib.ListN.{length, getD, take, drop};
+ghost use Rattle.field.specs.Field.{p, felt, quad};
+ghost use Rattle.field.specs.Generators.{generator, half};
+ghost use Rattle.dag.specs.Nodes.{mostRecords, filled};
+ghost use Rattle.columns.specs.Columns as Columns;
+ghost use Rattle.columns.specs.Prepare as Prepare;
+ghost use Rattle.columns.specs.Contracts as Asked;
+ghost use Rattle.periodic.specs.Periodic as Periodic;
+ghost use Rattle.periodic.specs.Running as Run;
+ghost use Rattle.lower.specs.Lower as Lower;
+ghost use Rattle.lower.specs.Contracts as Said;
+ghost use Rattle.lower.specs.CallLaws as CallLaws;
+
+// The longest shared period is 2^32.
+const MOST_PERIOD_LOG: usize = 32;
+
+// Lower's answer.
+pub enum LowerAnswer {
+    Done { count: usize },
+    Refused(Refusal),
+}
+
+// The value of a column in this form, whose point is ZK squared k times.
+fn column_value(list: &mut [u64], n: usize, col: &[u64], form: Form, k: usize) -> Entered
+    requires { ⌜ Run.Ready (now list) n × Asked.Column p (now col) × Said.Formed (now col) form ⌝ }
+    ensures { λ r. ⌜ Run.Entering (now (list .entry)) n (Periodic.columnValue quad p felt generator half (now (col .entry)) form k) (now (list .exit)) r ⌝ }
+{
+    match form {
+        Form::Sparse => periodic::sparse_value(list, n, col, k),
+        Form::Dense => periodic::dense_value(list, n, col, k),
+        Form::Basis => basis::basis_value(list, n, col, k),
+    }
+}
+
+// The node of column j under the shared period 2^log, where the columns save `gains` and add `each`.
+fn column_node(
+    list: &mut [u64],
+    n: usize,
+    lengths: &[u64],
+    entries: &[u64],
+    gains: &[u64],
+    each: &[u64],
+    log: usize,
+    j: usize,
+) -> Entered
+    requires { ⌜ Run.Ready (now list) n × Asked.Weighed p (now lengths) (now entries) (now gains) (now each) × Said.Covered (now lengths) (now entries) log × (j < length (now lengths)) ⌝ }
+    ensures { λ r. ⌜ Run.Entering (now (list .entry)) n (Periodic.columnNode quad p felt generator half (Prepare.columns (now (lengths .entry)) (now (entries .entry))) log j) (now (list .exit)) r ⌝ }
+{
+    let col = columns::column(lengths, entries, j);
+    let form = columns::column_form(lengths, entries, gains, each, j);
+    column_value(list, n, col, form, log - columns::log_length(col))
+}
+
+// The nodes of all columns under the shared period 2^log, into a store of places; answers the count.
+fn build_periodic_nodes(
+    list: &mut [u64],
+    n: usize,
+    lengths: &[u64],
+    entries: &[u64],
+    log: usize,
+    places: &mut [u64],
+) -> usize
+    requires { ⌜ Run.Ready (now list) n × Said.Covered (now lengths) (now entries) log × (length (now lengths) ≤ length (now places)) ⌝ }
+    ensures { λ r. ⌜ Run.Listing (now (list .entry)) n (Periodic.buildPeriodicNodes quad p felt generator half (Prepare.columns (now (lengths .entry)) (now (entries .entry))) log) (now (list .exit)) r (now (places .exit)) (length (now (lengths .entry))) ⌝ }
+{
+    let gains = columns::gains(lengths, entries);
+    let each = columns::savings_each(lengths, entries, &gains);
+    let mut count = n;
+    let mut j = 0;
+    while j < lengths.len() {
+        let e = column_node(list, count, lengths, entries, &gains, &each, log, j);
+        places[j] = e.place as u64;
+        count = e.count;
+        j += 1;
+    }
+    count
+}
+
+// The greater of two numbers.
+fn greater(m: u64, n: u64) -> u64
+    ensures { λ r. ⌜ r ≡ cond (leb m n) n m ⌝ }
+{
+    if m <= n { n } else { m }
+}
+
+// The longest of these lengths.
+fn longest(lengths: &[u64]) -> u64
+    ensures { λ r. ⌜ r ≡ Lower.longest (now (lengths .entry)) ⌝ }
+{
+    let mut m: u64 = 0;
+    let mut i = 0;
+    while i < lengths.len() {
+        m = greater(m, lengths[i]);
+        i += 1;
+    }
+    m
+}
+
+// Whether columns of these lengths can share this period.
+fn period_good(lengths: &[u64], period: u64) -> bool
+    ensures { λ r. ⌜ r ≡ Lower.periodGood (now (lengths .entry)) period ⌝ }
+{
+    if lengths.len() == 0 {
+        return true;
+    }
+    if !columns::is_power(MOST_PERIOD_LOG, period) {
+        return false;
+    }
+    longest(lengths) <= period
+}
+
+// Lower's tests before anything is built.
+fn lower_check(
+    list: &[u64],
+    n: usize,
+    lengths: &[u64],
+    entries: &[u64],
+    period: u64,
+    work_words: usize,
+    place_words: usize,
+) -> Checked
+    ensures { λ r. ⌜ r ≡ Lower.lowerCheck (now (list .entry)) n (now (lengths .entry)) (now (entries .entry)) period «work_words» «place_words» ⌝ }
+{
+    let checked = dag::rootless_check(list, n, 0);
+    if dag::is_refused(checked) {
+        return checked;
+    }
+    let prepared = columns::prepare_check(lengths, entries);
+    if dag::is_refused(prepared) {
+        return prepared;
+    }
+    if work_words < 3 * dag::MOST_RECORDS {
+        return Checked::Refused(Refusal::StoreTooShort);
+    }
+    if place_words < lengths.len() {
+        return Checked::Refused(Refusal::StoreTooShort);
+    }
+    if !period_good(lengths, period) {
+        return Checked::Refused(Refusal::SharedPeriod);
+    }
+    Checked::Good
+}
+
+// Writes the first m words of a store to another, blanks behind them.
+fn fill_from(from: &[u64], m: usize, to: &mut [u64])
+    requires { ⌜ (m ≤ length (now from)) × (m ≤ length (now to)) ⌝ }
+    ensures { λ _. ⌜ now (to .exit) ≡ filled (length (now (to .entry))) (take m (now (from .entry))) ⌝ }
+{
+    let mut i = 0;
+    while i < m {
+        to[i] = from[i];
+        i += 1;
+    }
+    dag::blank_from(to, m);
+}
+
+// The list that was built, and its columns' nodes, where there is room for the list: else 7.
+fn hand_over(
+    work: &[u64],
+    count: usize,
+    nodes: &[u64],
+    result: &mut [u64],
+    places: &mut [u64],
+) -> LowerAnswer
+    requires { ⌜ (3 * mostRecords ≤ length (now work)) × (length (now nodes) ≤ length (now places)) ⌝ }
+    ensures { λ r. ⌜ CallLaws.HandedOver (now (work .entry)) count (now (nodes .entry)) (now (result .entry)) (now (places .entry)) r (now (result .exit)) (now (places .exit)) ⌝ }
+{
+    if dag::MOST_RECORDS < count {
+        return LowerAnswer::Refused(Refusal::NoRoom);
+    }
+    if result.len() < 3 * count {
+        return LowerAnswer::Refused(Refusal::NoRoom);
+    }
+    fill_from(work, 3 * count, result);
+    fill_from(nodes, nodes.len(), places);
+    LowerAnswer::Done { count }
+}
+
+// Lower past its first tests.
+fn lower_ready(
+    list: &[u64],
+    n: usize,
+    lengths: &[u64],
+    entries: &[u64],
+    period: u64,
+    result: &mut [u64],
+    work: &mut [u64],
+    places: &mut [u64],
+) -> LowerAnswer
+    requires { ⌜ CallLaws.Passed (now list) n (now lengths) (now entries) period (length (now work)) (length (now places)) ⌝ }
+    ensures { λ r. ⌜ CallLaws.Finished (now (list .entry)) n (now (lengths .entry)) (now (entries .entry)) period (now (result .entry)) (now (work .entry)) (now (places .entry)) r (now (result .exit)) (now (work .exit)) (now (places .exit)) ⌝ }
+{
+    fill_from(list, 3 * n, work);
+    let mut nodes = [0u64; 16];
+    let log = columns::power_within(MOST_PERIOD_LOG, period).log;
+    let count = build_periodic_nodes(work, n, lengths, entries, log, &mut nodes);
+    let answer = hand_over(work, count, &nodes[..lengths.len()], result, places);
+    dag::blank_from(work, 0);
+    answer
+}
+
+// Lower: the list with the nodes of these columns, under a shared period.
+pub fn lower(
+    list: &[u64],
+    n: usize,
+    lengths: &[u64],
+    entries: &[u64],
+    period: u64,
+    result: &mut [u64],
+    work: &mut [u64],
+    places: &mut [u64],
+) -> LowerAnswer
+    ensures answer { λ r. ⌜ r ≡ Lower.lowerAnswer (now (list .entry)) n (now (lengths .entry)) (now (entries .entry)) period (now (result .entry)) (now (work .entry)) (now (places .entry)) ⌝ }
+    ensures result { λ _. ⌜ now (result .exit) ≡ Lower.lowerResult (now (list .entry)) n (now (lengths .entry)) (now (entries .entry)) period (now (result .entry)) (now (work .entry)) (now (places .entry)) ⌝ }
+    ensures work { λ _. ⌜ now (work .exit) ≡ Lower.lowerWork (now (list .entry)) n (now (lengths .entry)) (now (entries .entry)) period (now (result .entry)) (now (work .entry)) (now (places .entry)) ⌝ }
+    ensures places { λ _. ⌜ now (places .exit) ≡ Lower.lowerPlaces (now (list .entry)) n (now (lengths .entry)) (now (entries .entry)) period (now (result .entry)) (now (work .entry)) (now (places .entry)) ⌝ }
+{
+    let checked = lower_check(list, n, lengths, entries, period, work.len(), places.len());
+    match checked {
+        Checked::Refused(r) => LowerAnswer::Refused(r),
+        Checked::Good => lower_ready(list, n, lengths, entries, period, result, work, places),
+    }
+}

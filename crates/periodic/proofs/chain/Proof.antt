@@ -1,0 +1,102 @@
+-- The invariant: the places after i turns.
+use Prim.Native.Nat.{_+_, _-_, _<_, _≤_}
+use mathlib.Core.List.{[], _∷_}
+use mathlib.Core.Path.{_≡_, refl, _∙_}
+use native.Mathlib.Omega.{arith}
+use lib.ListN.{length, getD}
+use Rattle.field.specs.Field.{quad}
+use Rattle.periodic.specs.Builder as Builder
+use Rattle.periodic.specs.Periodic as Periodic
+use Rattle.periodic.specs.Running as Said
+use Rattle.periodic.specs.RunLaws.{entered-ready}
+use Rattle.periodic.specs.ListLaws.{list-none, list-next, list-all, all-later, word-inside, word-is, first-place, one-inside, entering-at, set-length, set-room}
+use Rattle.periodic.proofs.chain.Statement.{statement}
+use Rattle.periodic.proofs.chain.Tie as tie
+
+abbrev Inv-loop : tie.InvT-loop
+Inv-loop list₀ n first factors k places₀ count₀ i₀ list places count i = (i ≤ k) × (k < length places) × (length places ≡ length places₀) × Said.Listing list₀ count₀ (Builder.turns (λ i ps. Builder.also ps (Builder.mul quad (getD ps i 0) (getD factors i 0))) i (first ∷ [])) list count places (i + 1) × Said.Ready list count × Said.AllInside count factors
+
+abbrev μ-loop : tie.MeasureT-loop
+μ-loop list₀ n first factors k places₀ count₀ i₀ list places count i = k - i
+
+slice-write-places : tie.Need-slice-write-places Inv-loop μ-loop
+slice-write-places c = omega (arith, c .before .before .before .pre .4)
+
+loop-holds : tie.Need-loop-holds Inv-loop μ-loop
+loop-holds c =
+    let h : 0 < length (c .before .before .before .args .places .now) = omega (arith, c .before .before .before .pre .4) in
+    (omega arith, set-room (c .before .before .before .args .places .now) _ _ _ (c .before .before .before .pre .4), refl, list-none _ _ _ _ _ _ (first-place (c .before .before .before .args .places .now) _ h) (one-inside (c .before .before .before .pre .1)), c .before .before .before .pre .0, c .before .before .before .pre .2)
+
+mul-mul : tie.Need-mul-mul Inv-loop μ-loop
+mul-mul c = omega arith
+
+slice-read-mul : tie.Need-slice-read-mul Inv-loop μ-loop
+slice-read-mul c = omega arith
+
+mul-mul-2 : tie.Need-mul-mul-2 Inv-loop μ-loop
+mul-mul-2 c = omega (arith, c .before .before .before .before .before .before .before .pre .3)
+
+shared-slice-read-mul : tie.Need-shared-slice-read-mul Inv-loop μ-loop
+shared-slice-read-mul c = omega (arith, c .before .before .before .before .before .before .before .before .pre .3)
+
+mul-requires : tie.Need-mul-requires Inv-loop μ-loop
+mul-requires c κs =
+    let h : c .before .before .before .before .loop .i + 1 ≤ length (c .before .before .before .before .loop .places) = omega arith in
+    let j : c .before .before .before .before .loop .i < c .before .before .before .before .loop .i + 1 = omega arith in
+    let f : c .before .before .before .before .loop .i < length (c .before .before .before .before .before .before .before .before .args .factors .now) = omega (arith, c .before .before .before .before .before .before .before .before .pre .3) in
+    (c .before .before .before .before .loop .inv .4, word-inside _ _ _ _ h (c .before .before .before .before .loop .inv .3 .inside) j, c .before .before .before .before .loop .inv .5 .at _ f)
+
+add-places : tie.Need-add-places Inv-loop μ-loop
+add-places c = omega arith
+
+mul-places : tie.Need-mul-places Inv-loop μ-loop
+mul-places c = omega arith
+
+slice-write-places-2 : tie.Need-slice-write-places-2 Inv-loop μ-loop
+slice-write-places-2 c = omega arith
+
+add-i : tie.Need-add-i Inv-loop μ-loop
+add-i c = omega arith
+
+loop-less : tie.Need-loop-less Inv-loop μ-loop
+loop-less c = omega arith
+
+loop-again : tie.Need-loop-again Inv-loop μ-loop
+loop-again c =
+    let h : c .before .before .before .before .before .before .before .loop .i + 1 < length (c .before .before .before .before .before .before .before .loop .places) = omega arith in
+    let j : c .before .before .before .before .before .before .before .loop .i < c .before .before .before .before .before .before .before .loop .i + 1 = omega arith in
+    let e = entering-at (λ x. Builder.mul quad x (getD (c .before .before .before .before .before .before .before .before .before .before .before .args .factors .now) (c .before .before .before .before .before .before .before .loop .i) 0)) _ _ _ _ (word-is (c .before .before .before .before .before .before .before .loop .places) _ _ j) (c .before .before .mul .ensures) in
+    (omega arith, set-room (c .before .before .before .before .before .before .before .loop .places) _ _ _ (c .before .before .before .before .before .before .before .loop .inv .1), set-length (c .before .before .before .before .before .before .before .loop .places) _ _ _ (c .before .before .before .before .before .before .before .loop .inv .2), list-next _ _ _ _ _ _ _ _ _ _ _ h (c .before .before .before .before .before .before .before .loop .inv .3) e, entered-ready _ _ _ _ _ (c .before .before .before .before .before .before .before .loop .inv .4) (c .before .before .mul .ensures), all-later (c .before .before .mul .ensures .ran .longer) (c .before .before .before .before .before .before .before .loop .inv .5))
+
+same-length : tie.Need-same-length Inv-loop μ-loop
+same-length c = c .before .loop .inv .3 .ran .kept
+
+same-length-2 : tie.Need-same-length-2 Inv-loop μ-loop
+same-length-2 c = c .before .loop .inv .2 ∙ set-length (c .before .before .before .before .before .args .places .now) _ _ _ refl
+
+returns : tie.Need-returns Inv-loop μ-loop
+unfolding Periodic.chain
+returns c = list-all _ _ _ _ _ _ _ _ _ _ _ (c .before .loop .inv .0) (c .loop-test .left) (omega arith) (c .before .loop .inv .3)
+
+pub chain-spec : {M : Type 1} → statement M
+chain-spec =
+    tie.close
+    (tie.spec
+    Inv-loop
+    μ-loop
+    slice-write-places
+    loop-holds
+    mul-mul
+    slice-read-mul
+    mul-mul-2
+    shared-slice-read-mul
+    mul-requires
+    add-places
+    mul-places
+    slice-write-places-2
+    add-i
+    loop-less
+    loop-again
+    same-length
+    same-length-2
+    returns)

@@ -1,0 +1,74 @@
+use Rattle.periodic.specs.SparseLaws.{entering-same}
+use mathlib.Core.Path.{sym, ap}
+use native.Mathlib.Omega.{arith}
+use lib.ListN.{length, take}
+use Rattle.field.specs.Field.{quad}
+use Rattle.periodic.specs.Periodic as Periodic
+use Rattle.periodic.specs.RunLaws.{entered-ready, then-enter, inside-later}
+use Rattle.periodic.specs.ListLaws.{listed-ready}
+use native.Mathlib.Nat.{le-trans, le-of-eq}
+use lib.Seq.{length-take-le}
+use Rattle.periodic.specs.SameLaws.{then-listed}
+use Rattle.periodic.specs.NumberLaws.{dense-below, length-dense}
+use Rattle.periodic.specs.ValueLaws.{dense-listed}
+use borrow.Author.Needs.{needs}
+use Rattle.periodic.proofs.dense_value.Statement.{statement}
+use Rattle.periodic.proofs.dense_value.Tie as tie
+
+z-power-requires : tie.Need-z-power-requires
+z-power-requires c κs = search needs
+
+dense-requires : tie.Need-dense-requires
+dense-requires c κs = search needs
+
+array-share-prefix-numbers : tie.Need-array-share-prefix-numbers
+array-share-prefix-numbers c = search needs
+
+slice-aggregate-constants : tie.Need-slice-aggregate-constants
+slice-aggregate-constants c = sym (length-dense (c .before .before .before .before .before .before .before .before .before .args .col .now) _ (c .before .before .dense .ensures))
+
+slice-aggregate-constants-2 : tie.Need-slice-aggregate-constants-2
+slice-aggregate-constants-2 c = search needs
+
+constants-requires : tie.Need-constants-requires
+constants-requires c κs = (entered-ready _ _ _ _ _ (c .before .before .before .before .before .before .before .before .before .before .pre .0) (c .before .before .before .before .before .before .z-power .ensures), dense-below (c .before .before .before .before .before .before .before .before .before .before .args .col .now) _ (c .before .before .before .dense .ensures), le-trans (le-of-eq (length-dense (c .before .before .before .before .before .before .before .before .before .before .args .col .now) _ (c .before .before .before .dense .ensures))) (c .before .before .before .before .before .before .before .before .before .before .pre .1 .short))
+
+array-share-prefix-coeffs : tie.Need-array-share-prefix-coeffs
+array-share-prefix-coeffs c = search needs
+
+slice-aggregate-horner-eval : tie.Need-slice-aggregate-horner-eval
+slice-aggregate-horner-eval c = sym (length-take-le _ _ (omega (arith, c .before .before .before .before .before .before .before .before .before .before .before .before .before .before .before .before .pre .1 .short)))
+
+horner-eval-requires : tie.Need-horner-eval-requires
+horner-eval-requires c κs = (
+  listed-ready _ _ _ _ _ _ _ (entered-ready _ _ _ _ _ (c .before .before .before .before .before .before .before .before .before .before .before .before .before .before .before .before .pre .0) (c .before .before .before .before .before .before .before .before .before .before .before .before .z-power .ensures)) (c .before .before .before .before .before .constants .ensures),
+  inside-later (c .before .before .before .before .before .constants .ensures .ran .longer) (c .before .before .before .before .before .before .before .before .before .before .before .before .z-power .ensures .inside),
+  dense-listed (c .before .before .before .before .before .before .before .before .before .before .before .before .before .before .before .before .args .col .now) _ _ _ _ _ _ (c .before .before .before .before .before .before .before .before .before .dense .ensures) (c .before .before .before .before .before .constants .ensures) .inside,
+)
+
+same-length : tie.Need-same-length
+same-length c = search needs
+
+returns : tie.Need-returns
+unfolding Periodic.denseValue
+returns c =
+    let long = length-take-le (length (c .before .before .before .before .before .before .before .before .before .before .before .before .before .before .before .before .before .before .before .args .col .now)) (c .before .before .before .before .before .before .before .before .constants .last .1 .1 .1 .0) (omega (arith, c .before .before .before .before .before .before .before .before .before .before .before .before .before .before .before .before .before .before .before .pre .1 .short)) in
+    then-enter _ _ _ _ _ _ _ _ (c .before .before .before .before .before .before .before .before .before .before .before .before .before .before .before .z-power .ensures)
+    (then-listed _ _ _ _ _ _ _ _ _ _ (dense-listed (c .before .before .before .before .before .before .before .before .before .before .before .before .before .before .before .before .before .before .before .args .col .now) _ _ _ _ _ _ (c .before .before .before .before .before .before .before .before .before .before .before .before .dense .ensures) (c .before .before .before .before .before .before .before .before .constants .ensures))
+    (entering-same _ _ _ _ _ _ (ap (λ x. Periodic.hornerEval quad (c .before .before .before .before .before .before .before .before .before .before .before .before .before .before .before .z-power .result .place) (take (length (c .before .before .before .before .before .before .before .before .before .before .before .before .before .before .before .before .before .before .before .args .col .now)) (c .before .before .before .before .before .before .before .before .constants .last .1 .1 .1 .0)) x) long) (c .before .before .horner-eval .ensures)))
+
+pub dense-value-spec : {M : Type 1} → statement M
+dense-value-spec =
+    tie.close
+    (tie.spec
+    z-power-requires
+    dense-requires
+    array-share-prefix-numbers
+    slice-aggregate-constants
+    slice-aggregate-constants-2
+    constants-requires
+    array-share-prefix-coeffs
+    slice-aggregate-horner-eval
+    horner-eval-requires
+    same-length
+    returns)

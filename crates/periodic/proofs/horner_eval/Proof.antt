@@ -1,0 +1,86 @@
+-- The invariant: acc is the place after i turns.
+use Prim.Native.Nat.{_+_, _-_, _<_, _≤_}
+use mathlib.Core.Path.{_∙_}
+use native.Mathlib.Omega.{arith}
+use lib.Dec.{lit<}
+use lib.ListN.{length}
+use Rattle.field.specs.Field.{quad}
+use Rattle.periodic.specs.Builder as Builder
+use Rattle.periodic.specs.Periodic as Periodic
+use Rattle.periodic.specs.Running as Said
+use Rattle.periodic.specs.RunLaws.{entered-ready, then-enter, enter-none, enter-next, enter-all, inside-later}
+use Rattle.periodic.specs.ListLaws.{all-later}
+use native.Mathlib.Nat.{le-trans}
+use Rattle.periodic.proofs.horner_eval.Statement.{statement}
+use Rattle.periodic.proofs.horner_eval.Tie as tie
+
+abbrev Inv-loop : tie.InvT-loop
+Inv-loop list₀ n point coeffs acc₀ i₀ list acc i = (i ≤ length coeffs) × Said.Entering list₀ (acc₀ .count) (Builder.turns (Periodic.hornerTurn quad point coeffs (length coeffs)) i (acc₀ .place)) list acc × Said.Ready list (acc .count) × Said.Inside (acc .count) point × Said.AllInside (acc .count) coeffs
+
+abbrev μ-loop : tie.MeasureT-loop
+μ-loop list₀ n point coeffs acc₀ i₀ list acc i = length coeffs - i
+
+constant-requires : tie.Need-constant-requires Inv-loop μ-loop
+constant-requires c κs = (c .before .before .before .pre .0, lit< tt)
+
+loop-holds : tie.Need-loop-holds Inv-loop μ-loop
+loop-holds c = (omega arith, enter-none _ _ _ _ (c .before .before .constant .ensures .inside), entered-ready _ _ _ _ _ (c .before .before .before .before .before .before .pre .0) (c .before .before .constant .ensures), inside-later (c .before .before .constant .ensures .ran .longer) (c .before .before .before .before .before .before .pre .1), all-later (c .before .before .constant .ensures .ran .longer) (c .before .before .before .before .before .before .pre .2))
+
+mul-requires : tie.Need-mul-requires Inv-loop μ-loop
+mul-requires c κs = (c .before .before .loop .inv .2, c .before .before .loop .inv .3, c .before .before .loop .inv .1 .inside)
+
+add-add : tie.Need-add-add Inv-loop μ-loop
+add-add c = omega arith
+
+sub-add : tie.Need-sub-add Inv-loop μ-loop
+sub-add c = omega arith
+
+mul-add : tie.Need-mul-add Inv-loop μ-loop
+mul-add c = omega arith
+
+shared-slice-read-add : tie.Need-shared-slice-read-add Inv-loop μ-loop
+shared-slice-read-add c = omega arith
+
+add-requires : tie.Need-add-requires Inv-loop μ-loop
+add-requires c κs =
+    let f : length (c .before .before .before .before .before .before .before .before .before .before .before .before .before .before .args .coeffs .now) - (c .before .before .before .before .before .before .before .loop .i + 1) < length (c .before .before .before .before .before .before .before .before .before .before .before .before .before .before .args .coeffs .now) = omega arith in
+    (entered-ready _ _ _ _ _ (c .before .before .before .before .before .before .before .loop .inv .2) (c .before .before .before .before .mul .ensures), inside-later (c .before .before .before .before .mul .ensures .ran .longer) (c .before .before .before .before .before .before .before .loop .inv .4 .at _ f), c .before .before .before .before .mul .ensures .inside)
+
+add-i : tie.Need-add-i Inv-loop μ-loop
+add-i c = omega arith
+
+loop-less : tie.Need-loop-less Inv-loop μ-loop
+loop-less c = omega arith
+
+loop-again : tie.Need-loop-again Inv-loop μ-loop
+unfolding Periodic.hornerTurn
+loop-again c =
+    let up = le-trans (c .before .before .before .before .before .before .before .mul .ensures .ran .longer) (c .before .before .add .ensures .ran .longer) in
+    (omega arith, enter-next _ _ _ _ _ _ _ _ _ (c .before .before .before .before .before .before .before .before .before .before .loop .inv .1) (then-enter _ _ _ _ _ _ _ _ (c .before .before .before .before .before .before .before .mul .ensures) (c .before .before .add .ensures)), entered-ready _ _ _ _ _ (entered-ready _ _ _ _ _ (c .before .before .before .before .before .before .before .before .before .before .loop .inv .2) (c .before .before .before .before .before .before .before .mul .ensures)) (c .before .before .add .ensures), inside-later up (c .before .before .before .before .before .before .before .before .before .before .loop .inv .3), all-later up (c .before .before .before .before .before .before .before .before .before .before .loop .inv .4))
+
+same-length : tie.Need-same-length Inv-loop μ-loop
+same-length c = c .before .loop .inv .1 .ran .kept ∙ c .before .before .before .before .constant .ensures .ran .kept
+
+returns : tie.Need-returns Inv-loop μ-loop
+unfolding Periodic.hornerEval
+returns c = then-enter _ _ _ _ _ _ _ _ (c .before .before .before .before .constant .ensures) (enter-all _ _ _ _ _ _ _ _ (c .before .loop .inv .0) (c .loop-test .left) (c .before .loop .inv .1))
+
+pub horner-eval-spec : {M : Type 1} → statement M
+horner-eval-spec =
+    tie.close
+    (tie.spec
+    Inv-loop
+    μ-loop
+    constant-requires
+    loop-holds
+    mul-requires
+    add-add
+    sub-add
+    mul-add
+    shared-slice-read-add
+    add-requires
+    add-i
+    loop-less
+    loop-again
+    same-length
+    returns)

@@ -1,0 +1,78 @@
+-- The invariant: factor is the place after i turns.
+use Prim.Native.Nat.{_-_, _<_, _≤_}
+use mathlib.Core.Path.{_∙_}
+use native.Mathlib.Omega.{arith}
+use lib.Dec.{lit<}
+use lib.ListN.{length, getD}
+use Rattle.field.specs.Field.{quad}
+use Rattle.periodic.specs.Builder as Builder
+use Rattle.periodic.specs.Periodic as Periodic
+use Rattle.periodic.specs.Running as Said
+use Rattle.periodic.specs.RunLaws.{entered-ready, then-enter, enter-none, enter-next, enter-all}
+use Rattle.periodic.specs.ListLaws.{all-later}
+use Rattle.periodic.proofs.sparse_factor.Statement.{statement}
+use Rattle.periodic.proofs.sparse_factor.Tie as tie
+
+abbrev Inv-loop : tie.InvT-loop
+Inv-loop list₀ n zpow log row factor₀ i₀ list factor i = (i ≤ log) × Said.Entering list₀ (factor₀ .count) (Builder.turns (λ i factor. Periodic.sparseTurn quad (getD row i 0) (getD zpow i 0) factor) i (factor₀ .place)) list factor × Said.Ready list (factor .count) × Said.AllInside (factor .count) zpow
+
+abbrev μ-loop : tie.MeasureT-loop
+μ-loop list₀ n zpow log row factor₀ i₀ list factor i = log - i
+
+constant-requires : tie.Need-constant-requires Inv-loop μ-loop
+constant-requires c κs = (c .before .before .before .pre .0, lit< tt)
+
+loop-holds : tie.Need-loop-holds Inv-loop μ-loop
+loop-holds c = (omega arith, enter-none _ _ _ _ (c .before .before .constant .ensures .inside), entered-ready _ _ _ _ _ (c .before .before .before .before .before .before .pre .0) (c .before .before .constant .ensures), all-later (c .before .before .constant .ensures .ran .longer) (c .before .before .before .before .before .before .pre .1))
+
+mul-sparse-turn : tie.Need-mul-sparse-turn Inv-loop μ-loop
+mul-sparse-turn c = omega (arith, c .before .before .before .before .before .before .before .before .before .pre .2 .few)
+
+array-read-sparse-turn : tie.Need-array-read-sparse-turn Inv-loop μ-loop
+array-read-sparse-turn c = omega (arith, c .before .before .before .before .before .before .before .before .before .pre .2 .few)
+
+mul-sparse-turn-2 : tie.Need-mul-sparse-turn-2 Inv-loop μ-loop
+mul-sparse-turn-2 c = omega (arith, c .before .before .before .before .before .before .before .before .before .pre .2 .few)
+
+shared-slice-read-sparse-turn : tie.Need-shared-slice-read-sparse-turn Inv-loop μ-loop
+shared-slice-read-sparse-turn c = omega (arith, c .before .before .before .before .before .before .before .before .before .before .pre .3)
+
+sparse-turn-requires : tie.Need-sparse-turn-requires Inv-loop μ-loop
+sparse-turn-requires c κs =
+    let f : c .before .before .before .loop .i < length (c .before .before .before .before .before .before .before .before .before .before .args .zpow .now) = omega (arith, c .before .before .before .before .before .before .before .before .before .before .pre .3) in
+    (c .before .before .before .loop .inv .2, c .before .before .before .before .before .before .before .before .before .before .pre .2 .low _ (c .before .before .loop-test .taken), c .before .before .before .loop .inv .3 .at _ f, c .before .before .before .loop .inv .1 .inside)
+
+add-i : tie.Need-add-i Inv-loop μ-loop
+add-i c = omega arith
+
+loop-less : tie.Need-loop-less Inv-loop μ-loop
+loop-less c = omega arith
+
+loop-again : tie.Need-loop-again Inv-loop μ-loop
+loop-again c = (omega arith, enter-next _ _ _ _ _ _ _ _ _ (c .before .before .before .before .before .before .loop .inv .1) (c .before .before .sparse-turn .ensures), entered-ready _ _ _ _ _ (c .before .before .before .before .before .before .loop .inv .2) (c .before .before .sparse-turn .ensures), all-later (c .before .before .sparse-turn .ensures .ran .longer) (c .before .before .before .before .before .before .loop .inv .3))
+
+same-length : tie.Need-same-length Inv-loop μ-loop
+same-length c = c .before .loop .inv .1 .ran .kept ∙ c .before .before .before .before .constant .ensures .ran .kept
+
+returns : tie.Need-returns Inv-loop μ-loop
+unfolding Periodic.sparseFactor
+returns c = then-enter _ _ _ _ _ _ _ _ (c .before .before .before .before .constant .ensures) (enter-all _ _ _ _ _ _ _ _ (c .before .loop .inv .0) (c .loop-test .left) (c .before .loop .inv .1))
+
+pub sparse-factor-spec : {M : Type 1} → statement M
+sparse-factor-spec =
+    tie.close
+    (tie.spec
+    Inv-loop
+    μ-loop
+    constant-requires
+    loop-holds
+    mul-sparse-turn
+    array-read-sparse-turn
+    mul-sparse-turn-2
+    shared-slice-read-sparse-turn
+    sparse-turn-requires
+    add-i
+    loop-less
+    loop-again
+    same-length
+    returns)

@@ -1,0 +1,98 @@
+use Rattle.periodic.specs.SparseLaws.{listing-same}
+use Prim.Native.Nat.{_+_}
+use mathlib.Core.Path.{sym, _∙_, ap}
+use native.Mathlib.Omega.{arith}
+use lib.ListN.{length}
+use Rattle.field.specs.Field.{quad}
+use Rattle.periodic.specs.Periodic as Periodic
+use Rattle.periodic.specs.RunLaws.{entered-ready, then-enter}
+use Rattle.periodic.specs.ListLaws.{listed-ready}
+use native.Mathlib.Nat.{le-trans, le-of-eq}
+use lib.Seq.{length-take-le}
+use Rattle.periodic.specs.SameLaws.{then-listed}
+use Rattle.periodic.specs.NumberLaws.{rows-low}
+use Rattle.periodic.specs.ValueLaws.{sparse-entered}
+use borrow.Author.Needs.{needs}
+use Rattle.periodic.proofs.sparse_value.Statement.{statement}
+use Rattle.periodic.proofs.sparse_value.Tie as tie
+
+z-power-requires : tie.Need-z-power-requires
+z-power-requires c κs = search needs
+
+log-length-requires : tie.Need-log-length-requires
+log-length-requires c κs = search needs
+
+slice-aggregate-powers : tie.Need-slice-aggregate-powers
+slice-aggregate-powers c = search needs
+
+powers-requires : tie.Need-powers-requires
+powers-requires c κs = (entered-ready _ _ _ _ _ (c .before .before .before .before .before .before .before .before .before .pre .0) (c .before .before .before .before .before .z-power .ensures), c .before .before .before .before .before .z-power .ensures .inside, omega (arith, c .before .before .log-length .ensures .1))
+
+slice-aggregate-support : tie.Need-slice-aggregate-support
+slice-aggregate-support c = search needs
+
+support-requires : tie.Need-support-requires
+support-requires c κs = search needs
+
+array-share-prefix-store : tie.Need-array-share-prefix-store
+array-share-prefix-store c = search needs
+
+slice-aggregate-places : tie.Need-slice-aggregate-places
+slice-aggregate-places c = sym (length-take-le _ _ (omega (arith, c .before .before .support .ensures .1)))
+
+sparse-twiddles-requires : tie.Need-sparse-twiddles-requires
+sparse-twiddles-requires c κs = (c .before .before .before .before .before .before .before .before .before .before .before .before .before .before .before .before .before .pre .1, record { are = c .before .before .support .ensures .0; few = le-trans (le-of-eq (ap length (c .before .before .support .ensures .0))) (c .before .before .before .before .before .before .before .before .before .before .before .before .before .before .before .before .before .pre .2 .few) })
+
+sparse-values-requires : tie.Need-sparse-values-requires
+sparse-values-requires c κs = (c .before .before .before .before .before .before .before .before .before .before .before .before .before .before .before .before .before .before .pre .1, record { are = c .before .before .before .support .ensures .0; few = le-trans (le-of-eq (ap length (c .before .before .before .support .ensures .0))) (c .before .before .before .before .before .before .before .before .before .before .before .before .before .before .before .before .before .before .pre .2 .few) })
+
+add-squares : tie.Need-add-squares
+add-squares c = search needs
+
+array-share-prefix-squares : tie.Need-array-share-prefix-squares
+array-share-prefix-squares c = search needs
+
+slice-aggregate-sparse-sum : tie.Need-slice-aggregate-sparse-sum
+slice-aggregate-sparse-sum c = sym (length-take-le _ _ (omega (arith, c .before .before .before .before .before .before .before .before .before .before .before .before .before .before .log-length .ensures .1)))
+
+sparse-sum-requires : tie.Need-sparse-sum-requires
+sparse-sum-requires c κs =
+    let t = sym (length-take-le (c .before .before .before .before .before .before .support .result) (c .before .before .before .before .before .before .support .last .1 .0) (omega (arith, c .before .before .before .before .before .before .support .ensures .1))) ∙ ap length (c .before .before .before .before .before .before .support .ensures .0) in
+    let zs = length-take-le (c .before .before .before .before .before .before .before .before .before .before .before .before .before .before .log-length .result + 1) (c .before .before .before .before .before .before .before .before .before .before .before .powers .last .1 .1 .1 .1 .0) (omega (arith, c .before .before .before .before .before .before .before .before .before .before .before .before .before .before .log-length .ensures .1)) in (
+      listed-ready _ _ _ _ _ _ _ (entered-ready _ _ _ _ _ (c .before .before .before .before .before .before .before .before .before .before .before .before .before .before .before .before .before .before .before .before .before .pre .0) (c .before .before .before .before .before .before .before .before .before .before .before .before .before .before .before .before .before .z-power .ensures)) (c .before .before .before .before .before .before .before .before .before .before .before .powers .ensures),
+      c .before .before .before .before .before .before .before .before .before .before .before .powers .ensures .inside,
+      rows-low (c .before .before .before .before .before .before .before .before .before .before .before .before .before .before .before .before .before .before .before .before .before .args .col .now) _ _ _ _ (c .before .before .before .sparse-twiddles .ensures) (c .before .before .sparse-values .ensures) (c .before .before .before .before .before .before .before .before .before .before .before .before .before .before .log-length .ensures .0) t (c .before .before .before .before .before .before .support .ensures .1),
+      omega arith,
+    )
+
+same-length : tie.Need-same-length
+same-length c = search needs
+
+returns : tie.Need-returns
+unfolding Periodic.sparseValue
+returns c =
+    let t = sym (length-take-le (c .before .before .before .before .before .before .before .before .before .support .result) (c .before .before .before .before .before .before .before .before .before .support .last .1 .0) (omega (arith, c .before .before .before .before .before .before .before .before .before .support .ensures .1))) ∙ ap length (c .before .before .before .before .before .before .before .before .before .support .ensures .0) in
+    then-enter _ _ _ _ _ _ _ _ (c .before .before .before .before .before .before .before .before .before .before .before .before .before .before .before .before .before .before .before .before .z-power .ensures)
+    (then-listed _ _ _ _ _ _ _ _ _ _ (listing-same _ _ _ _ _ _ _ _ (ap (Periodic.powers quad (c .before .before .before .before .before .before .before .before .before .before .before .before .before .before .before .before .before .before .before .before .z-power .result .place)) (c .before .before .before .before .before .before .before .before .before .before .before .before .before .before .before .before .before .log-length .ensures .0)) (c .before .before .before .before .before .before .before .before .before .before .before .before .before .before .powers .ensures))
+    (sparse-entered (c .before .before .before .before .before .before .before .before .before .before .before .before .before .before .before .before .before .before .before .before .before .before .before .before .args .col .now) _ _ _ _ _ _ _ _ _ (c .before .before .before .before .before .before .sparse-twiddles .ensures) (c .before .before .before .before .before .sparse-values .ensures) (c .before .before .before .before .before .before .before .before .before .before .before .before .before .before .before .before .before .log-length .ensures .0) t (c .before .before .sparse-sum .ensures)))
+
+pub sparse-value-spec : {M : Type 1} → statement M
+sparse-value-spec =
+    tie.close
+    (tie.spec
+    z-power-requires
+    log-length-requires
+    slice-aggregate-powers
+    powers-requires
+    slice-aggregate-support
+    support-requires
+    array-share-prefix-store
+    slice-aggregate-places
+    sparse-twiddles-requires
+    sparse-values-requires
+    add-squares
+    array-share-prefix-squares
+    slice-aggregate-sparse-sum
+    sparse-sum-requires
+    same-length
+    returns)

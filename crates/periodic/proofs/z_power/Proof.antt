@@ -1,0 +1,58 @@
+use Rattle.periodic.specs.EnterLaws.{zk-fine}
+-- The invariant: z is the place after i turns, from where the loop began.
+use Prim.Native.Nat.{_-_, _≤_}
+use mathlib.Core.Path.{_∙_}
+use native.Mathlib.Omega.{arith}
+use Rattle.field.specs.Field.{quad}
+use Rattle.periodic.specs.Builder as Builder
+use Rattle.periodic.specs.Periodic as Periodic
+use Rattle.periodic.specs.Running as Said
+use Rattle.periodic.specs.RunLaws.{entered-ready, enter-none, enter-next, enter-all, then-enter}
+use Rattle.periodic.proofs.z_power.Statement.{statement}
+use Rattle.periodic.proofs.z_power.Tie as tie
+
+abbrev Inv-loop : tie.InvT-loop
+Inv-loop list₀ n k z₀ i₀ list z i = (i ≤ k) × Said.Entering list₀ (z₀ .count) (Builder.turns (λ i z. Builder.mul quad z z) i (z₀ .place)) list z × Said.Ready list (z .count)
+
+abbrev μ-loop : tie.MeasureT-loop
+μ-loop list₀ n k z₀ i₀ list z i = k - i
+
+enter-requires : tie.Need-enter-requires Inv-loop μ-loop
+enter-requires c κs = (c .before .before .pre, λ _. zk-fine _)
+
+loop-holds : tie.Need-loop-holds Inv-loop μ-loop
+loop-holds c = (omega arith, enter-none _ _ _ _ (c .before .before .enter .ensures .inside), entered-ready _ _ _ _ _ (c .before .before .before .before .before .pre) (c .before .before .enter .ensures))
+
+mul-requires : tie.Need-mul-requires Inv-loop μ-loop
+mul-requires c κs = (c .before .before .loop .inv .2, c .before .before .loop .inv .1 .inside, c .before .before .loop .inv .1 .inside)
+
+add-i : tie.Need-add-i Inv-loop μ-loop
+add-i c = omega arith
+
+loop-less : tie.Need-loop-less Inv-loop μ-loop
+loop-less c = omega arith
+
+loop-again : tie.Need-loop-again Inv-loop μ-loop
+loop-again c = (omega arith, enter-next _ _ _ _ _ _ _ _ _ (c .before .before .before .before .before .loop .inv .1) (c .before .before .mul .ensures), entered-ready _ _ _ _ _ (c .before .before .before .before .before .loop .inv .2) (c .before .before .mul .ensures))
+
+same-length : tie.Need-same-length Inv-loop μ-loop
+same-length c = c .before .loop .inv .1 .ran .kept ∙ c .before .before .before .before .enter .ensures .ran .kept
+
+returns : tie.Need-returns Inv-loop μ-loop
+unfolding Periodic.zPower
+returns c = then-enter _ _ _ _ _ _ _ _ (c .before .before .before .before .enter .ensures) (enter-all _ _ _ _ _ _ _ _ (c .before .loop .inv .0) (c .loop-test .left) (c .before .loop .inv .1))
+
+pub z-power-spec : {M : Type 1} → statement M
+z-power-spec =
+    tie.close
+    (tie.spec
+    Inv-loop
+    μ-loop
+    enter-requires
+    loop-holds
+    mul-requires
+    add-i
+    loop-less
+    loop-again
+    same-length
+    returns)

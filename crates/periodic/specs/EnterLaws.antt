@@ -1,0 +1,111 @@
+-- One request on a store of 4,096 records.
+use Prim.Native.Nat.{ℕ, zero, suc, _+_, _*_, _<_, _≤_}
+use mathlib.Core.List.{List, [], _∷_, _++_}
+use mathlib.Core.Logic.{_⊎_, inl, inr}
+use mathlib.Core.Path.{_≡_, refl, sym, _∙_, ap, ap₂, subst}
+use native.Mathlib.Numerals.{add-one}
+use native.Mathlib.Omega.{arith}
+use lib.ListN.{length}
+use Rattle.field.specs.Field.{p, quad, Below, new}
+use Rattle.dag.specs.Cases.{below-suc}
+use Rattle.dag.specs.Keys.{isKey, ZK}
+use Rattle.dag.specs.Nodes.{mostRecords, nodes}
+use Rattle.dag.specs.NodeLaws.{length-nodes, length-snoc}
+use Rattle.dag.specs.Store.{Sound, put}
+use Rattle.dag.specs.WellFormed.{Fine}
+use Rattle.dag.specs.declared.NodeKind.{NodeKind}
+use Rattle.dag.specs.declared.NodeKind.the-variants.{Input, Constant, Add, Sub, Mul}
+use Rattle.builder.specs.Steps as Steps
+use Rattle.builder.specs.Contracts.{Request, resolved, Pushed}
+use Rattle.builder.specs.RequestLaws.{pushed-place, pushed-node, step-appended, appended}
+use Rattle.builder.specs.declared.Outcome.{Outcome}
+use Rattle.builder.specs.declared.Outcome.the-variants.{Place, Node}
+use Rattle.builder.specs.declared.Entered.{Entered}
+use Rattle.periodic.specs.Builder.{Builder, enter}
+use Rattle.periodic.specs.Running.{Holds, Ready, Inside, Ran, Entering, Appended}
+use Rattle.periodic.specs.RunLaws.{stays-long}
+
+as-entered : (r : Entered) (i k : ℕ) → r .place ≡ i → r .count ≡ k → r ≡ record { place = i; count = k }
+as-entered r i k e f = ap₂ (λ a b. record { place = a; count = b }) e f
+
+-- a list that is too long stays so
+pub enter-long : (s : List ℕ) (n : ℕ) (x : NodeKind) → mostRecords < n → Entering s n (enter quad x) s (record { place = 0; count = n })
+enter-long s n x h =
+    record {
+      ran =
+          record {
+            kept = refl;
+            longer = omega arith;
+            gives = λ l d. stays-long (enter quad x) s n l h (d .too-long h);
+            answers = λ l d j. absurd (omega arith);
+          };
+      inside = λ j. absurd (omega arith);
+    }
+
+module _ (s : List ℕ) (n : ℕ) (x : NodeKind) (h : n ≤ mostRecords) where
+  -- a request that was pushed
+  pushed-entering : (after : List ℕ) (r : Entered) → Pushed s n x after r → r .count ≤ mostRecords → Entering s n (enter quad x) after r
+  unfolding enter
+  pushed-entering after r d j =
+      record {
+        ran =
+            record {
+              kept = d .kept;
+              longer = d .longer;
+              gives = λ l e.
+                  record {
+                    sound = λ _. d .sound;
+                    list-is = λ _. d .list-is ∙ ap (λ k. Steps.step quad k x .list) (e .list-is h);
+                    too-long = λ i. absurd (omega arith);
+                  };
+              answers = λ l e _. d .place-is ∙ ap (λ k. Steps.step quad k x .place) (e .list-is h);
+            };
+        inside = λ _. d .inside;
+      }
+
+  module _ (req : Request s n x) (o : Outcome) (e : o ≡ resolved (nodes s n) n x) where
+    pub enter-place : (i : ℕ) → o ≡ Place i → Entering s n (enter quad x) s (record { place = i; count = n })
+    enter-place i q = pushed-entering s (record { place = i; count = n }) (pushed-place s n x req o i e q) h
+
+    full : n ≡ mostRecords → (y : NodeKind) → o ≡ Node y → mostRecords < length (Steps.step quad (nodes s n) x .list)
+    full i y q = rw (step-appended s n x, ← e, q) (omega (arith, length-snoc (nodes s n) y, length-nodes s n))
+
+    pub enter-node : (y : NodeKind) (after : List ℕ) (r : Entered) → 3 * mostRecords ≤ length s → o ≡ Node y → Appended s n y after r → Entering s n (enter quad x) after r
+    unfolding enter
+    enter-node y after r room q a = go (below-suc n mostRecords (omega arith))
+      where
+        over : n ≡ mostRecords → mostRecords < r .count
+        over i = omega (arith, a .counts)
+
+        long : n ≡ mostRecords → (l : List NodeKind) → Holds s n l → mostRecords < length (enter quad x .run l .list)
+        long i l d = subst (λ k. mostRecords < length (Steps.step quad k x .list)) (d .list-is h) (full i y q)
+
+        go : (n < mostRecords) ⊎ (n ≡ mostRecords) → Entering s n (enter quad x) after r
+        go (inl i) =
+            rw (as-entered r n (n + 1) (a .written i .1) (a .counts))
+            (pushed-entering after (record { place = n; count = n + 1 }) (pushed-node s n x req o y after e q (a .written i .0) (omega arith)) (omega arith))
+        go (inr i) =
+            record {
+              ran =
+                  record {
+                    kept = ap length (a .full (omega arith));
+                    longer = omega (arith, a .counts);
+                    gives = λ l d.
+                        record {
+                          sound = λ j. absurd (omega (arith, over i));
+                          list-is = λ j. absurd (omega (arith, over i));
+                          too-long = λ _. long i l d;
+                        };
+                    answers = λ l d j. absurd (omega (arith, over i));
+                  };
+              inside = λ j. absurd (omega (arith, over i));
+            }
+
+-- the same request
+pub entering-as : (s : List ℕ) (n : ℕ) (x y : NodeKind) (after : List ℕ) (r : Entered) → x ≡ y → Entering s n (enter quad x) after r → Entering s n (enter quad y) after r
+entering-as s n x y after r e d = subst (λ z. Entering s n (enter quad z) after r) e d
+
+-- ZK is a key
+pub zk-fine : (n : ℕ) → Fine Below n (Input ZK)
+unfolding Fine isKey
+zk-fine n = refl

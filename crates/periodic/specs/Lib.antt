@@ -1,0 +1,10 @@
+pub mod Builder
+pub mod Periodic
+pub mod Running
+pub mod RunLaws
+pub mod EnterLaws
+pub mod ListLaws
+pub mod SparseLaws
+pub mod SameLaws
+pub mod NumberLaws
+pub mod ValueLaws

@@ -1,0 +1,30 @@
+-- The sum of sparse terms, by the number of terms and by the numbers that its terms hold.
+use Prim.Native.Nat.{ℕ, zero, suc, _+_, _-_, _<_, _≤_}
+use mathlib.Core.List.{List, [], _∷_}
+use mathlib.Core.Path.{_≡_, refl, sym, _∙_, ap, subst}
+use native.Mathlib.Omega.{arith}
+use lib.ListN.{getD, length}
+use Rattle.ring.specs.Ring.{Ops}
+use Rattle.field.specs.declared.QuadFelt.{QuadFelt}
+use Rattle.dag.specs.declared.NodeKind.{NodeKind}
+use Rattle.builder.specs.declared.Entered.{Entered}
+use Rattle.periodic.specs.Builder.{Builder, done, _>>=_, turns, also, enter, constant}
+use Rattle.periodic.specs.Periodic.{sparseTurn, sparseFactor, sparseTerm, sumTurn, sparseSum, constants}
+use Rattle.periodic.specs.Running.{Entering, Listing}
+
+module _ (F : Ops QuadFelt) (zpow : List ℕ) (twiddle : ℕ → ℕ → ℕ) (n : ℕ) (value : ℕ → ℕ) where
+  pub sum-none : (t : ℕ) → t ≡ 0 → constant F 0 ≡ sparseSum F zpow twiddle n value t
+  unfolding sparseSum
+  sum-none zero e = refl
+  sum-none (suc t) e = absurd (omega arith)
+
+  pub sum-some : (t : ℕ) → (t ≡ 0 → ⊥) → (sparseTerm F zpow (twiddle 0) n (value 0) >>= λ first. turns (sumTurn F zpow twiddle n value) (t - 1) first) ≡ sparseSum F zpow twiddle n value t
+  unfolding sparseSum
+  sum-some zero e = absurd (e refl)
+  sum-some (suc t) e = let q : suc t - 1 ≡ t = omega arith in rw q
+
+pub entering-same : (s : List ℕ) (n : ℕ) (m q : Builder ℕ) (after : List ℕ) (r : Entered) → m ≡ q → Entering s n m after r → Entering s n q after r
+entering-same s n m q after r e d = subst (λ x. Entering s n x after r) e d
+
+pub listing-same : (s : List ℕ) (n : ℕ) (m q : Builder (List ℕ)) (after : List ℕ) (k : ℕ) (places : List ℕ) (c : ℕ) → m ≡ q → Listing s n m after k places c → Listing s n q after k places c
+listing-same s n m q after k places c e d = subst (λ x. Listing s n x after k places c) e d

@@ -1,0 +1,278 @@
+// periodic.rs: the nodes of periodic columns, built in a store of 4,096 records. A count above 4,096 says that the list is too long.
+use builder::Entered;
+use builder::Outcome;
+use dag::NodeKind;
+use field::QuadFelt;
+ghost use mathlib.Core.Path.{_≡_};
+ghost use mathlib.Core.Bool.{true};
+ghost use mathlib.Core.List.{[]};
+ghost use Prim.Native.Nat.{ℕ, _+_, _*_, _-_, _<_, _≤_};
+ghost use lib.ListN.{length, getD, take};
+ghost use Rattle.field.specs.Field.{p, felt, quad, Below};
+ghost use Rattle.field.specs.Generators.{generator, half};
+ghost use Rattle.dag.specs.Nodes.{mostRecords};
+ghost use Rattle.dag.specs.WellFormed.{Fine};
+ghost use Rattle.columns.specs.Prepare.{allBelow, padded};
+ghost use Rattle.columns.specs.Contracts as Asked;
+ghost use Rattle.periodic.specs.Builder as Builder;
+ghost use Rattle.periodic.specs.Periodic as Periodic;
+ghost use Rattle.periodic.specs.Running as Said;
+
+// The key number of ZK.
+const ZK: u64 = 3096224743817216;
+
+// Appends a new record where the list is not full.
+fn append(list: &mut [u64], n: usize, y: NodeKind) -> Entered
+    requires { ⌜ (3 * mostRecords ≤ length (now list)) × (n ≤ mostRecords) ⌝ }
+    ensures { λ r. ⌜ Said.Appended (now (list .entry)) n y (now (list .exit)) r ⌝ }
+{
+    if n < dag::MOST_RECORDS {
+        dag::put_node(list, n, y);
+        return Entered {
+            place: n,
+            count: n + 1,
+        };
+    }
+    Entered {
+        place: 0,
+        count: n + 1,
+    }
+}
+
+// One request.
+fn enter(list: &mut [u64], n: usize, x: NodeKind) -> Entered
+    requires { ⌜ Said.Ready (now list) n × (n ≤ mostRecords → Fine Below n x) ⌝ }
+    ensures { λ r. ⌜ Said.Entering (now (list .entry)) n (Builder.enter quad x) (now (list .exit)) r ⌝ }
+{
+    if dag::MOST_RECORDS < n {
+        return Entered { place: 0, count: n };
+    }
+    let result = builder::resolve(list, n, x);
+    match result {
+        Outcome::Place(i) => Entered { place: i, count: n },
+        Outcome::Node(y) => append(list, n, y),
+    }
+}
+
+// The constant v.
+pub fn constant(list: &mut [u64], n: usize, v: u64) -> Entered
+    requires { ⌜ Said.Ready (now list) n × (v < p) ⌝ }
+    ensures { λ r. ⌜ Said.Entering (now (list .entry)) n (Builder.constant quad v) (now (list .exit)) r ⌝ }
+{
+    enter(list, n, NodeKind::Constant(QuadFelt::from_base(v)))
+}
+
+// The sum of two places.
+pub fn add(list: &mut [u64], n: usize, a: usize, b: usize) -> Entered
+    requires { ⌜ Said.Ready (now list) n × Said.Inside n a × Said.Inside n b ⌝ }
+    ensures { λ r. ⌜ Said.Entering (now (list .entry)) n (Builder.add quad a b) (now (list .exit)) r ⌝ }
+{
+    enter(list, n, NodeKind::Add(a, b))
+}
+
+// The difference of two places.
+pub fn sub(list: &mut [u64], n: usize, a: usize, b: usize) -> Entered
+    requires { ⌜ Said.Ready (now list) n × Said.Inside n a × Said.Inside n b ⌝ }
+    ensures { λ r. ⌜ Said.Entering (now (list .entry)) n (Builder.sub quad a b) (now (list .exit)) r ⌝ }
+{
+    enter(list, n, NodeKind::Sub(a, b))
+}
+
+// The product of two places.
+pub fn mul(list: &mut [u64], n: usize, a: usize, b: usize) -> Entered
+    requires { ⌜ Said.Ready (now list) n × Said.Inside n a × Said.Inside n b ⌝ }
+    ensures { λ r. ⌜ Said.Entering (now (list .entry)) n (Builder.mul quad a b) (now (list .exit)) r ⌝ }
+{
+    enter(list, n, NodeKind::Mul(a, b))
+}
+
+// ZK, squared k times.
+pub fn z_power(list: &mut [u64], n: usize, k: usize) -> Entered
+    requires { ⌜ Said.Ready (now list) n ⌝ }
+    ensures { λ r. ⌜ Said.Entering (now (list .entry)) n (Periodic.zPower quad k) (now (list .exit)) r ⌝ }
+{
+    let mut z = enter(list, n, NodeKind::Input(ZK));
+    let mut i = 0;
+    while i < k {
+        z = mul(list, z.count, z.place, z.place);
+        i += 1;
+    }
+    z
+}
+
+// z and its squares, k + 1 in all, into a store of places; answers the count.
+fn powers(list: &mut [u64], n: usize, z: usize, k: usize, places: &mut [u64]) -> usize
+    requires { ⌜ Said.Ready (now list) n × Said.Inside n z × (k < length (now places)) ⌝ }
+    ensures { λ r. ⌜ Said.Listing (now (list .entry)) n (Periodic.powers quad z k) (now (list .exit)) r (now (places .exit)) (k + 1) ⌝ }
+{
+    places[0] = z as u64;
+    let mut count = n;
+    let mut i = 0;
+    while i < k {
+        let place = places[i] as usize;
+        let e = mul(list, count, place, place);
+        places[i + 1] = e.place as u64;
+        count = e.count;
+        i += 1;
+    }
+    count
+}
+
+// The first place, then times the first factor, times the first two, .. up to k; answers the count.
+pub fn chain(
+    list: &mut [u64],
+    n: usize,
+    first: usize,
+    factors: &[u64],
+    k: usize,
+    places: &mut [u64],
+) -> usize
+    requires { ⌜ Said.Ready (now list) n × Said.Inside n first × Said.AllInside n (now factors) × (k ≤ length (now factors)) × (k < length (now places)) ⌝ }
+    ensures { λ r. ⌜ Said.Listing (now (list .entry)) n (Periodic.chain quad first (now (factors .entry)) k) (now (list .exit)) r (now (places .exit)) (k + 1) ⌝ }
+{
+    places[0] = first as u64;
+    let mut count = n;
+    let mut i = 0;
+    while i < k {
+        let e = mul(list, count, places[i] as usize, factors[i] as usize);
+        places[i + 1] = e.place as u64;
+        count = e.count;
+        i += 1;
+    }
+    count
+}
+
+// The constants of these numbers, into a store of places; answers the count.
+fn constants(list: &mut [u64], n: usize, numbers: &[u64], places: &mut [u64]) -> usize
+    requires { ⌜ Said.Ready (now list) n × (allBelow p (now numbers) ≡ true) × (length (now numbers) ≤ length (now places)) ⌝ }
+    ensures { λ r. ⌜ Said.Listing (now (list .entry)) n (Periodic.constants quad (λ j. getD (now (numbers .entry)) j 0) (length (now (numbers .entry)))) (now (list .exit)) r (now (places .exit)) (length (now (numbers .entry))) ⌝ }
+{
+    let mut count = n;
+    let mut i = 0;
+    while i < numbers.len() {
+        let e = constant(list, count, numbers[i]);
+        places[i] = e.place as u64;
+        count = e.count;
+        i += 1;
+    }
+    count
+}
+
+// Horner's rule from the highest of these coefficients.
+fn horner_eval(list: &mut [u64], n: usize, point: usize, coeffs: &[u64]) -> Entered
+    requires { ⌜ Said.Ready (now list) n × Said.Inside n point × Said.AllInside n (now coeffs) ⌝ }
+    ensures { λ r. ⌜ Said.Entering (now (list .entry)) n (Periodic.hornerEval quad point (now (coeffs .entry)) (length (now (coeffs .entry)))) (now (list .exit)) r ⌝ }
+{
+    let mut acc = constant(list, n, 0);
+    let mut i = 0;
+    while i < coeffs.len() {
+        let product = mul(list, acc.count, point, acc.place);
+        acc = add(
+            list,
+            product.count,
+            coeffs[coeffs.len() - (i + 1)] as usize,
+            product.place,
+        );
+        i += 1;
+    }
+    acc
+}
+
+// factor · (1 + twiddle · power).
+fn sparse_turn(list: &mut [u64], n: usize, twiddle: u64, power: usize, factor: usize) -> Entered
+    requires { ⌜ Said.Ready (now list) n × (twiddle < p) × Said.Inside n power × Said.Inside n factor ⌝ }
+    ensures { λ r. ⌜ Said.Entering (now (list .entry)) n (Periodic.sparseTurn quad twiddle power factor) (now (list .exit)) r ⌝ }
+{
+    let twiddled = constant(list, n, twiddle);
+    let scaled = mul(list, twiddled.count, twiddled.place, power);
+    let one = constant(list, scaled.count, 1);
+    let sum = add(list, one.count, one.place, scaled.place);
+    mul(list, sum.count, factor, sum.place)
+}
+
+// The product of 1 + twiddle · power over the powers of the column's point.
+fn sparse_factor(list: &mut [u64], n: usize, zpow: &[u64], row: [u64; 7], log: usize) -> Entered
+    requires { ⌜ Said.Ready (now list) n × Said.AllInside n (now zpow) × Said.Row row log × (log ≤ length (now zpow)) ⌝ }
+    ensures { λ r. ⌜ Said.Entering (now (list .entry)) n (Periodic.sparseFactor quad (now (zpow .entry)) (λ i. getD row i 0) log) (now (list .exit)) r ⌝ }
+{
+    let mut factor = constant(list, n, 1);
+    let mut i = 0;
+    while i < log {
+        factor = sparse_turn(list, factor.count, row[i], zpow[i] as usize, factor.place);
+        i += 1;
+    }
+    factor
+}
+
+// A sparse term.
+fn sparse_term(
+    list: &mut [u64],
+    n: usize,
+    zpow: &[u64],
+    row: [u64; 7],
+    log: usize,
+    value: u64,
+) -> Entered
+    requires { ⌜ Said.Ready (now list) n × Said.AllInside n (now zpow) × Said.Row row log × (log ≤ length (now zpow)) × (value < p) ⌝ }
+    ensures { λ r. ⌜ Said.Entering (now (list .entry)) n (Periodic.sparseTerm quad (now (zpow .entry)) (λ i. getD row i 0) log value) (now (list .exit)) r ⌝ }
+{
+    let factor = sparse_factor(list, n, zpow, row, log);
+    let scaled = constant(list, factor.count, value);
+    mul(list, scaled.count, scaled.place, factor.place)
+}
+
+// The sum of t sparse terms.
+fn sparse_sum(
+    list: &mut [u64],
+    n: usize,
+    zpow: &[u64],
+    rows: [[u64; 7]; 11],
+    log: usize,
+    values: [u64; 11],
+    t: usize,
+) -> Entered
+    requires { ⌜ Said.Ready (now list) n × Said.AllInside n (now zpow) × Said.Rows rows log values t × (log ≤ length (now zpow)) ⌝ }
+    ensures { λ r. ⌜ Said.Entering (now (list .entry)) n (Periodic.sparseSum quad (now (zpow .entry)) (λ k i. getD (getD rows k []) i 0) log (λ k. getD values k 0) t) (now (list .exit)) r ⌝ }
+{
+    if t == 0 {
+        return constant(list, n, 0);
+    }
+    let mut sum = sparse_term(list, n, zpow, rows[0], log, values[0]);
+    let mut k = 0;
+    while k < t - 1 {
+        let term = sparse_term(list, sum.count, zpow, rows[k + 1], log, values[k + 1]);
+        sum = add(list, term.count, sum.place, term.place);
+        k += 1;
+    }
+    sum
+}
+
+// The value of a sparse column whose point is ZK squared k times.
+pub fn sparse_value(list: &mut [u64], n: usize, col: &[u64], k: usize) -> Entered
+    requires { ⌜ Said.Ready (now list) n × Asked.Column p (now col) × Said.Few (now col) ⌝ }
+    ensures { λ r. ⌜ Said.Entering (now (list .entry)) n (Periodic.sparseValue quad p felt generator half (now (col .entry)) k) (now (list .exit)) r ⌝ }
+{
+    let z = z_power(list, n, k);
+    let log = columns::log_length(col);
+    let mut squares = [0u64; 8];
+    let count = powers(list, z.count, z.place, log, &mut squares);
+    let mut store = [0u64; 11];
+    let t = coefficients::support(col, &mut store);
+    let places = &store[..t];
+    let rows = coefficients::sparse_twiddles(col, places);
+    let values = coefficients::sparse_values(col, places);
+    sparse_sum(list, count, &squares[..log + 1], rows, log, values, t)
+}
+
+// The value of a dense column whose point is ZK squared k times.
+pub fn dense_value(list: &mut [u64], n: usize, col: &[u64], k: usize) -> Entered
+    requires { ⌜ Said.Ready (now list) n × Asked.Column p (now col) ⌝ }
+    ensures { λ r. ⌜ Said.Entering (now (list .entry)) n (Periodic.denseValue quad p felt generator half (now (col .entry)) k) (now (list .exit)) r ⌝ }
+{
+    let z = z_power(list, n, k);
+    let numbers = coefficients::dense(col);
+    let period = col.len();
+    let mut coeffs = [0u64; 128];
+    let count = constants(list, z.count, &numbers[..period], &mut coeffs);
+    horner_eval(list, count, z.place, &coeffs[..period])
+}
