@@ -11,18 +11,21 @@ ghost use Rattle.dag.specs.Store as Store;
 ghost use Rattle.dag.specs.Lookup as Lookup;
 ghost use Rattle.index.specs.Index as Index;
 
+// So many places an index has for a short list, where the links of a long one would take longer to clear than to use.
+pub const FEW: usize = 256;
+
 // 2^32.
 const BASE: u64 = 4294967296;
 
 // The hash of three words.
-pub fn hash(t: u64, a: u64, b: u64) -> u64
+fn hash(t: u64, a: u64, b: u64) -> u64
     ensures { λ r. ⌜ (r ≡ Index.hash t a b) × (r < 2 ^ 32) ⌝ }
 {
     (a % BASE * 1013904243 + a / BASE * 965271753 + b % BASE * 736899889 + t % 8 * 889516853) % BASE
 }
 
 // One of so many buckets by a hash.
-pub fn bucket_of(buckets: usize, h: u64) -> usize
+fn bucket_of(buckets: usize, h: u64) -> usize
     requires { ⌜ (h < 2 ^ 32) × (0 < buckets) × (buckets ≤ 2 ^ 32) ⌝ }
     ensures { λ r. ⌜ (r ≡ Index.bucketOf buckets h) × (r < buckets) ⌝ }
 {
@@ -38,7 +41,7 @@ pub fn clear(links: &mut [u64])
 }
 
 // Notes place n in bucket k.
-pub fn link(links: &mut [u64], n: usize, k: usize)
+fn link(links: &mut [u64], n: usize, k: usize)
     requires { ⌜ (n < Index.half (now links)) × (k < Index.half (now links)) ⌝ }
     ensures { λ _. ⌜ now (links .exit) ≡ Index.noted (now (links .entry)) n k ⌝ }
 {
@@ -46,13 +49,13 @@ pub fn link(links: &mut [u64], n: usize, k: usize)
     links[k] = n as u64 + 1;
 }
 
-// Notes the record at place n of a list, behind those before it.
-pub fn note(list: &[u64], n: usize, links: &mut [u64])
-    requires { ⌜ Store.Sound p (now list) (n + 1) × Index.NodeIndex (Nodes.nodes (now list) n) (now links) × (n < Index.half (now links)) ⌝ }
-    ensures { λ _. ⌜ Index.NodeIndex (Nodes.nodes (now (list .entry)) (n + 1)) (now (links .exit)) ⌝ }
+// Notes place n in the bucket of three words.
+pub fn note(links: &mut [u64], n: usize, t: u64, a: u64, b: u64)
+    requires { ⌜ Index.Usable (now links) × (n < Index.half (now links)) ⌝ }
+    ensures { λ _. ⌜ now (links .exit) ≡ Index.noted (now (links .entry)) n (Index.bucketOf (Index.half (now (links .entry))) (Index.hash t a b)) ⌝ }
 {
-    let h = hash(list[3 * n], list[3 * n + 1], list[3 * n + 2]);
-    link(links, n, bucket_of(links.len() / 2, h));
+    let k = bucket_of(links.len() / 2, hash(t, a, b));
+    link(links, n, k);
 }
 
 // Indexes the first n records of a list.
@@ -63,7 +66,7 @@ pub fn index_list(list: &[u64], n: usize, links: &mut [u64])
     clear(links);
     let mut i = 0;
     while i < n {
-        note(list, i, links);
+        note(links, i, list[3 * i], list[3 * i + 1], list[3 * i + 2]);
         i += 1;
     }
 }
