@@ -1,7 +1,7 @@
 -- Requests on a store: what each kind asks of its operands, what it comes to, and what entering it leaves.
 use Prim.Native.Nat.{ℕ, suc, _+_, _*_, _<_, _≤_}
 use mathlib.Core.List.{List, [], _∷_, _++_}
-use mathlib.Core.Path.{_≡_, refl, sym, _∙_, ap, subst}
+use mathlib.Core.Path.{_≡_, refl, sym, _∙_, ap, ap₂, subst}
 use native.Mathlib.Numerals.{add-one}
 use native.Mathlib.Omega.{arith}
 use lib.ListN.{length}
@@ -18,7 +18,7 @@ use Rattle.dag.specs.declared.NodeKind.the-variants.{Input, Constant, Add, Sub,
 use Rattle.dag.specs.declared.Found.{Found}
 use Rattle.dag.specs.declared.Found.the-variants.{At, Missing}
 use Rattle.index.specs.Index.{half, noted, hash, bucketOf, nodeBucket}
-use Rattle.index.specs.NodeIndexLaws.{index-more}
+use Rattle.index.specs.NodeIndexLaws.{same-bucket, index-more}
 use Rattle.builder.specs.Steps.{outcome, mulOutcome, negOutcome, addOutcome, subOutcome, interned, intern, enter, step, Built}
 use Rattle.builder.specs.StepLaws.{OutcomeFine, outcome-fine, Grown, step-grown}
 use Rattle.builder.specs.OutcomeLaws.{list-fine, at-below}
@@ -177,4 +177,4 @@ module _ (s : List ℕ) (n : ℕ) (x : NodeKind) (req : Request s n x) where
       }
     where
       is : later ≡ noted links (length (nodes s n)) (nodeBucket (half links) z)
-      is = el ∙ rw (et, ea, eb, length-nodes s n)
+      is = el ∙ ap₂ (noted links) (sym (length-nodes s n)) (same-bucket (half links) et ea eb)

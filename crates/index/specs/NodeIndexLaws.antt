@@ -2,7 +2,7 @@
 use Prim.Native.Nat.{ℕ, zero, suc, _+_, _*_, _-_, _/_, _^_, _<_, _≤_}
 use mathlib.Core.Bool.{Bool, true, false, _&&_}
 use mathlib.Core.List.{List, [], _∷_, _++_}
-use mathlib.Core.Path.{_≡_, refl, sym, _∙_, ap}
+use mathlib.Core.Path.{_≡_, refl, sym, _∙_, ap, ap₂}
 use native.Mathlib.Nat.{mul-lt-mul-of-pos-right, mul-le-mul, sub-zero}
 use native.Mathlib.Numerals.{add-one}
 use native.Mathlib.Omega.{arith}
@@ -21,8 +21,12 @@ use Rattle.index.specs.Index.{greatest, half, Indexed, noted, hash, buck
 use Rattle.index.specs.IndexLaws.{indexed-agree, indexed-none, indexed-noted, length-noted}
 use Rattle.index.specs.WalkLaws.{Walking, walk-begin, walk-on, walk-down, walk-hit, walk-none}
 
+-- the same words have the same bucket
+pub same-bucket : (n : ℕ) {t a b u v w : ℕ} → t ≡ u → a ≡ v → b ≡ w → bucketOf n (hash t a b) ≡ bucketOf n (hash u v w)
+same-bucket n {t} {a} {b} {u} {v} {w} p q r =
+    ap (λ x. bucketOf n (hash x a b)) p ∙ (ap (λ x. bucketOf n (hash u x b)) q ∙ ap (λ x. bucketOf n (hash u v x)) r)
+
 pub hash-below : (t a b : ℕ) → hash t a b < 2 ^ 32
-unfolding hash
 hash-below t a b = omega arith
 
 pub bucket-below : (b h : ℕ) → 0 < b → h < 2 ^ 32 → bucketOf b h < b
@@ -83,7 +87,8 @@ pub index-next : (m : ℕ) (s : List ℕ) (n i : ℕ) (links after : List ℕ) �
 unfolding nodes
 index-next m s n i links after sound h room d e =
     let in-list : length (nodes s i) < half links = rw (length-nodes s i) (omega arith) in
-    let is : after ≡ noted links (length (nodes s i)) (nodeBucket (half links) (recordAt s i)) = e ∙ rw (tag-word m s n sound i h, first-word m s n sound i h, second-word m s n sound i h, length-nodes s i) in
+    let same = same-bucket (half links) (tag-word m s n sound i h) (first-word m s n sound i h) (second-word m s n sound i h) in
+    let is : after ≡ noted links (length (nodes s i)) (nodeBucket (half links) (recordAt s i)) = e ∙ ap₂ (noted links) (sym (length-nodes s i)) (sym same) in
     rw (add-one i, is) (index-more (nodes s i) links (recordAt s i) d in-list)
 
 -- the walk of a lookup over the words t, a, b of a record
@@ -110,7 +115,9 @@ module _ (s : List ℕ) (n : ℕ) (links : List ℕ) (t a b : ℕ) where
     only i h e =
         let p = and-true (eqb (getD s (3 * i) 0) t && eqb (getD s (3 * i + 1) 0) a) (eqb (getD s (3 * i + 2) 0) b) e in
         let q = and-true (eqb (getD s (3 * i) 0) t) (eqb (getD s (3 * i + 1) 0) a) (p .0) in
-        rw (at-nodes s n i h, tag-word m s n sound i h, first-word m s n sound i h, second-word m s n sound i h, eqb-true (getD s (3 * i) 0) t (q .0), eqb-true (getD s (3 * i + 1) 0) a (q .1), eqb-true (getD s (3 * i + 2) 0) b (p .1))
+        ap (nodeBucket (half links)) (at-nodes s n i h)
+        ∙ same-bucket (half links) (tag-word m s n sound i h ∙ eqb-true (getD s (3 * i) 0) t (q .0)) (first-word m s n sound i h ∙ eqb-true (getD s (3 * i + 1) 0) a (q .1))
+        (second-word m s n sound i h ∙ eqb-true (getD s (3 * i + 2) 0) b (p .1))
 
     inside : start < half links
     unfolding start
