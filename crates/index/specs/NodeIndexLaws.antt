@@ -2,6 +2,7 @@
 use Prim.Native.Nat.{ℕ, zero, suc, _+_, _*_, _-_, _/_, _^_, _<_, _≤_}
 use mathlib.Core.Bool.{Bool, true, false, _&&_}
 use mathlib.Core.List.{List, [], _∷_, _++_}
+use mathlib.Core.Logic.{_⊎_, inl, inr}
 use mathlib.Core.Path.{_≡_, refl, sym, _∙_, ap, ap₂}
 use native.Mathlib.Nat.{mul-lt-mul-of-pos-right, mul-le-mul, sub-zero}
 use native.Mathlib.Numerals.{add-one}
@@ -9,13 +10,14 @@ use native.Mathlib.Omega.{arith}
 use borrow.Author.Tests.{eqb-true}
 use lib.Dec.{eqb}
 use lib.ListN.{getD, length, take, replicate, length-replicate}
-use Rattle.dag.specs.Cases.{and-true}
+use Rattle.dag.specs.Cases.{and-true, below-suc}
 use Rattle.dag.specs.Nodes.{tag, first, second, at, nodes, recordAt}
 use Rattle.dag.specs.NodeLaws.{at-left, at-last, at-nodes, length-nodes, length-snoc}
 use Rattle.dag.specs.Lookup.{lookup}
 use Rattle.dag.specs.Store.{Sound, wordsAre, lookupWords}
-use Rattle.dag.specs.StoreLaws.{lookup-words, tag-word, first-word, second-word}
+use Rattle.dag.specs.StoreLaws.{lookup-words, tag-word, first-word, second-word, sound-less}
 use Rattle.dag.specs.declared.NodeKind.{NodeKind}
+use Rattle.dag.specs.declared.Found.{Found}
 use Rattle.dag.specs.declared.Found.the-variants.{At, Missing}
 use Rattle.index.specs.Index.{greatest, half, Indexed, noted, hash, bucketOf, nodeBucket, Usable, NodeIndex}
 use Rattle.index.specs.IndexLaws.{indexed-agree, indexed-none, indexed-noted, length-noted}
@@ -91,6 +93,15 @@ index-next m s n i links after sound h room d e =
     let is : after ≡ noted links (length (nodes s i)) (nodeBucket (half links) (recordAt s i)) = e ∙ ap₂ (noted links) (sym (length-nodes s i)) (sym same) in
     rw (add-one i, is) (index-more (nodes s i) links (recordAt s i) d in-list)
 
+-- the first of n records that pass
+pub sound-first : (m : ℕ) (s : List ℕ) (n k : ℕ) → k ≤ n → Sound m s n → Sound m s k
+sound-first m s zero k h d = let e : k ≡ 0 = omega arith in rw e d
+sound-first m s (suc n) k h d = go (below-suc k (suc n) (omega arith)) (λ j. sound-first m s n k j (sound-less m s n d))
+  where
+    go : (k < suc n) ⊎ (k ≡ suc n) → (k ≤ n → Sound m s k) → Sound m s k
+    go (inl j) before = before (omega arith)
+    go (inr e) before = rw e d
+
 -- the walk of a lookup over the words t, a, b of a record
 module _ (s : List ℕ) (n : ℕ) (links : List ℕ) (t a b : ℕ) where
   here : ℕ → Bool
@@ -149,3 +160,11 @@ module _ (s : List ℕ) (n : ℕ) (links : List ℕ) (t a b : ℕ) where
 
       pub find-none : (link : ℕ) → Standing link → link ≤ 0 → Missing ≡ lookup (nodes s n) x n
       find-none link w g = walk-none here bucket start n only link (w .walking) g ∙ whole
+
+      -- the plain search from here on
+      pub find-plain : (link : ℕ) → Standing link → {r : Found} → r ≡ lookup (nodes s link) x link → r ≡ lookup (nodes s n) x n
+      unfolding here
+      find-plain link w e =
+          e
+          ∙ (sym (lookup-words m s link (sound-first m s n link (w .walking .below) sound) x link (omega arith))
+          ∙ (sym (rw (et, ea, eb)) ∙ (lookup-greatest s t a b link ∙ (sym (w .walking .same) ∙ whole))))

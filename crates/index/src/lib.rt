@@ -14,6 +14,9 @@ ghost use Rattle.index.specs.Index as Index;
 // So many places an index has for a short list, where the links of a long one would take longer to clear than to use.
 pub const FEW: usize = 256;
 
+// So many steps a walk along a bucket takes before the plain search is quicker.
+const MOST_STEPS: usize = 16;
+
 // 2^32.
 const BASE: u64 = 4294967296;
 
@@ -71,7 +74,7 @@ pub fn index_list(list: &[u64], n: usize, links: &mut [u64])
     }
 }
 
-// The greatest place of a record equal to x among the first n, along its bucket.
+// The greatest place of a record equal to x among the first n, along its bucket; behind many others of the bucket by the plain search.
 pub fn find(list: &[u64], n: usize, links: &[u64], x: NodeKind) -> Found
     requires { ⌜ Store.Sound p (now list) n × Index.NodeIndex (Nodes.nodes (now list) n) (now links) ⌝ }
     ensures { λ r. ⌜ r ≡ Lookup.lookup (Nodes.nodes (now (list .entry)) n) x n ⌝ }
@@ -81,12 +84,17 @@ pub fn find(list: &[u64], n: usize, links: &[u64], x: NodeKind) -> Found
     let b = dag::second_of(x);
     let half = links.len() / 2;
     let mut link = links[bucket_of(half, hash(t, a, b))];
+    let mut steps = 0;
     while 0 < link {
+        if MOST_STEPS <= steps {
+            return dag::lookup(list, link as usize, x);
+        }
         let i = (link - 1) as usize;
         if dag::words_are(list, i, t, a, b) {
             return Found::At(i);
         }
         link = links[half + i];
+        steps += 1;
     }
     Found::Missing
 }
