@@ -50,7 +50,7 @@ words-are-requires : tie.Need-words-are-requires Inv-loop μ-loop
 words-are-requires c κs = let h = standing-below _ _ _ _ _ _ _ (c .before .before .loop .inv) in omega (arith, h, (c .before .loop-test .taken), (c .before .before .before .before .before .before .before .before .before .before .before .pre .0 .room))
 
 returns-2 : tie.Need-returns-2 Inv-loop μ-loop
-returns-2 c = find-hit (c .before .before .before .before .before .before .before .before .before .before .before .before .before .args .list .now) (c .before .before .before .before .before .before .before .before .before .before .before .before .before .args .n) (c .before .before .before .before .before .before .before .before .before .before .before .before .before .args .links .now) (c .before .before .before .before .before .before .before .before .before .before .tag-of .result) (c .before .before .before .before .before .before .before .before .before .first-of .result) (c .before .before .before .before .before .before .before .before .second-of .result) p (c .before .before .before .before .before .before .before .before .before .before .before .before .before .pre .0) (c .before .before .before .before .before .before .before .before .before .before .before .before .before .pre .1) (c .before .before .before .before .before .before .before .before .before .before .before .before .before .args .x) (c .before .before .before .before .before .before .before .before .before .before .tag-of .ensures) (c .before .before .before .before .before .before .before .before .before .first-of .ensures) (c .before .before .before .before .before .before .before .before .second-of .ensures) _ (c .before .before .before .before .loop .inv) (c .before .before .before .loop-test .taken) (told (c .before .words-are .ensures) (c .if2 .taken))
+returns-2 c = find-hit (c .before .before .before .before .before .before .before .before .before .before .before .before .before .args .list .now) (c .before .before .before .before .before .before .before .before .before .before .before .before .before .args .n) (c .before .before .before .before .before .before .before .before .before .before .before .before .before .args .links .now) (c .before .before .before .before .before .before .before .before .before .before .tag-of .result) (c .before .before .before .before .before .before .before .before .before .first-of .result) (c .before .before .before .before .before .before .before .before .second-of .result) p (c .before .before .before .before .before .before .before .before .before .before .before .before .before .pre .0) (c .before .before .before .before .before .before .before .before .before .before .before .before .before .pre .1) (c .before .before .before .before .before .before .before .before .before .before .before .before .before .args .x) (c .before .before .before .before .before .before .before .before .before .before .tag-of .ensures) (c .before .before .before .before .before .before .before .before .before .first-of .ensures) (c .before .before .before .before .before .before .before .before .second-of .ensures) _ (c .before .before .before .before .loop .inv) (omega (arith, (c .before .before .before .loop-test .taken))) (told (c .before .words-are .ensures) (c .if2 .taken))
 
 add-link : tie.Need-add-link Inv-loop μ-loop
 add-link c = let h = standing-below _ _ _ _ _ _ _ (c .before .before .before .before .loop .inv) in omega (arith, h, (c .before .before .before .loop-test .taken), (c .before .before .before .before .before .before .before .before .before .before .before .before .before .pre .1 .room), length-nodes (c .before .before .before .before .before .before .before .before .before .before .before .before .before .args .list .now) (c .before .before .before .before .before .before .before .before .before .before .before .before .before .args .n))
@@ -65,13 +65,13 @@ add-steps : tie.Need-add-steps Inv-loop μ-loop
 add-steps c = search needs
 
 loop-less : tie.Need-loop-less Inv-loop μ-loop
-loop-less c = find-down (c .before .before .before .before .before .before .before .before .before .before .before .before .before .before .args .list .now) (c .before .before .before .before .before .before .before .before .before .before .before .before .before .before .args .n) (c .before .before .before .before .before .before .before .before .before .before .before .before .before .before .args .links .now) (c .before .before .before .before .before .before .before .before .before .before .before .tag-of .result) (c .before .before .before .before .before .before .before .before .before .before .first-of .result) (c .before .before .before .before .before .before .before .before .before .second-of .result) p (c .before .before .before .before .before .before .before .before .before .before .before .before .before .before .pre .0) (c .before .before .before .before .before .before .before .before .before .before .before .before .before .before .pre .1) _ (c .before .before .before .before .before .loop .inv) (c .before .before .before .before .loop-test .taken)
+loop-less c = find-down (c .before .before .before .before .before .before .before .before .before .before .before .before .before .before .args .list .now) (c .before .before .before .before .before .before .before .before .before .before .before .before .before .before .args .n) (c .before .before .before .before .before .before .before .before .before .before .before .before .before .before .args .links .now) (c .before .before .before .before .before .before .before .before .before .before .before .tag-of .result) (c .before .before .before .before .before .before .before .before .before .before .first-of .result) (c .before .before .before .before .before .before .before .before .before .second-of .result) p (c .before .before .before .before .before .before .before .before .before .before .before .before .before .before .pre .0) (c .before .before .before .before .before .before .before .before .before .before .before .before .before .before .pre .1) _ (c .before .before .before .before .before .loop .inv) (omega (arith, (c .before .before .before .before .loop-test .taken)))
 
 loop-again : tie.Need-loop-again Inv-loop μ-loop
-loop-again c = find-on (c .before .before .before .before .before .before .before .before .before .before .before .before .before .before .args .list .now) (c .before .before .before .before .before .before .before .before .before .before .before .before .before .before .args .n) (c .before .before .before .before .before .before .before .before .before .before .before .before .before .before .args .links .now) (c .before .before .before .before .before .before .before .before .before .before .before .tag-of .result) (c .before .before .before .before .before .before .before .before .before .before .first-of .result) (c .before .before .before .before .before .before .before .before .before .second-of .result) p (c .before .before .before .before .before .before .before .before .before .before .before .before .before .before .pre .0) (c .before .before .before .before .before .before .before .before .before .before .before .before .before .before .pre .1) _ (c .before .before .before .before .before .loop .inv) (c .before .before .before .before .loop-test .taken) (told (c .before .before .words-are .ensures) (c .before .if2 .left))
+loop-again c = find-on (c .before .before .before .before .before .before .before .before .before .before .before .before .before .before .args .list .now) (c .before .before .before .before .before .before .before .before .before .before .before .before .before .before .args .n) (c .before .before .before .before .before .before .before .before .before .before .before .before .before .before .args .links .now) (c .before .before .before .before .before .before .before .before .before .before .before .tag-of .result) (c .before .before .before .before .before .before .before .before .before .before .first-of .result) (c .before .before .before .before .before .before .before .before .before .second-of .result) p (c .before .before .before .before .before .before .before .before .before .before .before .before .before .before .pre .0) (c .before .before .before .before .before .before .before .before .before .before .before .before .before .before .pre .1) _ (c .before .before .before .before .before .loop .inv) (omega (arith, (c .before .before .before .before .loop-test .taken))) (told (c .before .before .words-are .ensures) (c .before .if2 .left))
 
 returns-3 : tie.Need-returns-3 Inv-loop μ-loop
-returns-3 c = find-none (c .before .before .before .before .before .before .before .before .before .before .args .list .now) (c .before .before .before .before .before .before .before .before .before .before .args .n) (c .before .before .before .before .before .before .before .before .before .before .args .links .now) (c .before .before .before .before .before .before .before .tag-of .result) (c .before .before .before .before .before .before .first-of .result) (c .before .before .before .before .before .second-of .result) p (c .before .before .before .before .before .before .before .before .before .before .pre .0) (c .before .before .before .before .before .before .before .before .before .before .pre .1) (c .before .before .before .before .before .before .before .before .before .before .args .x) (c .before .before .before .before .before .before .before .tag-of .ensures) (c .before .before .before .before .before .before .first-of .ensures) (c .before .before .before .before .before .second-of .ensures) _ (c .before .loop .inv) (c .loop-test .left)
+returns-3 c = find-none (c .before .before .before .before .before .before .before .before .before .before .args .list .now) (c .before .before .before .before .before .before .before .before .before .before .args .n) (c .before .before .before .before .before .before .before .before .before .before .args .links .now) (c .before .before .before .before .before .before .before .tag-of .result) (c .before .before .before .before .before .before .first-of .result) (c .before .before .before .before .before .second-of .result) p (c .before .before .before .before .before .before .before .before .before .before .pre .0) (c .before .before .before .before .before .before .before .before .before .before .pre .1) (c .before .before .before .before .before .before .before .before .before .before .args .x) (c .before .before .before .before .before .before .before .tag-of .ensures) (c .before .before .before .before .before .before .first-of .ensures) (c .before .before .before .before .before .second-of .ensures) _ (c .before .loop .inv) (omega (arith, (c .loop-test .left)))
 
 pub find-spec : {M : Type 1} → statement M
 find-spec =
