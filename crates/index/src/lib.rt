@@ -15,7 +15,7 @@ ghost use Rattle.index.specs.Index as Index;
 pub const FEW: usize = 256;
 
 // So many steps a walk along a bucket takes before the plain search is quicker.
-const MOST_STEPS: usize = 16;
+const MOST_STEPS: usize = 8;
 
 // 2^32.
 const BASE: u64 = 4294967296;
