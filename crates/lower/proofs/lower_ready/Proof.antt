@@ -23,7 +23,7 @@ same-length-3 : tie.Need-same-length-3
 same-length-3 c = search needs
 
 returns : tie.Need-returns
-returns c = (c .before .before .before .before .before .lower-with .ensures, blank-whole _ _ _ refl (c .before .before .before .before .before .before .before .before .before .before .before .blank-from .ensures))
+returns c = (c .before .before .before .before .before .lower-with .ensures, blank-whole (c .before .before .before .before .before .before .before .before .before .before .before .before .before .before .before .before .before .before .before .args .work .now) _ _ refl (c .before .before .before .before .before .before .before .before .before .before .before .blank-from .ensures))
 
 pub lower-ready-spec : {M : Type 1} → statement M
 lower-ready-spec =
