@@ -299,7 +299,7 @@ pub fn put_node(list: &mut [u64], i: usize, x: NodeKind)
 }
 
 // Whether the record at place i has the words t, a, b.
-fn words_are(list: &[u64], i: usize, t: u64, a: u64, b: u64) -> bool
+pub fn words_are(list: &[u64], i: usize, t: u64, a: u64, b: u64) -> bool
     requires { ⌜ 3 * i + 2 < length (now list) ⌝ }
     ensures { λ r. ⌜ r ≡ Store.wordsAre (now (list .entry)) i t a b ⌝ }
 {
@@ -329,16 +329,24 @@ pub fn lookup(list: &[u64], n: usize, x: NodeKind) -> Found
     Found::Missing
 }
 
+// Fills a store with a word from a place on.
+pub fn fill(store: &mut [u64], from: usize, word: u64)
+    requires { ⌜ from ≤ length (now store) ⌝ }
+    ensures { λ _. ⌜ now (store .exit) ≡ take from (now (store .entry)) ++ replicate (length (now (store .entry)) - from) «word» ⌝ }
+{
+    let mut i = from;
+    while i < store.len() {
+        store[i] = word;
+        i += 1;
+    }
+}
+
 // Fills a store with blanks from a place on.
 pub fn blank_from(store: &mut [u64], from: usize)
     requires { ⌜ from ≤ length (now store) ⌝ }
     ensures { λ _. ⌜ now (store .exit) ≡ take from (now (store .entry)) ++ replicate (length (now (store .entry)) - from) Nodes.blank ⌝ }
 {
-    let mut i = from;
-    while i < store.len() {
-        store[i] = BLANK;
-        i += 1;
-    }
+    fill(store, from, BLANK);
 }
 
 // A refusal's number.

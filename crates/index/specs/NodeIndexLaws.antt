@@ -1,0 +1,153 @@
+-- The index of a list's records.
+use Prim.Native.Nat.{ℕ, zero, suc, _+_, _*_, _-_, _/_, _^_, _<_, _≤_}
+use mathlib.Core.Bool.{Bool, true, false, _&&_}
+use mathlib.Core.List.{List, [], _∷_, _++_}
+use mathlib.Core.Logic.{_⊎_, inl, inr}
+use mathlib.Core.Path.{_≡_, refl, sym, _∙_, ap}
+use native.Mathlib.Nat.{mul-lt-mul-of-pos-right, mul-le-mul, sub-zero}
+use native.Mathlib.Numerals.{add-one}
+use native.Mathlib.Omega.{arith}
+use borrow.Author.Tests.{eqb-true}
+use lib.Dec.{eqb}
+use lib.ListN.{getD, length, take, replicate, length-replicate}
+use Rattle.dag.specs.Cases.{and-true, below-suc}
+use Rattle.dag.specs.Nodes.{tag, first, second, at, nodes, recordAt}
+use Rattle.dag.specs.NodeLaws.{at-left, at-last, at-nodes, length-nodes, length-snoc}
+use Rattle.dag.specs.Lookup.{lookup}
+use Rattle.dag.specs.Store.{Sound, wordsAre, lookupWords}
+use Rattle.dag.specs.StoreLaws.{lookup-words, tag-word, first-word, second-word, sound-less}
+use Rattle.dag.specs.declared.NodeKind.{NodeKind}
+use Rattle.dag.specs.declared.Found.the-variants.{At, Missing}
+use Rattle.index.specs.Index.{greatest, half, Indexed, noted, hash, bucketOf, nodeBucket, Usable, NodeIndex}
+use Rattle.index.specs.IndexLaws.{indexed-agree, indexed-none, indexed-noted, length-noted}
+use Rattle.index.specs.WalkLaws.{Walking, walk-begin, walk-on, walk-down, walk-hit, walk-none}
+
+pub hash-below : (t a b : ℕ) → hash t a b < 2 ^ 32
+unfolding hash
+hash-below t a b = omega arith
+
+pub bucket-below : (b h : ℕ) → 0 < b → h < 2 ^ 32 → bucketOf b h < b
+unfolding bucketOf
+bucket-below b h some few = let k : h * b < 4294967296 * b = mul-lt-mul-of-pos-right few some in omega (arith, k)
+
+pub product-fits : (h b : ℕ) → h < 2 ^ 32 → b ≤ 2 ^ 32 → h * b < 2 ^ 64
+product-fits h b few small =
+    let g : h ≤ 4294967295 = omega arith in
+    let k : h * b ≤ 4294967295 * 4294967296 = mul-le-mul g small in
+    omega (arith, k)
+
+pub node-inside : (b t u v : ℕ) → 0 < b → bucketOf b (hash t u v) < b
+node-inside b t u v h = bucket-below b (hash t u v) h (hash-below t u v)
+
+-- the lookup by words is the greatest place at which they are
+lookup-greatest : (s : List ℕ) (t a b n : ℕ) → lookupWords s t a b n ≡ greatest (λ i. wordsAre s i t a b) n
+unfolding lookupWords greatest
+lookup-greatest s t a b zero = refl
+lookup-greatest s t a b (suc n) = rw (lookup-greatest s t a b n)
+
+-- an empty index
+pub index-none : (links : List ℕ) → Usable links → (after : List ℕ) → after ≡ take 0 links ++ replicate (length links - 0) 0 → NodeIndex [] after
+index-none links u after whole =
+    let e : after ≡ replicate (length links) zero = rw (sub-zero (length links)) at whole in
+    let k : length after ≡ length links = ap length e ∙ length-replicate (length links) zero in
+    record {
+      usable = record { some = rw k (u .some); few = rw k (u .few) };
+      room = omega arith;
+      indexed = indexed-none (half after) (λ i. nodeBucket (half after) (at [] i)) after (λ i. let z : getD after i 0 ≡ 0 = rw e (all-zero (length links) i) in z);
+    }
+  where
+    all-zero : (n i : ℕ) → getD (replicate n zero) i zero ≡ zero
+    all-zero zero i = refl
+    all-zero (suc n) zero = refl
+    all-zero (suc n) (suc i) = all-zero n i
+
+-- one record more
+module _ (l : List NodeKind) (links : List ℕ) (x : NodeKind) (d : NodeIndex l links) (room : length l < half links) where
+  pub index-more : NodeIndex (l ++ (x ∷ [])) (noted links (length l) (nodeBucket (half links) x))
+  index-more =
+      let k : half (noted links (length l) (nodeBucket (half links) x)) ≡ half links = ap (λ j. j / 2) (length-noted links (length l) (nodeBucket (half links) x)) in
+      let old = indexed-agree (half links) (λ i. nodeBucket (half links) (at l i)) (λ i. nodeBucket (half links) (at (l ++ (x ∷ [])) i)) (length l) links (λ i h. ap (nodeBucket (half links)) (sym (at-left l (x ∷ []) i h))) (d .indexed) in
+      let new = indexed-noted links (λ i. nodeBucket (half links) (at (l ++ (x ∷ [])) i)) (length l) (nodeBucket (half links) x) room (node-inside (half links) (tag x) (first x) (second x) (d .usable .some)) (ap (nodeBucket (half links)) (at-last l x)) old in
+      record {
+        usable = record { some = rw k (d .usable .some); few = rw k (d .usable .few) };
+        room = rw (k, length-snoc l x) room;
+        indexed = rw (k, length-snoc l x) new;
+      }
+
+-- the record behind the first n of a store
+pub index-next : (m : ℕ) (s : List ℕ) (n : ℕ) (links : List ℕ) (h k : ℕ) (after : List ℕ) → Sound m s (n + 1) → NodeIndex (nodes s n) links → n < half links
+    → h ≡ hash (getD s (3 * n) 0) (getD s (3 * n + 1) 0) (getD s (3 * n + 2) 0) → k ≡ bucketOf (half links) h → after ≡ noted links n k
+    → NodeIndex (nodes s (n + 1)) after
+unfolding nodes
+index-next m s n links h k after sound d room eh ek ea =
+    let good : Sound m s (suc n) = rw (add-one n) at sound in
+    let in-list : length (nodes s n) < half links = rw (length-nodes s n) room in
+    let same : k ≡ nodeBucket (half links) (recordAt s n) = ek ∙ ap (bucketOf (half links)) (eh ∙ rw (tag-word m s (suc n) good n (omega arith), first-word m s (suc n) good n (omega arith), second-word m s (suc n) good n (omega arith))) in
+    let is : after ≡ noted links (length (nodes s n)) (nodeBucket (half links) (recordAt s n)) = ea ∙ rw (same, length-nodes s n) in
+    rw (add-one n, is) (index-more (nodes s n) links (recordAt s n) d in-list)
+
+-- the walk of a lookup over the words t, a, b of a record
+module _ (s : List ℕ) (n : ℕ) (links : List ℕ) (t a b : ℕ) where
+  here : ℕ → Bool
+  here i = wordsAre s i t a b
+
+  bucket : ℕ → ℕ
+  bucket i = nodeBucket (half links) (at (nodes s n) i)
+
+  start : ℕ
+  start = bucketOf (half links) (hash t a b)
+
+  -- the walk stands at this link
+  pub record Standing (link : ℕ) : Type 0 where
+    walking : Walking here bucket start n link
+
+  pub standing-below : (link : ℕ) → Standing link → link ≤ n
+  standing-below link w = w .walking .below
+
+  module _ (m : ℕ) (sound : Sound m s n) (d : NodeIndex (nodes s n) links) where
+    only : (i : ℕ) → i < n → here i ≡ true → bucket i ≡ start
+    unfolding here bucket start wordsAre
+    only i h e =
+        let p = and-true (eqb (getD s (3 * i) 0) t && eqb (getD s (3 * i + 1) 0) a) (eqb (getD s (3 * i + 2) 0) b) e in
+        let q = and-true (eqb (getD s (3 * i) 0) t) (eqb (getD s (3 * i + 1) 0) a) (p .0) in
+        rw (at-nodes s n i h, tag-word m s n sound i h, first-word m s n sound i h, second-word m s n sound i h, eqb-true (getD s (3 * i) 0) t (q .0), eqb-true (getD s (3 * i + 1) 0) a (q .1), eqb-true (getD s (3 * i + 2) 0) b (p .1))
+
+    inside : start < half links
+    unfolding start
+    inside = node-inside (half links) t a b (d .usable .some)
+
+    indexed : Indexed (half links) bucket n links
+    unfolding bucket
+    indexed = rw (length-nodes s n) at (d .indexed)
+
+    pub find-begin : (k h : ℕ) → k ≡ bucketOf (half links) h → h ≡ hash t a b → Standing (getD links k 0)
+    unfolding start
+    find-begin k h ek eh = rw (ek, eh) (record { walking = walk-begin here bucket start n only (half links) links indexed inside })
+
+    pub find-on : (link : ℕ) → Standing link → 0 < link → wordsAre s (link - 1) t a b ≡ false → Standing (getD links (half links + (link - 1)) 0)
+    unfolding here
+    find-on link w g miss = record { walking = walk-on here bucket start n only (half links) links indexed inside link (w .walking) g miss }
+
+    pub find-down : (link : ℕ) → Standing link → 0 < link → getD links (half links + (link - 1)) 0 < link
+    find-down link w g = walk-down here bucket start n only (half links) links indexed inside link (w .walking) g
+
+    module _ (x : NodeKind) (et : t ≡ tag x) (ea : a ≡ first x) (eb : b ≡ second x) where
+      whole : greatest here n ≡ lookup (nodes s n) x n
+      unfolding here
+      whole = sym (lookup-greatest s t a b n) ∙ (rw (et, ea, eb) (lookup-words m s n sound x n (omega arith)))
+
+      pub find-hit : (link : ℕ) → Standing link → 0 < link → wordsAre s (link - 1) t a b ≡ true → At (link - 1) ≡ lookup (nodes s n) x n
+      unfolding here
+      find-hit link w g hit = walk-hit here bucket start n only link (w .walking) g hit ∙ whole
+
+      pub find-none : (link : ℕ) → Standing link → link ≤ 0 → Missing ≡ lookup (nodes s n) x n
+      find-none link w g = walk-none here bucket start n only link (w .walking) g ∙ whole
+
+-- the first i + 1 of n records that pass
+pub sound-part : (m : ℕ) (s : List ℕ) (n i : ℕ) → i + 1 ≤ n → Sound m s n → Sound m s (i + 1)
+sound-part m s zero i h d = absurd (omega arith)
+sound-part m s (suc n) i h d = go (below-suc i n (omega arith)) (λ j. sound-part m s n i j (sound-less m s n d))
+  where
+    go : (i < n) ⊎ (i ≡ n) → (i + 1 ≤ n → Sound m s (i + 1)) → Sound m s (i + 1)
+    go (inl j) before = before (omega arith)
+    go (inr e) before = rw (e, add-one n) d

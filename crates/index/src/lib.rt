@@ -1,0 +1,89 @@
+// An index of places by a hash of the record's words, for the lookup.
+use dag::Found;
+use dag::NodeKind;
+ghost use mathlib.Core.Path.{_≡_};
+ghost use mathlib.Core.List.{[]};
+ghost use Prim.Native.Nat.{ℕ, _+_, _*_, _/_, _^_, _<_, _≤_};
+ghost use lib.ListN.{length, getD};
+ghost use Rattle.field.specs.Field.{p};
+ghost use Rattle.dag.specs.Nodes as Nodes;
+ghost use Rattle.dag.specs.Store as Store;
+ghost use Rattle.dag.specs.Lookup as Lookup;
+ghost use Rattle.index.specs.Index as Index;
+
+// 2^32.
+const BASE: u64 = 4294967296;
+
+// The hash of three words.
+pub fn hash(t: u64, a: u64, b: u64) -> u64
+    ensures { λ r. ⌜ (r ≡ Index.hash t a b) × (r < 2 ^ 32) ⌝ }
+{
+    (a % BASE * 1013904243 + a / BASE * 965271753 + b % BASE * 736899889 + t % 8 * 889516853) % BASE
+}
+
+// One of so many buckets by a hash.
+pub fn bucket_of(buckets: usize, h: u64) -> usize
+    requires { ⌜ (h < 2 ^ 32) × (0 < buckets) × (buckets ≤ 2 ^ 32) ⌝ }
+    ensures { λ r. ⌜ (r ≡ Index.bucketOf buckets h) × (r < buckets) ⌝ }
+{
+    (h * buckets as u64 / BASE) as usize
+}
+
+// Empties an index.
+pub fn clear(links: &mut [u64])
+    requires { ⌜ Index.Usable (now links) ⌝ }
+    ensures { λ _. ⌜ Index.NodeIndex [] (now (links .exit)) ⌝ }
+{
+    dag::fill(links, 0, 0);
+}
+
+// Notes place n in bucket k.
+pub fn link(links: &mut [u64], n: usize, k: usize)
+    requires { ⌜ (n < Index.half (now links)) × (k < Index.half (now links)) ⌝ }
+    ensures { λ _. ⌜ now (links .exit) ≡ Index.noted (now (links .entry)) n k ⌝ }
+{
+    links[links.len() / 2 + n] = links[k];
+    links[k] = n as u64 + 1;
+}
+
+// Notes the record at place n of a list, behind those before it.
+pub fn note(list: &[u64], n: usize, links: &mut [u64])
+    requires { ⌜ Store.Sound p (now list) (n + 1) × Index.NodeIndex (Nodes.nodes (now list) n) (now links) × (n < Index.half (now links)) ⌝ }
+    ensures { λ _. ⌜ Index.NodeIndex (Nodes.nodes (now (list .entry)) (n + 1)) (now (links .exit)) ⌝ }
+{
+    let h = hash(list[3 * n], list[3 * n + 1], list[3 * n + 2]);
+    link(links, n, bucket_of(links.len() / 2, h));
+}
+
+// Indexes the first n records of a list.
+pub fn index_list(list: &[u64], n: usize, links: &mut [u64])
+    requires { ⌜ Store.Sound p (now list) n × Index.Usable (now links) × (n ≤ Index.half (now links)) ⌝ }
+    ensures { λ _. ⌜ Index.NodeIndex (Nodes.nodes (now (list .entry)) n) (now (links .exit)) ⌝ }
+{
+    clear(links);
+    let mut i = 0;
+    while i < n {
+        note(list, i, links);
+        i += 1;
+    }
+}
+
+// The greatest place of a record equal to x among the first n, along its bucket.
+pub fn find(list: &[u64], n: usize, links: &[u64], x: NodeKind) -> Found
+    requires { ⌜ Store.Sound p (now list) n × Index.NodeIndex (Nodes.nodes (now list) n) (now links) ⌝ }
+    ensures { λ r. ⌜ r ≡ Lookup.lookup (Nodes.nodes (now (list .entry)) n) x n ⌝ }
+{
+    let t = dag::tag_of(x);
+    let a = dag::first_of(x);
+    let b = dag::second_of(x);
+    let half = links.len() / 2;
+    let mut link = links[bucket_of(half, hash(t, a, b))];
+    while 0 < link {
+        let i = (link - 1) as usize;
+        if dag::words_are(list, i, t, a, b) {
+            return Found::At(i);
+        }
+        link = links[half + i];
+    }
+    Found::Missing
+}
