@@ -13,8 +13,18 @@ const EPSILON: u64 = 0xffff_ffff;
 /// u², the square of the extension's generator.
 const U_SQUARED: Felt = Felt(7);
 
-/// The generator of order 2^32, entry 32 of the public Goldilocks table.
-const GENERATOR_32: Felt = Felt(1_753_635_133_440_165_772);
+/// The generators of order 2^0 to 2^32: the last is entry 32 of the public Goldilocks table, each
+/// of the others the square of the next.
+const GENERATORS: [Felt; TWO_ADICITY + 1] = {
+    let mut table = [Felt(1_753_635_133_440_165_772); TWO_ADICITY + 1];
+    let mut bits = TWO_ADICITY;
+    while bits > 0 {
+        bits -= 1;
+        let next = table[bits + 1].0 as u128;
+        table[bits] = Felt(reduce(next * next));
+    }
+    table
+};
 
 /// The greatest power of two that divides p − 1.
 pub const TWO_ADICITY: usize = 32;
@@ -79,18 +89,18 @@ impl Felt {
 
 /// The sum of two words that is below 2p, modulo p.
 #[inline]
-fn fold(a: u64, b: u64) -> u64 {
+const fn fold(a: u64, b: u64) -> u64 {
     let (sum, carry) = a.overflowing_add(b);
     if carry || sum >= MODULUS { sum.wrapping_add(EPSILON) } else { sum }
 }
 
 /// Marks a branch that is hardly ever taken.
 #[cold]
-fn rarely() {}
+const fn rarely() {}
 
 /// A 128-bit number modulo p, by 2^64 = 2^32 − 1 and 2^96 = −1.
 #[inline]
-fn reduce(x: u128) -> u64 {
+const fn reduce(x: u128) -> u64 {
     let (low, high) = (x as u64, (x >> 64) as u64);
     let (difference, borrow) = low.overflowing_sub(high >> 32);
     let middle = (high & EPSILON) * EPSILON;
@@ -154,7 +164,7 @@ impl Field for Felt {
 impl TwoAdicField for Felt {
     fn two_adic_generator(bits: usize) -> Self {
         assert!(bits <= TWO_ADICITY, "p − 1 has no such power of two");
-        (bits..TWO_ADICITY).fold(GENERATOR_32, |generator, _| generator * generator)
+        GENERATORS[bits]
     }
 }
 
