@@ -1,5 +1,5 @@
 -- What lists and entries that pass Evaluate's tests are known to be, and what Evaluate then answers.
-use Prim.Native.Nat.{ℕ, _*_, _<_}
+use Prim.Native.Nat.{ℕ, _*_, _≤_, _<_}
 use mathlib.Core.List.{List}
 use mathlib.Core.Path.{_≡_, sym, _∙_, ap}
 use native.Mathlib.Omega.{arith}
@@ -17,12 +17,13 @@ use Rattle.dag.specs.declared.Refusal.{Refusal}
 use Rattle.dag.specs.declared.Refusal.the-variants.{StoreTooShort, TooManyEntries, Unassigned}
 use Rattle.dag.specs.declared.NodeKind.the-variants.{Input}
 use Rattle.dag.specs.declared.Found.the-variants.{At}
+use Rattle.dag.specs.declared.Checked.{Checked}
 use Rattle.dag.specs.declared.Checked.the-variants as Checked'
 use Rattle.meaning.specs.Values.{value}
 use Rattle.evaluate.specs.Entries.{Lent, mostEntries, firstRefused, entryCheck, entriesCheck, entryOf, hasEntry, inputsCheck}
 use Rattle.evaluate.specs.EntryLaws.{Last, good-below, found-last}
 use Rattle.evaluate.specs.Calls.{entryWords, elementOf, given, evaluateCheck, evaluateAnswer}
-use Rattle.evaluate.specs.Asked.{Ready}
+use Rattle.evaluate.specs.Asked.{Ready, Tested}
 use Rattle.evaluate.specs.declared.Evaluated.the-variants.{Value, Refused}
 
 -- entries that pass
@@ -40,6 +41,50 @@ module _ (s : List ℕ) (n root : ℕ) (a : List ℕ) (m : ℕ) where
   unfolding evaluateAnswer
   answer-refused r e = rw e
 
+  -- where the list or the entries refuse
+  pub words-refused : (r : Refusal) → (listCheck p s n root then entriesCheck p entryWords a m) ≡ Checked'.Refused r → Refused r ≡ evaluateAnswer s n root a m
+  unfolding evaluateCheck
+  words-refused r e = answer-refused r (go (listCheck p s n root) (entriesCheck p entryWords a m) e)
+    where
+      go : (c d : Checked) → (c then d) ≡ Checked'.Refused r → (c then d then inputsCheck (entryOf entryWords a m) (nodes s n) n) ≡ Checked'.Refused r
+      go Checked'.Good d e = rw e
+      go (Checked'.Refused q) d e = e
+
+  pub words-tested : (listCheck p s n root then entriesCheck p entryWords a m) ≡ Checked'.Good → Tested s n root a m
+  words-tested e =
+      let both = then-good (listCheck p s n root) (entriesCheck p entryWords a m) e in
+      record { list = both .0; entries = both .1 }
+
+  -- where both pass
+  module _ (t : Tested s n root a m) where
+    inputs-left : evaluateCheck s n root a m ≡ inputsCheck (entryOf entryWords a m) (nodes s n) n
+    unfolding evaluateCheck
+    inputs-left = rw (t .list, t .entries)
+
+    pub root-inside : root < n
+    root-inside = rooted p s n root (t .list) .inside
+
+    pub list-most : n ≤ mostRecords
+    list-most = rooted p s n root (t .list) .list .most
+
+    pub entries-most : m ≤ mostEntries
+    unfolding entriesCheck
+    entries-most =
+        let one = then-good (need (leb m mostEntries) TooManyEntries) (need (leb (entryWords * m) (length a)) StoreTooShort then firstRefused (entryCheck p entryWords a) m) (t .entries) in
+        leb-true m mostEntries (need-good (leb m mostEntries) TooManyEntries (one .0))
+
+    pub may-fill : (k : ℕ) → n ≤ k → Ready s n a m k
+    may-fill k h =
+        let q = entries-pass p entryWords a m (omega arith) (t .entries) in
+        record { sound = rooted p s n root (t .list) .list .sound; lent = q .0; good = q .1; fits = h }
+
+    pub inputs-refused : (r : Refusal) → inputsCheck (entryOf entryWords a m) (nodes s n) n ≡ Checked'.Refused r → Refused r ≡ evaluateAnswer s n root a m
+    inputs-refused r e = answer-refused r (inputs-left ∙ e)
+
+    pub inputs-value : inputsCheck (entryOf entryWords a m) (nodes s n) n ≡ Checked'.Good → (v : QuadFelt) → v ≡ value quad (given a m) (nodes s n) root → Value v ≡ evaluateAnswer s n root a m
+    unfolding evaluateAnswer
+    inputs-value e v q = ap Value q ∙ rw (inputs-left ∙ e)
+
   -- where Evaluate accepts
   module _ (e : evaluateCheck s n root a m ≡ Checked'.Good) where
     tests : (listCheck p s n root ≡ Checked'.Good) × (entriesCheck p entryWords a m ≡ Checked'.Good) × (inputsCheck (entryOf entryWords a m) (nodes s n) n ≡ Checked'.Good)
@@ -49,19 +94,10 @@ module _ (s : List ℕ) (n root : ℕ) (a : List ℕ) (m : ℕ) where
         let two = then-good (entriesCheck p entryWords a m) (inputsCheck (entryOf entryWords a m) (nodes s n) n) (one .1) in
         (one .0, two .0, two .1)
 
-    pub may-evaluate : Ready s n a m mostRecords × (root < n)
-    may-evaluate =
-        let l = rooted p s n root (tests .0) in
-        let q = entries-pass p entryWords a m (omega arith) (tests .1) in
-        (record { sound = l .list .sound; lent = q .0; good = q .1; fits = l .list .most }, l .inside)
-
     -- it answers the root's value under its assignment
     pub accepted-value : evaluateAnswer s n root a m ≡ Value (value quad (given a m) (nodes s n) root)
     unfolding evaluateAnswer
     accepted-value = rw e
-
-    pub answer-value : (v : QuadFelt) → v ≡ value quad (given a m) (nodes s n) root → Value v ≡ evaluateAnswer s n root a m
-    answer-value v q = ap Value q ∙ sym accepted-value
 
     -- every input's key, reachable or not, has a last entry, and is given that entry's element
     pub accepted-input : (i key : ℕ) → i < n → at (nodes s n) i ≡ Input key → (j : ℕ) × Last entryWords a m key j × (given a m key ≡ elementOf a (At j))

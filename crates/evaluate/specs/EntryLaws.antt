@@ -123,7 +123,8 @@ module _ (width : ℕ) (e : List ℕ) (key : ℕ) where
   entry-none n zero h inv = sym inv
   entry-none n (suc i) h inv = absurd (omega arith)
 
-  -- what is found is an entry
+-- what is found is an entry
+module _ (width : ℕ) (e : List ℕ) (key : ℕ) where
   pub entry-inside : (n i : ℕ) → entryOf width e n key ≡ At i → i < n
   unfolding entryOf
   entry-inside zero i q = let z : _≡_ {A = ℕ} 0 1 = cc in absurd (omega arith)

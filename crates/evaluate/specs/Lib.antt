@@ -1,5 +1,7 @@
 pub mod Entries
 pub mod EntryLaws
+pub mod KeyIndex
+pub mod KeyIndexLaws
 pub mod Calls
 pub mod Asked
 pub mod RecordLaws

@@ -1,42 +1,65 @@
 -- The value of one record by its kind, and its operands' places.
 use Prim.Native.Nat.{ℕ, _<_}
 use mathlib.Core.List.{List}
-use mathlib.Core.Path.{_≡_, _∙_}
-use Rattle.ring.specs.Ring.{Ops}
-use Rattle.field.specs.Field.{Below}
+use mathlib.Core.Bool.{Bool, true, false}
+use mathlib.Core.Path.{_≡_, refl, _∙_, ap}
+use native.Mathlib.Omega.{arith}
+use Rattle.field.specs.Field.{Below, quad}
 use Rattle.field.specs.declared.QuadFelt.{QuadFelt}
 use Rattle.dag.specs.Nodes.{recordAt}
 use Rattle.dag.specs.WellFormed.{Fine}
 use Rattle.dag.specs.declared.NodeKind.{NodeKind}
 use Rattle.dag.specs.declared.NodeKind.the-variants.{Input, Constant, Add, Sub, Mul, Neg}
 use Rattle.meaning.specs.Values.{valueOf}
-use Rattle.evaluate.specs.Asked.{elementAt, Valued}
+use Rattle.evaluate.specs.Entries.{entryOf, isFound, hasEntry}
+use Rattle.evaluate.specs.Calls.{entryWords, given}
+use Rattle.evaluate.specs.Asked.{elementAt, Valued, assigned, recordAnswer}
+use Rattle.evaluate.specs.declared.Assigned.{Assigned}
+use Rattle.evaluate.specs.declared.Assigned.the-variants.{Element, Absent}
 
-module _ (F : Ops QuadFelt) (given v : ℕ → QuadFelt) {x y : NodeKind} (e : x ≡ y) where
-  pub input-value : {k : ℕ} {r : QuadFelt} → x ≡ Input k → r ≡ given k → r ≡ valueOf F given v y
-  unfolding valueOf
+module _ (a : List ℕ) (m : ℕ) (v : ℕ → QuadFelt) {x y : NodeKind} (e : x ≡ y) where
+  pub input-value : {k : ℕ} {r : Assigned} → x ≡ Input k → r ≡ assigned (isFound (entryOf entryWords a m k)) (given a m k) → r ≡ recordAnswer a m v y
+  unfolding valueOf recordAnswer
   input-value f q = rw (← e, f) q
 
-  pub constant-value : {c : QuadFelt} → x ≡ Constant c → c ≡ valueOf F given v y
-  unfolding valueOf
+  pub constant-value : {c : QuadFelt} → x ≡ Constant c → Element c ≡ recordAnswer a m v y
+  unfolding valueOf recordAnswer
   constant-value f = rw (← e, f)
 
-  module _ {a b : ℕ} {p q r : QuadFelt} (ep : p ≡ v a) (eq : q ≡ v b) where
-    pub add-value : x ≡ Add a b → r ≡ F .add p q → r ≡ valueOf F given v y
-    unfolding valueOf
-    add-value f h = h ∙ rw (← e, f, ep, eq)
+  module _ {i j : ℕ} {p q r : QuadFelt} (ep : p ≡ v i) (eq : q ≡ v j) where
+    pub add-value : x ≡ Add i j → r ≡ quad .add p q → Element r ≡ recordAnswer a m v y
+    unfolding valueOf recordAnswer
+    add-value f h = ap Element h ∙ rw (← e, f, ep, eq)
 
-    pub sub-value : x ≡ Sub a b → r ≡ F .sub p q → r ≡ valueOf F given v y
-    unfolding valueOf
-    sub-value f h = h ∙ rw (← e, f, ep, eq)
+    pub sub-value : x ≡ Sub i j → r ≡ quad .sub p q → Element r ≡ recordAnswer a m v y
+    unfolding valueOf recordAnswer
+    sub-value f h = ap Element h ∙ rw (← e, f, ep, eq)
 
-    pub mul-value : x ≡ Mul a b → r ≡ F .mul p q → r ≡ valueOf F given v y
-    unfolding valueOf
-    mul-value f h = h ∙ rw (← e, f, ep, eq)
+    pub mul-value : x ≡ Mul i j → r ≡ quad .mul p q → Element r ≡ recordAnswer a m v y
+    unfolding valueOf recordAnswer
+    mul-value f h = ap Element h ∙ rw (← e, f, ep, eq)
 
-  pub neg-value : {a : ℕ} {p r : QuadFelt} → p ≡ v a → x ≡ Neg a → r ≡ F .neg p → r ≡ valueOf F given v y
-  unfolding valueOf
-  neg-value ep f h = h ∙ rw (← e, f, ep)
+  pub neg-value : {i : ℕ} {p r : QuadFelt} → p ≡ v i → x ≡ Neg i → r ≡ quad .neg p → Element r ≡ recordAnswer a m v y
+  unfolding valueOf recordAnswer
+  neg-value ep f h = ap Element h ∙ rw (← e, f, ep)
+
+-- what an answer says of a record
+module _ (a : List ℕ) (m : ℕ) (v : ℕ → QuadFelt) (x : NodeKind) where
+  pub answered : (r : QuadFelt) → Element r ≡ recordAnswer a m v x → (hasEntry (entryOf entryWords a m) x ≡ true) × (r ≡ valueOf quad (given a m) v x)
+  unfolding recordAnswer
+  answered r e = go (hasEntry (entryOf entryWords a m) x) e
+    where
+      go : (b : Bool) → Element r ≡ assigned b (valueOf quad (given a m) v x) → (b ≡ true) × (r ≡ valueOf quad (given a m) v x)
+      go true e = (refl, cc)
+      go false e = let z : _≡_ {A = ℕ} 0 1 = cc in absurd (omega arith)
+
+  pub unanswered : Absent ≡ recordAnswer a m v x → hasEntry (entryOf entryWords a m) x ≡ false
+  unfolding recordAnswer
+  unanswered e = go (hasEntry (entryOf entryWords a m) x) e
+    where
+      go : (b : Bool) → Absent ≡ assigned b (valueOf quad (given a m) v x) → b ≡ false
+      go true e = let z : _≡_ {A = ℕ} 0 1 = cc in absurd (omega arith)
+      go false e = refl
 
 -- the operands of a record that may stand at place i
 module _ (s : List ℕ) (i : ℕ) (c0 c1 : List ℕ) (h : Valued s i c0 c1) {x : NodeKind} (e : x ≡ recordAt s i) where

@@ -18,16 +18,18 @@ use Rattle.dag.specs.Cases.{and-true, below-suc-elim}
 use Rattle.dag.specs.CheckLaws.{Within, need-good}
 use Rattle.dag.specs.StoreLaws.{sound-well-formed}
 use Rattle.dag.specs.WellFormed.{Fine, WellFormed}
-use Rattle.dag.specs.declared.Refusal.the-variants.{Malformed}
+use Rattle.dag.specs.declared.Refusal.the-variants.{Malformed, Unassigned}
 use Rattle.dag.specs.declared.Found.{Found}
 use Rattle.dag.specs.declared.Found.the-variants.{At, Missing}
-use Rattle.dag.specs.declared.Checked.the-variants.{Good}
+use Rattle.dag.specs.declared.Checked.the-variants.{Good, Refused}
 use Rattle.meaning.specs.Values.{value, valueOf}
 use Rattle.meaning.specs.ValueLaws.{value-at, value-low, valueOf-cong}
-use Rattle.evaluate.specs.Entries.{firstRefused, keyAt, wordsBelow, entryCheck, entryOf}
-use Rattle.evaluate.specs.EntryLaws.{good-below, word-below, entry-inside}
+use Rattle.evaluate.specs.Entries.{firstRefused, keyAt, wordsBelow, entryCheck, entryOf, inputsCheck}
+use Rattle.evaluate.specs.EntryLaws.{good-below, word-below, entry-inside, an-entry, no-entry}
 use Rattle.evaluate.specs.Calls.{entryWords, elementOf, given}
-use Rattle.evaluate.specs.Asked.{elementAt, Valued, Ready, Filled}
+use Rattle.evaluate.specs.Asked.{elementAt, recordAnswer, Valued, Ready, Filled}
+use Rattle.evaluate.specs.RecordLaws.{answered, unanswered}
+use Rattle.evaluate.specs.declared.Assigned.the-variants.{Element, Absent}
 
 -- the elements that entries in lowest form give
 module _ (a : List ℕ) (m : ℕ) (good : firstRefused (entryCheck p entryWords a) m ≡ Good) where
@@ -76,10 +78,19 @@ module _ (s : List ℕ) (n : ℕ) (a : List ℕ) (m k : ℕ) (r : Ready s n a m 
         ∙ (ap (valueOf quad (given a m) (value quad (given a m) (nodes s n))) (sym (at-nodes s n i h))
         ∙ sym (value-at quad (given a m) (Within p) (nodes s n) well-formed i (omega (arith, length-nodes s n)))))
 
-    pub filled-more : (v : QuadFelt) → v ≡ valueOf quad (given a m) (elementAt c0 c1) (recordAt s i) → Filled s n a m (set c0 i (v .c0)) (set c1 i (v .c1)) (i + 1)
+    pub filled-more : (v : QuadFelt) (d0 d1 : List ℕ) → Element v ≡ recordAnswer a m (elementAt c0 c1) (recordAt s i) → d0 ≡ set c0 i (v .c0) → d1 ≡ set c1 i (v .c1)
+        → Filled s n a m d0 d1 (i + 1)
     unfolding elementAt
-    filled-more v e =
-        rw (add-one i)
+    filled-more v d0 d1 e e0 e1 =
+        rw (add-one i, e0, e1)
         (below-suc-elim (λ j. elementAt (set c0 i (v .c0)) (set c1 i (v .c1)) j ≡ value quad (given a m) (nodes s n) j) i
         (λ j q. ap₂ new (getD-set-other c0 i j (v .c0) 0 (omega arith)) (getD-set-other c1 i j (v .c1) 0 (omega arith)) ∙ f j q)
-        (ap₂ new (getD-set-same c0 i (v .c0) 0 (omega arith)) (getD-set-same c1 i (v .c1) 0 (omega arith)) ∙ valued v e))
+        (ap₂ new (getD-set-same c0 i (v .c0) 0 (omega arith)) (getD-set-same c1 i (v .c1) 0 (omega arith)) ∙ valued v (answered a m (elementAt c0 c1) (recordAt s i) v e .1)))
+
+  -- the inputs up to place i have entries
+  module _ (v : ℕ → QuadFelt) (i : ℕ) (h : i < n) (before : inputsCheck (entryOf entryWords a m) (nodes s n) i ≡ Good) where
+    pub input-more : (w : QuadFelt) → Element w ≡ recordAnswer a m v (recordAt s i) → inputsCheck (entryOf entryWords a m) (nodes s n) (i + 1) ≡ Good
+    input-more w e = an-entry (entryOf entryWords a m) s n i (recordAt s i) h before refl (answered a m v (recordAt s i) w e .0)
+
+    pub input-none : Absent ≡ recordAnswer a m v (recordAt s i) → Refused (Unassigned i) ≡ inputsCheck (entryOf entryWords a m) (nodes s n) n
+    input-none e = no-entry (entryOf entryWords a m) s n i (recordAt s i) h before refl (unanswered a m v (recordAt s i) e)

@@ -5,13 +5,17 @@ use dag::NodeKind;
 use dag::Refusal;
 use field::QuadFelt;
 ghost use mathlib.Core.Path.{_≡_};
-ghost use Prim.Native.Nat.{_+_, _*_, _-_, _<_, _≤_};
-ghost use lib.ListN.{length};
+ghost use Prim.Native.Nat.{_+_, _*_, _-_, _^_, _<_, _≤_};
+ghost use lib.ListN.{length, set};
 ghost use Rattle.field.specs.Field.{p, quad};
 ghost use Rattle.dag.specs.Nodes as Nodes;
+ghost use Rattle.dag.specs.Refusals.{_then_};
+ghost use Rattle.dag.specs.Check.{listCheck};
+ghost use Rattle.index.specs.Index as Index;
 ghost use Rattle.meaning.specs.Values as Values;
 ghost use Rattle.evaluate.specs.Entries.{Lent};
 ghost use Rattle.evaluate.specs.Entries as Entries;
+ghost use Rattle.evaluate.specs.KeyIndex as KeyIndex;
 ghost use Rattle.evaluate.specs.Calls as Calls;
 ghost use Rattle.evaluate.specs.Asked as Asked;
 
@@ -25,6 +29,17 @@ pub const ENTRY_WORDS: usize = 3;
 pub enum Evaluated {
     Value(QuadFelt),
     Refused(Refusal),
+}
+
+// The sizes of the stores that lists and assignments of up to so many are evaluated in.
+const SMALL: usize = 64;
+
+const MIDDLE: usize = 512;
+
+// A record's value; none for an input whose key has no entry.
+pub enum Assigned {
+    Element(QuadFelt),
+    Absent,
 }
 
 // The key number of entry i.
@@ -95,8 +110,43 @@ pub fn entries_check(entries: &[u64], width: usize, m: usize) -> Checked
     first_bad_entry(entries, width, m)
 }
 
-// The last entry of a key among the first m.
-pub fn entry_of(entries: &[u64], width: usize, m: usize, key: u64) -> Found
+// The larger of two counts.
+fn larger(a: usize, b: usize) -> usize
+    ensures { λ r. ⌜ (a ≤ r) × (b ≤ r) × (r ≤ a + b) ⌝ }
+{
+    if a < b { b } else { a }
+}
+
+// The bucket of a key among so many.
+fn key_bucket(buckets: usize, key: u64) -> usize
+    requires { ⌜ (0 < buckets) × (buckets ≤ 2 ^ 32) ⌝ }
+    ensures { λ r. ⌜ (r ≡ KeyIndex.keyBucket buckets key) × (r < buckets) ⌝ }
+{
+    index::bucket_of(buckets, index::hash(0, key, 0))
+}
+
+// Notes entry i in the bucket of its key.
+fn note_key(entries: &[u64], width: usize, i: usize, links: &mut [u64])
+    requires { ⌜ KeyIndex.Keyed width (now entries) i (now links) × (i < Index.half (now links)) × (width * i < length (now entries)) ⌝ }
+    ensures { λ _. ⌜ KeyIndex.Keyed width (now (entries .entry)) (i + 1) (now (links .exit)) ⌝ }
+{
+    index::note(links, i, 0, key_at(entries, width, i), 0);
+}
+
+// Indexes the first m entries by their keys, in links that index none.
+fn index_keys(entries: &[u64], width: usize, m: usize, links: &mut [u64])
+    requires { ⌜ Lent width (now entries) m × KeyIndex.Keyed width (now entries) 0 (now links) × (m ≤ Index.half (now links)) ⌝ }
+    ensures { λ _. ⌜ KeyIndex.Keyed width (now (entries .entry)) m (now (links .exit)) ⌝ }
+{
+    let mut i = 0;
+    while i < m {
+        note_key(entries, width, i, links);
+        i += 1;
+    }
+}
+
+// The last entry of a key among the first m, by the plain search.
+fn entry_search(entries: &[u64], width: usize, m: usize, key: u64) -> Found
     requires { ⌜ Lent width (now entries) m ⌝ }
     ensures { λ r. ⌜ r ≡ Entries.entryOf width (now (entries .entry)) m key ⌝ }
 {
@@ -111,54 +161,40 @@ pub fn entry_of(entries: &[u64], width: usize, m: usize, key: u64) -> Found
     Found::Missing
 }
 
-// Whether something was found.
-fn is_found(f: Found) -> bool
-    ensures { λ r. ⌜ r ≡ Entries.isFound f ⌝ }
+// The same along the key's bucket; behind many others of the bucket by the plain search.
+fn entry_of(entries: &[u64], width: usize, m: usize, links: &[u64], key: u64) -> Found
+    requires { ⌜ Lent width (now entries) m × KeyIndex.Keyed width (now entries) m (now links) ⌝ }
+    ensures { λ r. ⌜ r ≡ Entries.entryOf width (now (entries .entry)) m key ⌝ }
 {
-    match f {
-        Found::At(_) => true,
-        Found::Missing => false,
-    }
-}
-
-// Whether x is no input, or its key has an entry.
-fn has_entry(x: NodeKind, entries: &[u64], width: usize, m: usize) -> bool
-    requires { ⌜ Lent width (now entries) m ⌝ }
-    ensures { λ r. ⌜ r ≡ Entries.hasEntry (Entries.entryOf width (now (entries .entry)) m) x ⌝ }
-{
-    match x {
-        NodeKind::Input(k) => is_found(entry_of(entries, width, m, k)),
-        _ => true,
-    }
-}
-
-// The first input among the first n records whose key has no entry: 12.
-pub fn inputs_check(list: &[u64], n: usize, entries: &[u64], width: usize, m: usize) -> Checked
-    requires { ⌜ (3 * n ≤ length (now list)) × Lent width (now entries) m ⌝ }
-    ensures { λ r. ⌜ r ≡ Entries.inputsCheck (Entries.entryOf width (now (entries .entry)) m) (Nodes.nodes (now (list .entry)) n) n ⌝ }
-{
-    let mut i = 0;
-    while i < n {
-        if !has_entry(dag::node_at(list, i), entries, width, m) {
-            return Checked::Refused(Refusal::Unassigned(i));
+    let half = links.len() / 2;
+    let mut link = links[key_bucket(half, key)];
+    let mut steps = 0;
+    while 0 < link {
+        if index::MOST_STEPS <= steps {
+            return entry_search(entries, width, link as usize, key);
         }
-        i += 1;
+        let i = (link - 1) as usize;
+        if key_at(entries, width, i) == key {
+            return Found::At(i);
+        }
+        link = links[half + i];
+        steps += 1;
     }
-    Checked::Good
+    Found::Missing
 }
 
-// The element that an assignment gives a key: that of its last entry, 0 where it has none.
-fn given(assignment: &[u64], m: usize, key: u64) -> QuadFelt
-    requires { ⌜ Lent Calls.entryWords (now assignment) m ⌝ }
-    ensures { λ r. ⌜ r ≡ Calls.given (now (assignment .entry)) m key ⌝ }
+// The element that an assignment gives a key: that of its last entry.
+fn given(assignment: &[u64], m: usize, links: &[u64], key: u64) -> Assigned
+    requires { ⌜ Lent Calls.entryWords (now assignment) m × KeyIndex.Keyed Calls.entryWords (now assignment) m (now links) ⌝ }
+    ensures { λ r. ⌜ r ≡ Asked.assigned (Entries.isFound (Entries.entryOf Calls.entryWords (now (assignment .entry)) m key)) (Calls.given (now (assignment .entry)) m key) ⌝ }
 {
-    let found = entry_of(assignment, ENTRY_WORDS, m, key);
+    let found = entry_of(assignment, ENTRY_WORDS, m, links, key);
     match found {
-        Found::At(i) => QuadFelt {
+        Found::At(i) => Assigned::Element(QuadFelt {
             c0: assignment[ENTRY_WORDS * i + 1],
             c1: assignment[ENTRY_WORDS * i + 2],
-        },
-        Found::Missing => QuadFelt::ZERO,
+        }),
+        Found::Missing => Assigned::Absent,
     }
 }
 
@@ -179,72 +215,156 @@ fn value_of(
     i: usize,
     assignment: &[u64],
     m: usize,
+    links: &[u64],
     c0: &[u64],
     c1: &[u64],
-) -> QuadFelt
-    requires { ⌜ Asked.Valued (now list) i (now c0) (now c1) × Lent Calls.entryWords (now assignment) m ⌝ }
-    ensures { λ r. ⌜ r ≡ Values.valueOf quad (Calls.given (now (assignment .entry)) m) (Asked.elementAt (now (c0 .entry)) (now (c1 .entry))) (Nodes.recordAt (now (list .entry)) i) ⌝ }
+) -> Assigned
+    requires { ⌜ Asked.Valued (now list) i (now c0) (now c1) ⌝ }
+    requires { ⌜ Lent Calls.entryWords (now assignment) m × KeyIndex.Keyed Calls.entryWords (now assignment) m (now links) ⌝ }
+    ensures { λ r. ⌜ r ≡ Asked.recordAnswer (now (assignment .entry)) m (Asked.elementAt (now (c0 .entry)) (now (c1 .entry))) (Nodes.recordAt (now (list .entry)) i) ⌝ }
 {
     let x = dag::node_at(list, i);
     match x {
-        NodeKind::Input(k) => given(assignment, m, k),
-        NodeKind::Constant(c) => c,
-        NodeKind::Add(a, b) => element_at(c0, c1, a).add(element_at(c0, c1, b)),
-        NodeKind::Sub(a, b) => element_at(c0, c1, a).sub(element_at(c0, c1, b)),
-        NodeKind::Mul(a, b) => element_at(c0, c1, a).mul(element_at(c0, c1, b)),
-        NodeKind::Neg(a) => element_at(c0, c1, a).neg(),
+        NodeKind::Input(k) => given(assignment, m, links, k),
+        NodeKind::Constant(c) => Assigned::Element(c),
+        NodeKind::Add(a, b) => {
+            Assigned::Element(element_at(c0, c1, a).add(element_at(c0, c1, b)))
+        }
+        NodeKind::Sub(a, b) => {
+            Assigned::Element(element_at(c0, c1, a).sub(element_at(c0, c1, b)))
+        }
+        NodeKind::Mul(a, b) => {
+            Assigned::Element(element_at(c0, c1, a).mul(element_at(c0, c1, b)))
+        }
+        NodeKind::Neg(a) => Assigned::Element(element_at(c0, c1, a).neg()),
     }
 }
 
-// Fills in the values of the first n records, coordinate by coordinate.
-fn fill_values(list: &[u64], n: usize, assignment: &[u64], m: usize, c0: &mut [u64], c1: &mut [u64])
-    requires { ⌜ Asked.Ready (now list) n (now assignment) m (length (now c0)) ⌝ }
-    requires { ⌜ n ≤ length (now c1) ⌝ }
-    ensures { λ _. ⌜ Asked.Filled (now (list .entry)) n (now (assignment .entry)) m (now (c0 .exit)) (now (c1 .exit)) n ⌝ }
+// Writes the coordinates of v at place i.
+fn put_element(c0: &mut [u64], c1: &mut [u64], i: usize, v: QuadFelt)
+    requires { ⌜ (i < length (now c0)) × (i < length (now c1)) ⌝ }
+    ensures { λ _. ⌜ (now (c0 .exit) ≡ set (now (c0 .entry)) i (v .c0)) × (now (c1 .exit) ≡ set (now (c1 .entry)) i (v .c1)) ⌝ }
+{
+    c0[i] = v.c0;
+    c1[i] = v.c1;
+}
+
+// Fills in the values of the first n records, coordinate by coordinate, up to the first input whose key has no entry: 12.
+fn fill_values(
+    list: &[u64],
+    n: usize,
+    assignment: &[u64],
+    m: usize,
+    links: &[u64],
+    c0: &mut [u64],
+    c1: &mut [u64],
+) -> Checked
+    requires { ⌜ Asked.Ready (now list) n (now assignment) m (length (now c0)) × (n ≤ length (now c1)) ⌝ }
+    requires { ⌜ KeyIndex.Keyed Calls.entryWords (now assignment) m (now links) ⌝ }
+    ensures { λ r. ⌜ r ≡ Entries.inputsCheck (Entries.entryOf Calls.entryWords (now (assignment .entry)) m) (Nodes.nodes (now (list .entry)) n) n ⌝ }
+    ensures { λ r. ⌜ (r ≡ Checked.Good → Asked.Filled (now (list .entry)) n (now (assignment .entry)) m (now (c0 .exit)) (now (c1 .exit)) n) ⌝ }
 {
     let mut i = 0;
     while i < n {
-        let value = value_of(list, i, assignment, m, c0, c1);
-        c0[i] = value.c0;
-        c1[i] = value.c1;
+        let value = value_of(list, i, assignment, m, links, c0, c1);
+        match value {
+            Assigned::Absent => return Checked::Refused(Refusal::Unassigned(i)),
+            Assigned::Element(v) => put_element(c0, c1, i, v),
+        }
         i += 1;
+    }
+    Checked::Good
+}
+
+// Evaluate behind the tests of its words, in stores for the values and the index.
+fn evaluate_in(
+    list: &[u64],
+    n: usize,
+    root: usize,
+    assignment: &[u64],
+    m: usize,
+    c0: &mut [u64],
+    c1: &mut [u64],
+    links: &mut [u64],
+) -> Evaluated
+    requires { ⌜ Asked.Tested (now list) n root (now assignment) m ⌝ }
+    requires { ⌜ Asked.Stores n m (now c0) (now c1) (now links) ⌝ }
+    ensures { λ r. ⌜ r ≡ Calls.evaluateAnswer (now (list .entry)) n root (now (assignment .entry)) m ⌝ }
+{
+    index_keys(assignment, ENTRY_WORDS, m, links);
+    let filled = fill_values(list, n, assignment, m, links, c0, c1);
+    match filled {
+        Checked::Refused(r) => Evaluated::Refused(r),
+        Checked::Good => Evaluated::Value(element_at(c0, c1, root)),
     }
 }
 
-// The value of the record at place root.
-fn root_value(list: &[u64], n: usize, root: usize, assignment: &[u64], m: usize) -> QuadFelt
-    requires { ⌜ Asked.Ready (now list) n (now assignment) m Nodes.mostRecords ⌝ }
-    requires { ⌜ root < n ⌝ }
-    ensures { λ r. ⌜ r ≡ Values.value quad (Calls.given (now (assignment .entry)) m) (Nodes.nodes (now (list .entry)) n) root ⌝ }
+// Evaluate in small stores.
+fn evaluate_small(list: &[u64], n: usize, root: usize, assignment: &[u64], m: usize) -> Evaluated
+    requires { ⌜ Asked.Tested (now list) n root (now assignment) m × (n ≤ 64) × (m ≤ 64) ⌝ }
+    ensures { λ r. ⌜ r ≡ Calls.evaluateAnswer (now (list .entry)) n root (now (assignment .entry)) m ⌝ }
 {
-    let mut c0 = [0u64; dag::MOST_RECORDS];
-    let mut c1 = [0u64; dag::MOST_RECORDS];
-    fill_values(list, n, assignment, m, &mut c0, &mut c1);
-    element_at(&c0, &c1, root)
+    let mut c0 = [0u64; 64];
+    let mut c1 = [0u64; 64];
+    let mut links = [0u64; 128];
+    evaluate_in(list, n, root, assignment, m, &mut c0, &mut c1, &mut links)
 }
 
-// Evaluate's tests.
-fn evaluate_check(list: &[u64], n: usize, root: usize, assignment: &[u64], m: usize) -> Checked
-    ensures { λ r. ⌜ r ≡ Calls.evaluateCheck (now (list .entry)) n root (now (assignment .entry)) m ⌝ }
+// Evaluate in middle stores.
+fn evaluate_middle(list: &[u64], n: usize, root: usize, assignment: &[u64], m: usize) -> Evaluated
+    requires { ⌜ Asked.Tested (now list) n root (now assignment) m × (n ≤ 512) × (m ≤ 512) ⌝ }
+    ensures { λ r. ⌜ r ≡ Calls.evaluateAnswer (now (list .entry)) n root (now (assignment .entry)) m ⌝ }
+{
+    let mut c0 = [0u64; 512];
+    let mut c1 = [0u64; 512];
+    let mut links = [0u64; 1024];
+    evaluate_in(list, n, root, assignment, m, &mut c0, &mut c1, &mut links)
+}
+
+// Evaluate in large stores.
+fn evaluate_large(list: &[u64], n: usize, root: usize, assignment: &[u64], m: usize) -> Evaluated
+    requires { ⌜ Asked.Tested (now list) n root (now assignment) m × (n ≤ 4096) × (m ≤ 4096) ⌝ }
+    ensures { λ r. ⌜ r ≡ Calls.evaluateAnswer (now (list .entry)) n root (now (assignment .entry)) m ⌝ }
+{
+    let mut c0 = [0u64; 4096];
+    let mut c1 = [0u64; 4096];
+    let mut links = [0u64; 8192];
+    evaluate_in(list, n, root, assignment, m, &mut c0, &mut c1, &mut links)
+}
+
+// Evaluate behind the tests of its words, in stores of a fitting size.
+fn evaluate_sized(list: &[u64], n: usize, root: usize, assignment: &[u64], m: usize) -> Evaluated
+    requires { ⌜ Asked.Tested (now list) n root (now assignment) m ⌝ }
+    ensures { λ r. ⌜ r ≡ Calls.evaluateAnswer (now (list .entry)) n root (now (assignment .entry)) m ⌝ }
+{
+    let most = larger(n, m);
+    if most <= SMALL {
+        return evaluate_small(list, n, root, assignment, m);
+    }
+    if most <= MIDDLE {
+        return evaluate_middle(list, n, root, assignment, m);
+    }
+    evaluate_large(list, n, root, assignment, m)
+}
+
+// Evaluate's tests of its words: the list, then the entries.
+fn words_check(list: &[u64], n: usize, root: usize, assignment: &[u64], m: usize) -> Checked
+    ensures { λ r. ⌜ r ≡ (listCheck p (now (list .entry)) n root then Entries.entriesCheck p Calls.entryWords (now (assignment .entry)) m) ⌝ }
 {
     let listed = dag::list_check(list, n, root);
     if dag::is_refused(listed) {
         return listed;
     }
-    let entered = entries_check(assignment, ENTRY_WORDS, m);
-    if dag::is_refused(entered) {
-        return entered;
-    }
-    inputs_check(list, n, assignment, ENTRY_WORDS, m)
+    entries_check(assignment, ENTRY_WORDS, m)
 }
 
 // Evaluate: the root's value under an assignment.
 pub fn evaluate(list: &[u64], n: usize, root: usize, assignment: &[u64], m: usize) -> Evaluated
     ensures { λ r. ⌜ r ≡ Calls.evaluateAnswer (now (list .entry)) n root (now (assignment .entry)) m ⌝ }
 {
-    let checked = evaluate_check(list, n, root, assignment, m);
+    let checked = words_check(list, n, root, assignment, m);
     match checked {
         Checked::Refused(r) => Evaluated::Refused(r),
-        Checked::Good => Evaluated::Value(root_value(list, n, root, assignment, m)),
+        Checked::Good => evaluate_sized(list, n, root, assignment, m),
     }
 }

@@ -47,12 +47,29 @@ product a b = sym (expand (a / base) (a % base) (b / base) (b % base)) ∙ ap₂
     expand : (w x y z : ℕ) → (w * base + x) * (y * base + z) ≡ w * y * 2 ^ 64 + (w * z + x * y) * base + x * z
     expand w x y z = omega arith
 
--- the four products, added with their carries
-pub carried : (hh hl lh ll : ℕ)
-    → (hh + (hl + ll / base) / base + (lh + (hl + ll / base) % base) / base) * 2 ^ 64
-    + ((lh + (hl + ll / base) % base) % base * base + ll % base)
-    ≡ hh * 2 ^ 64 + (hl + lh) * base + ll
-carried hh hl lh ll = omega arith
+-- the high word of the product: the four products, added with their carries
+pub high-carried : (a b : ℕ)
+    → a / base * (b / base)
+    + (a / base * (b % base) + a % base * (b % base) / base) / base
+    + (a % base * (b / base) + (a / base * (b % base) + a % base * (b % base) / base) % base) / base
+    ≡ a * b / 2 ^ 64
+high-carried a b =
+    add-up (a / base * (b / base)) (a / base * (b % base)) (a % base * (b / base)) (a % base * (b % base))
+    ∙ ap (λ (n : ℕ). n / 2 ^ 64) (product a b)
+  where
+    add-up : (hh hl lh ll : ℕ)
+        → hh + (hl + ll / base) / base + (lh + (hl + ll / base) % base) / base ≡ (hh * 2 ^ 64 + (hl + lh) * base + ll) / 2 ^ 64
+    add-up hh hl lh ll = omega arith
+
+-- its low word: the product of the high halves counts 2^64 times
+pub low-carried : (a b cross : ℕ) → cross ≡ (a / base * (b % base) + a % base * (b / base)) % 2 ^ 64
+    → (cross % base * base + a % base * (b % base)) % 2 ^ 64 ≡ a * b % 2 ^ 64
+low-carried a b cross e =
+    add-up (a / base * (b / base)) (a / base * (b % base)) (a % base * (b / base)) (a % base * (b % base)) e
+    ∙ ap (λ (n : ℕ). n % 2 ^ 64) (product a b)
+  where
+    add-up : (hh hl lh ll : ℕ) → cross ≡ (hl + lh) % 2 ^ 64 → (cross % base * base + ll) % 2 ^ 64 ≡ (hh * 2 ^ 64 + (hl + lh) * base + ll) % 2 ^ 64
+    add-up hh hl lh ll e = omega arith
 
 -- p is 2^64 − 2^32 + 1, and p · (2^32 + 1) is 2^96 + 1
 pub folded : (high low t v : ℕ) → t + high / base ≡ low + p * v

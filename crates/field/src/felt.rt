@@ -1,6 +1,6 @@
 // Coordinates: numbers below p, with the operations of the residues modulo p.
 ghost use mathlib.Core.Path.{_≡_};
-ghost use Prim.Native.Nat.{_+_, _*_, _%_, _^_, _≤_, _<_};
+ghost use Prim.Native.Nat.{_+_, _*_, _/_, _%_, _^_, _≤_, _<_};
 ghost use Rattle.ring.specs.Power.{pow};
 ghost use Rattle.field.specs.Field.{felt, p};
 ghost use Rattle.field.specs.Generators.{generator};
@@ -61,20 +61,39 @@ pub struct Wide {
     pub low: u64,
 }
 
-// The whole product, by halves of 32 bits.
-pub fn wide_mul(a: u64, b: u64) -> Wide
-    ensures { λ r. ⌜ r .high * 2 ^ 64 + r .low ≡ a * b ⌝ }
+// The high word of the product: schoolbook multiplication by halves of 32 bits. Apart from the low word, LLVM
+// makes one machine product of it.
+fn high_word(a: u64, b: u64) -> u64
+    ensures { λ r. ⌜ r ≡ a * b / 2 ^ 64 ⌝ }
 {
     let a1 = a / BASE;
     let a0 = a % BASE;
     let b1 = b / BASE;
     let b0 = b % BASE;
-    let low = a0 * b0;
-    let middle = a1 * b0 + low / BASE;
+    let middle = a1 * b0 + a0 * b0 / BASE;
     let cross = a0 * b1 + middle % BASE;
+    a1 * b1 + middle / BASE + cross / BASE
+}
+
+// The low word of the product: the product of the high halves counts 2^64 times.
+fn low_word(a: u64, b: u64) -> u64
+    ensures { λ r. ⌜ r ≡ a * b % 2 ^ 64 ⌝ }
+{
+    let a1 = a / BASE;
+    let a0 = a % BASE;
+    let b1 = b / BASE;
+    let b0 = b % BASE;
+    let cross = std::num::wrapping_add_u64(a1 * b0, a0 * b1);
+    std::num::wrapping_add_u64(cross % BASE * BASE, a0 * b0)
+}
+
+// The whole product.
+pub fn wide_mul(a: u64, b: u64) -> Wide
+    ensures { λ r. ⌜ r .high * 2 ^ 64 + r .low ≡ a * b ⌝ }
+{
     Wide {
-        high: a1 * b1 + middle / BASE + cross / BASE,
-        low: cross % BASE * BASE + low % BASE,
+        high: high_word(a, b),
+        low: low_word(a, b),
     }
 }
 

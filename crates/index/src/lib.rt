@@ -15,20 +15,20 @@ ghost use Rattle.index.specs.Index as Index;
 pub const FEW: usize = 256;
 
 // So many steps a walk along a bucket takes before the plain search is quicker.
-const MOST_STEPS: usize = 8;
+pub const MOST_STEPS: usize = 8;
 
 // 2^32.
 const BASE: u64 = 4294967296;
 
 // The hash of three words.
-fn hash(t: u64, a: u64, b: u64) -> u64
+pub fn hash(t: u64, a: u64, b: u64) -> u64
     ensures { λ r. ⌜ (r ≡ Index.hash t a b) × (r < 2 ^ 32) ⌝ }
 {
     (a % BASE * 1013904243 + a / BASE * 965271753 + b % BASE * 736899889 + t % 8 * 889516853) % BASE
 }
 
 // One of so many buckets by a hash.
-fn bucket_of(buckets: usize, h: u64) -> usize
+pub fn bucket_of(buckets: usize, h: u64) -> usize
     requires { ⌜ (h < 2 ^ 32) × (0 < buckets) × (buckets ≤ 2 ^ 32) ⌝ }
     ensures { λ r. ⌜ (r ≡ Index.bucketOf buckets h) × (r < buckets) ⌝ }
 {

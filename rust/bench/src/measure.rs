@@ -35,7 +35,7 @@ pub fn shown(seconds: f64) -> String {
 }
 
 /// The middle one.
-fn median(mut times: Vec<f64>) -> f64 {
+pub fn median(mut times: Vec<f64>) -> f64 {
     times.sort_by(f64::total_cmp);
     times[times.len() / 2]
 }

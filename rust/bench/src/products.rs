@@ -3,15 +3,22 @@
 use std::hint::black_box;
 use std::time::Instant;
 
-use crate::measure::{Bench, shown};
+use crate::measure::{Bench, median, shown};
 
-#[cfg(feature = "product")]
+#[cfg(products)]
 unsafe extern "C" {
-    safe fn ace_product(a: u64, b: u64) -> u64;
+    /// value · factor^count, below p.
+    safe fn felt_dependent(value: u64, factor: u64, count: u64) -> u64;
+    /// The sum modulo 2^64 of the products of neighbours.
+    fn felt_independent(words: *const u64, length: usize) -> u64;
 }
 
-/// The products of one timing.
-const COUNT: usize = 100_000;
+/// The products of one timing that each take the one before.
+const COUNT: u64 = 100_000;
+
+/// The words whose neighbours are multiplied in one timing, and how often.
+const WORDS: usize = 1_024;
+const REPEATS: usize = 100;
 
 /// By the 128-bit product and its remainder.
 fn remainder(a: u64, b: u64) -> u64 {
@@ -20,51 +27,105 @@ fn remainder(a: u64, b: u64) -> u64 {
 
 /// By the two-step reduction.
 fn reduction(a: u64, b: u64) -> u64 {
-    (oracle::Felt::new(a) * oracle::Felt::new(b)).word()
+    (oracle::Felt::from_lowest(a) * oracle::Felt::from_lowest(b)).word()
 }
 
-/// Seconds of one product, the least of several timings.
-fn least(turns: usize, run: impl Fn() -> u64) -> f64 {
-    let mut best = f64::MAX;
-    for _ in 0..turns {
-        let begun = Instant::now();
-        black_box(run());
-        best = best.min(begun.elapsed().as_secs_f64() / COUNT as f64);
-    }
-    best
+/// By the two-step reduction of a product made of four 32-bit products.
+fn halves(a: u64, b: u64) -> u64 {
+    let ((a1, a0), (b1, b0)) = ((a >> 32, a & 0xffff_ffff), (b >> 32, b & 0xffff_ffff));
+    let low = a0 * b0;
+    let middle = a1 * b0 + (low >> 32);
+    let cross = a0 * b1 + (middle & 0xffff_ffff);
+    let high = a1 * b1 + (middle >> 32) + (cross >> 32);
+    oracle::Felt::of_words(high, cross << 32 | low & 0xffff_ffff).word()
 }
 
-/// Each product takes the one before it.
-fn dependent(product: impl Fn(u64, u64) -> u64) -> u64 {
-    let (mut value, factor) = (black_box(0x1234_5678_9abc_def0), black_box(0xfedc_ba98_7654_3210));
-    for _ in 0..COUNT {
-        value = product(value, factor);
-    }
-    value
+/// Products that each take the one before.
+fn dependent(value: u64, factor: u64, product: impl Fn(u64, u64) -> u64) -> u64 {
+    (0..COUNT).fold(value, |value, _| product(value, factor))
 }
 
-/// Each product is of its own pair.
+/// Products of neighbours, added modulo 2^64.
 fn independent(words: &[u64], product: impl Fn(u64, u64) -> u64) -> u64 {
-    let mut all = 0;
-    for place in 0..COUNT {
-        all ^= product(words[place % 1_024], words[(place + 7) % 1_024]);
+    words.windows(2).fold(0, |sum, pair| sum.wrapping_add(product(pair[0], pair[1])))
+}
+
+/// A way to multiply: its name and both loops.
+struct Way {
+    name: &'static str,
+    dependent: fn(u64, u64) -> u64,
+    independent: fn(&[u64]) -> u64,
+}
+
+/// A way of plain Rust.
+macro_rules! way {
+    ($name:literal, $product:expr) => {
+        Way {
+            name: $name,
+            dependent: |value, factor| dependent(value, factor, $product),
+            independent: |words| independent(words, $product),
+        }
+    };
+}
+
+/// Ours, where libproducts.a is linked, and plain Rust's.
+fn ways() -> Vec<Way> {
+    vec![
+        #[cfg(products)]
+        Way {
+            name: "ours",
+            dependent: |value, factor| felt_dependent(value, factor, COUNT),
+            // SAFETY: the pointer and the length are one slice's.
+            independent: |words| unsafe { felt_independent(words.as_ptr(), words.len()) },
+        },
+        way!("Rust, u128 and %", remainder),
+        way!("Rust, u128, two-step reduction", reduction),
+        way!("Rust, 32-bit halves, two-step reduction", halves),
+    ]
+}
+
+/// The seconds of one product, in either loop.
+fn times(way: &Way, words: &[u64]) -> [f64; 2] {
+    let begun = Instant::now();
+    black_box((way.dependent)(black_box(words[0]), black_box(words[1])));
+    let half = Instant::now();
+    for _ in 0..REPEATS {
+        black_box((way.independent)(black_box(words)));
     }
-    all
+    let one = half.duration_since(begun).as_secs_f64() / COUNT as f64;
+    [one, half.elapsed().as_secs_f64() / (REPEATS * (WORDS - 1)) as f64]
 }
 
-fn row(bench: &Bench, name: &str, product: impl Fn(u64, u64) -> u64 + Copy) {
-    let turns = if bench.quick { 5 } else { 50 };
-    let mut rng = differential::Rng::new(1);
-    let words: Vec<u64> = (0..1_024).map(|_| rng.below(model::field::P)).collect();
-    let one = least(turns, || dependent(product));
-    let many = least(turns, || independent(&words, product));
-    println!("{name:<44} {:>12} {:>12}", shown(one), shown(many));
-}
-
-/// A row for each way to multiply.
+/// A row for each way, timed by turns, with how many times its time ours takes.
 pub fn print(bench: &Bench) {
-    row(bench, "Rust, u128 and %", remainder);
-    row(bench, "Rust, two-step reduction", reduction);
-    #[cfg(feature = "product")]
-    row(bench, "ours", ace_product);
+    println!(
+        "\n{:<44} {:>12} {:>8} {:>12} {:>8}",
+        "a product modulo p", "dependent", "ours by", "independent", "ours by"
+    );
+    let mut rng = differential::Rng::new(1);
+    let words: Vec<u64> = (0..WORDS).map(|_| rng.below(model::field::P)).collect();
+    let ways = ways();
+    let turns = if bench.quick { 51 } else { 501 };
+    let mut taken = vec![[const { Vec::new() }; 2]; ways.len()];
+    for _ in 0..turns {
+        for (way, taken) in ways.iter().zip(&mut taken) {
+            let both = times(way, &words);
+            taken.iter_mut().zip(both).for_each(|(all, one)| all.push(one));
+        }
+    }
+    let medians: Vec<[f64; 2]> = taken.into_iter().map(|both| both.map(median)).collect();
+    for (way, both) in ways.iter().zip(&medians) {
+        let by = |which: usize| match ways[0].name {
+            "ours" => format!("{:.2}", medians[0][which] / both[which]),
+            _ => "–".to_string(),
+        };
+        println!(
+            "{:<44} {:>12} {:>8} {:>12} {:>8}",
+            way.name,
+            shown(both[0]),
+            by(0),
+            shown(both[1]),
+            by(1)
+        );
+    }
 }

@@ -1,6 +1,6 @@
 //! The inverse transform over a subgroup of order 2^k, in O(P log P).
 
-use core::marker::PhantomData;
+use core::cell::RefCell;
 
 use crate::field::TwoAdicField;
 
@@ -10,13 +10,33 @@ pub trait TwoAdicSubgroupDft<F: TwoAdicField> {
     fn idft(&self, values: Vec<F>) -> Vec<F>;
 }
 
-/// The transform by butterflies of two.
-#[derive(Clone, Copy, Debug)]
-pub struct Radix2DFTSmallBatch<F>(PhantomData<F>);
+/// The transform by butterflies of two, which keeps what it works out for a length.
+#[derive(Clone, Debug)]
+pub struct Radix2DFTSmallBatch<F>(RefCell<Option<Plan<F>>>);
 
 impl<F> Default for Radix2DFTSmallBatch<F> {
     fn default() -> Self {
-        Self(PhantomData)
+        Self(RefCell::new(None))
+    }
+}
+
+/// What transforms of one length share.
+#[derive(Clone, Debug)]
+struct Plan<F> {
+    length: usize,
+    /// The powers of the inverse generator below half the length.
+    twiddles: Vec<F>,
+    /// One over the length.
+    scale: F,
+}
+
+impl<F: TwoAdicField> Plan<F> {
+    fn new(length: usize) -> Self {
+        let bits = length.ilog2() as usize;
+        let inverse = F::two_adic_generator(bits).inverse();
+        let powers = core::iter::successors(Some(F::ONE), |&power| Some(power * inverse));
+        let order = (0..bits).fold(F::ONE, |order, _| order + order);
+        Self { length, twiddles: powers.take(length / 2).collect(), scale: order.inverse() }
     }
 }
 
@@ -24,15 +44,18 @@ impl<F: TwoAdicField> TwoAdicSubgroupDft<F> for Radix2DFTSmallBatch<F> {
     fn idft(&self, mut values: Vec<F>) -> Vec<F> {
         let length = values.len();
         assert!(length.is_power_of_two(), "a subgroup's order is a power of two");
+        let mut kept = self.0.borrow_mut();
+        if kept.as_ref().is_none_or(|plan| plan.length != length) {
+            *kept = Some(Plan::new(length));
+        }
+        let Some(plan) = kept.as_ref() else { unreachable!("a plan was made") };
         let bits = length.ilog2() as usize;
         reverse_bits(&mut values, bits);
         for level in 1..=bits {
-            butterflies(&mut values, level);
+            butterflies(&mut values, level, &plan.twiddles);
         }
-        let order = (0..bits).fold(F::ONE, |order, _| order + order);
-        let scale = order.inverse();
         for value in &mut values {
-            *value *= scale;
+            *value *= plan.scale;
         }
         values
     }
@@ -50,16 +73,14 @@ fn reverse_bits<F>(values: &mut [F], bits: usize) {
 }
 
 /// One level: blocks of 2^`level` entries over the inverse generator of that order.
-fn butterflies<F: TwoAdicField>(values: &mut [F], level: usize) {
+fn butterflies<F: TwoAdicField>(values: &mut [F], level: usize, twiddles: &[F]) {
     let half = 1 << (level - 1);
-    let step = F::two_adic_generator(level).inverse();
+    let stride = twiddles.len() / half;
     for block in values.chunks_exact_mut(2 * half) {
         let (low, high) = block.split_at_mut(half);
-        let mut twiddle = F::ONE;
-        for (a, b) in low.iter_mut().zip(high) {
+        for ((a, b), &twiddle) in low.iter_mut().zip(high).zip(twiddles.iter().step_by(stride)) {
             let scaled = *b * twiddle;
             (*a, *b) = (*a + scaled, *a - scaled);
-            twiddle *= step;
         }
     }
 }
@@ -71,12 +92,13 @@ mod tests {
 
     #[test]
     fn coefficients_are_the_sums_of_their_definition() {
-        for bits in 0..=7 {
+        let dft = Radix2DFTSmallBatch::default();
+        for bits in [0, 1, 2, 3, 4, 5, 6, 7, 7, 3] {
             let length = 1usize << bits;
             let values: Vec<Felt> = (0..length as u64).map(|i| Felt::new(i * i * i + 3)).collect();
             let inverse = Felt::two_adic_generator(bits).inverse();
             let scale = Felt::new(length as u64).inverse();
-            let answer = Radix2DFTSmallBatch::default().idft(values.clone());
+            let answer = dft.idft(values.clone());
             let mut step = Felt::ONE;
             for coefficient in answer {
                 let (mut sum, mut power) = (Felt::ZERO, Felt::ONE);

@@ -13,8 +13,18 @@ const EPSILON: u64 = 0xffff_ffff;
 /// u², the square of the extension's generator.
 const U_SQUARED: Felt = Felt(7);
 
-/// The generator of order 2^32, entry 32 of the public Goldilocks table.
-const GENERATOR_32: Felt = Felt(1_753_635_133_440_165_772);
+/// The generators of order 2^0 to 2^32: the last is entry 32 of the public Goldilocks table, each
+/// of the others the square of the next.
+const GENERATORS: [Felt; TWO_ADICITY + 1] = {
+    let mut table = [Felt(1_753_635_133_440_165_772); TWO_ADICITY + 1];
+    let mut bits = TWO_ADICITY;
+    while bits > 0 {
+        bits -= 1;
+        let next = table[bits + 1].0 as u128;
+        table[bits] = Felt(reduce(next * next));
+    }
+    table
+};
 
 /// The greatest power of two that divides p − 1.
 pub const TWO_ADICITY: usize = 32;
@@ -57,30 +67,55 @@ impl Felt {
         Self(word)
     }
 
+    /// The element of a word that is known to be below p.
+    #[inline]
+    pub fn from_lowest(word: u64) -> Self {
+        debug_assert!(word < MODULUS, "a coordinate is below the modulus");
+        Self(word)
+    }
+
+    /// high · 2^64 + low modulo p.
+    #[inline]
+    pub fn of_words(high: u64, low: u64) -> Self {
+        Self(reduce((high as u128) << 64 | low as u128))
+    }
+
     /// The word of this element.
+    #[inline]
     pub fn word(self) -> u64 {
         self.0
     }
 }
 
+/// The sum of two words that is below 2p, modulo p.
+#[inline]
+const fn fold(a: u64, b: u64) -> u64 {
+    let (sum, carry) = a.overflowing_add(b);
+    if carry || sum >= MODULUS { sum.wrapping_add(EPSILON) } else { sum }
+}
+
+/// Marks a branch that is hardly ever taken.
+#[cold]
+const fn rarely() {}
+
 /// A 128-bit number modulo p, by 2^64 = 2^32 − 1 and 2^96 = −1.
 #[inline]
-fn reduce(x: u128) -> u64 {
+const fn reduce(x: u128) -> u64 {
     let (low, high) = (x as u64, (x >> 64) as u64);
     let (difference, borrow) = low.overflowing_sub(high >> 32);
-    let difference = if borrow { difference.wrapping_sub(EPSILON) } else { difference };
-    let (sum, carry) = difference.overflowing_add((high & EPSILON) * EPSILON);
-    let sum = if carry { sum.wrapping_add(EPSILON) } else { sum };
-    if sum >= MODULUS { sum - MODULUS } else { sum }
+    let middle = (high & EPSILON) * EPSILON;
+    if borrow {
+        rarely();
+        return fold(difference.wrapping_sub(EPSILON), middle);
+    }
+    fold(difference, middle)
 }
 
 impl Add for Felt {
     type Output = Self;
     #[inline]
     fn add(self, other: Self) -> Self {
-        let (sum, carry) = self.0.overflowing_add(other.0);
-        let sum = if carry { sum.wrapping_add(EPSILON) } else { sum };
-        Self(if sum >= MODULUS { sum - MODULUS } else { sum })
+        Self(fold(self.0, other.0))
     }
 }
 
@@ -129,7 +164,7 @@ impl Field for Felt {
 impl TwoAdicField for Felt {
     fn two_adic_generator(bits: usize) -> Self {
         assert!(bits <= TWO_ADICITY, "p − 1 has no such power of two");
-        (bits..TWO_ADICITY).fold(GENERATOR_32, |generator, _| generator * generator)
+        GENERATORS[bits]
     }
 }
 

@@ -1,11 +1,12 @@
-use Rattle.evaluate.specs.CallLaws.{may-evaluate, answer-refused, answer-value}
+-- `evaluate::evaluate` meets its contract.
 use Rattle.dag.specs.Told.{told}
+use Rattle.evaluate.specs.CallLaws.{words-refused, words-tested}
 use borrow.Author.Needs.{needs}
 use Rattle.evaluate.proofs.evaluate.Statement.{statement}
 use Rattle.evaluate.proofs.evaluate.Tie as tie
 
-evaluate-check-requires : tie.Need-evaluate-check-requires
-evaluate-check-requires c κs = search needs
+words-check-requires : tie.Need-words-check-requires
+words-check-requires c κs = search needs
 
 enum-known-checked : tie.Need-enum-known-checked
 enum-known-checked c = search needs
@@ -13,22 +14,22 @@ enum-known-checked c = search needs
 enum-told : tie.Need-enum-told
 enum-told c = search needs
 
-root-value-requires : tie.Need-root-value-requires
-root-value-requires c κs = may-evaluate (c .before .before .before .before .before .args .list .now) (c .before .before .before .before .before .args .n) (c .before .before .before .before .before .args .root) (c .before .before .before .before .before .args .assignment .now) (c .before .before .before .before .before .args .m) (told (c .before .before .evaluate-check .ensures) (c .enum-told .given .1))
+evaluate-sized-requires : tie.Need-evaluate-sized-requires
+evaluate-sized-requires c κs = words-tested _ _ _ _ _ (told (c .before .before .words-check .ensures) (c .enum-told .given .1))
 
 returns : tie.Need-returns
-returns c = answer-refused (c .before .before .before .before .before .before .args .list .now) (c .before .before .before .before .before .before .args .n) (c .before .before .before .before .before .before .args .root) (c .before .before .before .before .before .before .args .assignment .now) (c .before .before .before .before .before .before .args .m) _ (told (c .before .before .before .evaluate-check .ensures) (c .before .checked .given .1))
+returns c = words-refused _ _ _ _ _ _ (told (c .before .before .before .words-check .ensures) (c .before .checked .given .1))
 
 returns-2 : tie.Need-returns-2
-returns-2 c = answer-value (c .before .before .before .before .before .before .args .list .now) (c .before .before .before .before .before .before .args .n) (c .before .before .before .before .before .before .args .root) (c .before .before .before .before .before .before .args .assignment .now) (c .before .before .before .before .before .before .args .m) (told (c .before .before .before .evaluate-check .ensures) (c .before .enum-told .given .1)) _ (c .root-value .ensures)
+returns-2 c = search needs
 
 pub evaluate-spec : {M : Type 1} → statement M
 evaluate-spec =
     tie.close
     (tie.spec
-    evaluate-check-requires
+    words-check-requires
     enum-known-checked
     enum-told
-    root-value-requires
+    evaluate-sized-requires
     returns
     returns-2)

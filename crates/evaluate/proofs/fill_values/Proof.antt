@@ -1,53 +1,90 @@
-use Rattle.evaluate.specs.ValueSteps.{may-value, filled-more}
-use Rattle.evaluate.specs.Asked.{Filled}
-use lib.ListN.{length, length-set}
+-- `evaluate::fill_values` meets its contract. The invariant: the inputs before i have entries, and the values before i are filled in.
+use Prim.Native.Nat.{ℕ, _≤_, _-_}
+use mathlib.Core.Path.{_≡_, refl, sym, _∙_, ap}
+use native.Mathlib.Nat.{le-antisymm}
 use native.Mathlib.Omega.{arith}
-use mathlib.Core.Path.{_≡_, refl}
-use Prim.Native.Nat.{_≤_, _-_}
+use borrow.Author.Needs.{needs}
+use lib.ListN.{length}
+use Rattle.dag.specs.Nodes.{nodes}
+use Rattle.dag.specs.Told.{told}
+use Rattle.dag.specs.declared.Checked.the-variants.{Good, Refused}
+use Rattle.dag.specs.declared.Refusal.{Refusal}
+use Rattle.evaluate.specs.Entries.{inputsCheck, firstRefused, entryOf}
+use Rattle.evaluate.specs.Calls.{entryWords}
+use Rattle.evaluate.specs.Asked.{Filled}
+use Rattle.evaluate.specs.ValueSteps.{may-value, filled-more, input-more, input-none}
 use Rattle.evaluate.proofs.fill_values.Statement.{statement}
 use Rattle.evaluate.proofs.fill_values.Tie as tie
 
+-- a refusal is no pass
+never : {A : Type 0} {r : Refusal} → Refused r ≡ Good → A
+never e = let z : _≡_ {A = ℕ} 0 1 = cc in absurd (omega arith)
+
 abbrev Inv-loop : tie.InvT-loop
-Inv-loop list n assignment m c0₀ c1₀ i₀ c0 c1 i = (i ≤ n) × (length c0 ≡ length c0₀) × (length c1 ≡ length c1₀) × Filled list n assignment m c0 c1 i
+Inv-loop list n assignment m links c0₀ c1₀ i₀ c0 c1 i =
+    (i ≤ n) × (length c0 ≡ length c0₀) × (length c1 ≡ length c1₀)
+    × Filled list n assignment m c0 c1 i × (inputsCheck (entryOf entryWords assignment m) (nodes list n) i ≡ Good)
 
 abbrev μ-loop : tie.MeasureT-loop
-μ-loop list n assignment m c0₀ c1₀ i₀ c0 c1 i = n - i
+μ-loop list n assignment m links c0₀ c1₀ i₀ c0 c1 i = n - i
 
 loop-holds : tie.Need-loop-holds Inv-loop μ-loop
-loop-holds c = (omega arith, refl, refl, λ j h. absurd (omega arith))
+unfolding inputsCheck firstRefused
+loop-holds c = (omega arith, refl, refl, (λ j h. absurd (omega arith)), refl)
 
 value-of-requires : tie.Need-value-of-requires Inv-loop μ-loop
-value-of-requires c κs = (may-value (c .before .before .before .before .before .before .before .before .args .list .now) (c .before .before .before .before .before .before .before .before .args .n) (c .before .before .before .before .before .before .before .before .args .assignment .now) (c .before .before .before .before .before .before .before .before .args .m) (length (c .before .before .before .before .before .before .before .before .args .c0 .now)) (c .before .before .before .before .before .before .before .before .pre .0) (c .before .before .before .loop .c0) (c .before .before .before .loop .c1) (c .before .before .before .loop .i) (omega arith) (omega (arith, c .before .before .before .before .before .before .before .before .pre .0 .fits, c .before .before .before .loop .inv .1)) (omega (arith, c .before .before .before .before .before .before .before .before .pre .1, c .before .before .before .loop .inv .2)) (c .before .before .before .loop .inv .3), c .before .before .before .before .before .before .before .before .pre .0 .lent)
+value-of-requires c κs = (
+  may-value _ _ _ _ _ (c .before .before .before .before .before .before .before .before .before .pre .0 .0) _ _ _ (omega arith) (omega (arith, c .before .before .before .before .before .before .before .before .before .pre .0 .0 .fits, c .before .before .before .loop .inv .1)) (omega (arith, c .before .before .before .before .before .before .before .before .before .pre .0 .1, c .before .before .before .loop .inv .2)) (c .before .before .before .loop .inv .3),
+  (c .before .before .before .before .before .before .before .before .before .pre .0 .0 .lent, c .before .before .before .before .before .before .before .before .before .pre .1),
+)
 
-mul-c0 : tie.Need-mul-c0 Inv-loop μ-loop
-mul-c0 c = omega (arith, c .before .before .before .before .before .before .before .before .before .pre .0 .fits, c .before .before .before .before .before .before .before .before .before .good .1 .1 .1 .1 .0)
+enum-told : tie.Need-enum-told Inv-loop μ-loop
+enum-told c = search needs
 
-slice-write-c0 : tie.Need-slice-write-c0 Inv-loop μ-loop
-slice-write-c0 c = omega (arith, c .before .before .before .before .before .before .before .before .before .pre .0 .fits)
+same-length : tie.Need-same-length Inv-loop μ-loop
+same-length c = c .before .before .before .before .before .before .loop .inv .1
 
-mul-c1 : tie.Need-mul-c1 Inv-loop μ-loop
-mul-c1 c = omega (arith, c .before .before .before .before .before .before .before .before .before .pre .0 .fits, c .before .before .before .before .before .before .before .before .before .good .1 .1 .1 .1 .0)
+same-length-2 : tie.Need-same-length-2 Inv-loop μ-loop
+same-length-2 c = c .before .before .before .before .before .before .loop .inv .2
 
-slice-write-c1 : tie.Need-slice-write-c1 Inv-loop μ-loop
-slice-write-c1 c = omega (arith, c .before .before .before .before .before .before .before .before .before .pre .1)
+returns : tie.Need-returns Inv-loop μ-loop
+returns c = (
+  input-none _ _ _ _ _ (c .before .before .before .before .before .before .before .before .before .before .before .before .pre .0 .0) _ _ (omega arith) (c .before .before .before .before .before .before .loop .inv .4) (sym (told (c .before .before .value-of .ensures) (c .enum-told .given .1))),
+  λ e. never e,
+)
+
+enum-known-value : tie.Need-enum-known-value Inv-loop μ-loop
+enum-known-value c = search needs
+
+put-element-requires : tie.Need-put-element-requires Inv-loop μ-loop
+put-element-requires c κs = (omega (arith, c .before .before .before .before .before .before .before .before .before .before .before .before .before .before .before .pre .0 .0 .fits, c .before .before .before .before .before .before .before .before .before .loop .inv .1), omega (arith, c .before .before .before .before .before .before .before .before .before .before .before .before .before .before .before .pre .0 .1, c .before .before .before .before .before .before .before .before .before .loop .inv .2))
 
 add-i : tie.Need-add-i Inv-loop μ-loop
-add-i c = omega (arith, c .before .before .before .before .before .before .before .before .before .pre .0 .fits, c .before .before .before .before .before .before .before .before .before .good .1 .1 .1 .1 .0)
+add-i c = omega arith
 
 loop-less : tie.Need-loop-less Inv-loop μ-loop
 loop-less c = omega arith
 
 loop-again : tie.Need-loop-again Inv-loop μ-loop
-loop-again c = (omega arith, simp length-set (c .before .before .before .before .loop .inv .1), simp length-set (c .before .before .before .before .loop .inv .2), filled-more (c .before .before .before .before .before .before .before .before .before .args .list .now) (c .before .before .before .before .before .before .before .before .before .args .n) (c .before .before .before .before .before .before .before .before .before .args .assignment .now) (c .before .before .before .before .before .before .before .before .before .args .m) (length (c .before .before .before .before .before .before .before .before .before .args .c0 .now)) (c .before .before .before .before .before .before .before .before .before .pre .0) (c .before .before .before .before .loop .c0) (c .before .before .before .before .loop .c1) (c .before .before .before .before .loop .i) (omega arith) (omega (arith, c .before .before .before .before .before .before .before .before .before .pre .0 .fits, c .before .before .before .before .loop .inv .1)) (omega (arith, c .before .before .before .before .before .before .before .before .before .pre .1, c .before .before .before .before .loop .inv .2)) (c .before .before .before .before .loop .inv .3) _ (c .value-of .ensures))
+loop-again c =
+    let e = sym (told (c .before .before .before .before .before .before .before .before .before .before .value-of .ensures) (c .before .before .before .before .before .before .before .before .value .given .1)) in (
+      omega arith,
+      c .before .before .before .before .put-element .kept .0 ∙ c .before .before .before .before .before .before .before .before .before .before .before .before .before .before .loop .inv .1,
+      c .before .before .before .before .put-element .kept .1 .0 ∙ c .before .before .before .before .before .before .before .before .before .before .before .before .before .before .loop .inv .2,
+      filled-more _ _ _ _ _ (c .before .before .before .before .before .before .before .before .before .before .before .before .before .before .before .before .before .before .before .before .pre .0 .0) _ _ _ (omega arith) (omega (arith, c .before .before .before .before .before .before .before .before .before .before .before .before .before .before .before .before .before .before .before .before .pre .0 .0 .fits, c .before .before .before .before .before .before .before .before .before .before .before .before .before .before .loop .inv .1)) (omega (arith, c .before .before .before .before .before .before .before .before .before .before .before .before .before .before .before .before .before .before .before .before .pre .0 .1, c .before .before .before .before .before .before .before .before .before .before .before .before .before .before .loop .inv .2)) (c .before .before .before .before .before .before .before .before .before .before .before .before .before .before .loop .inv .3) _ _ _ e (c .before .before .before .before .put-element .ensures .0) (c .before .before .before .before .put-element .ensures .1),
+      input-more _ _ _ _ _ (c .before .before .before .before .before .before .before .before .before .before .before .before .before .before .before .before .before .before .before .before .pre .0 .0) _ _ (omega arith) (c .before .before .before .before .before .before .before .before .before .before .before .before .before .before .loop .inv .4) _ e,
+    )
 
-same-length : tie.Need-same-length Inv-loop μ-loop
-same-length c = c .before .loop .inv .1
+same-length-3 : tie.Need-same-length-3 Inv-loop μ-loop
+same-length-3 c = c .before .loop .inv .1
 
-same-length-2 : tie.Need-same-length-2 Inv-loop μ-loop
-same-length-2 c = c .before .loop .inv .2
+same-length-4 : tie.Need-same-length-4 Inv-loop μ-loop
+same-length-4 c = c .before .loop .inv .2
 
-returns : tie.Need-returns Inv-loop μ-loop
-returns c = λ j h. c .before .loop .inv .3 j (omega arith)
+returns-2 : tie.Need-returns-2 Inv-loop μ-loop
+returns-2 c =
+    let e = le-antisymm (c .before .loop .inv .0) (c .loop-test .left) in
+    (sym (rw e at (c .before .loop .inv .4)), λ _. rw e at (c .before .loop .inv .3))
 
 pub fill-values-spec : {M : Type 1} → statement M
 fill-values-spec =
@@ -57,13 +94,15 @@ fill-values-spec =
     μ-loop
     loop-holds
     value-of-requires
-    mul-c0
-    slice-write-c0
-    mul-c1
-    slice-write-c1
+    enum-told
+    same-length
+    same-length-2
+    returns
+    enum-known-value
+    put-element-requires
     add-i
     loop-less
     loop-again
-    same-length
-    same-length-2
-    returns)
+    same-length-3
+    same-length-4
+    returns-2)

@@ -1,3 +1,4 @@
+-- `evaluate::given` meets its contract: the element of the entry that is found.
 use Rattle.evaluate.specs.EntryLaws.{entry-inside}
 use Rattle.evaluate.specs.Calls as Calls
 use Rattle.dag.specs.Told.{told}
@@ -7,34 +8,34 @@ use Rattle.evaluate.proofs.given.Statement.{statement}
 use Rattle.evaluate.proofs.given.Tie as tie
 
 entry-of-requires : tie.Need-entry-of-requires
-entry-of-requires c κs = c .before .pre
+entry-of-requires c κs = c .before .before .pre
 
 enum-known-found : tie.Need-enum-known-found
 enum-known-found c = search needs
 
-mul-t7 : tie.Need-mul-t7
-mul-t7 c = omega (arith, entry-inside 3 _ _ _ _ (told (c .before .before .before .entry-of .ensures) (c .before .found .given .1)), c .before .before .before .before .before .pre .room, c .before .before .before .before .before .good .0 .1)
+mul-t8 : tie.Need-mul-t8
+mul-t8 c = omega (arith, entry-inside 3 _ _ _ _ (told (c .before .before .before .entry-of .ensures) (c .before .found .given .1)), c .before .before .before .before .before .before .pre .0 .room, c .before .before .before .before .before .before .good .0 .1)
 
-add-t8 : tie.Need-add-t8
-add-t8 c = omega (arith, entry-inside 3 _ _ _ _ (told (c .before .before .before .entry-of .ensures) (c .before .found .given .1)), c .before .before .before .before .before .pre .room, c .before .before .before .before .before .good .0 .1)
+add-t9 : tie.Need-add-t9
+add-t9 c = omega (arith, entry-inside 3 _ _ _ _ (told (c .before .before .before .entry-of .ensures) (c .before .found .given .1)), c .before .before .before .before .before .before .pre .0 .room, c .before .before .before .before .before .before .good .0 .1)
 
-mul-t9 : tie.Need-mul-t9
-mul-t9 c = omega (arith, entry-inside 3 _ _ _ _ (told (c .before .before .before .entry-of .ensures) (c .before .found .given .1)), c .before .before .before .before .before .pre .room, c .before .before .before .before .before .good .0 .1)
+mul-t10 : tie.Need-mul-t10
+mul-t10 c = omega (arith, entry-inside 3 _ _ _ _ (told (c .before .before .before .entry-of .ensures) (c .before .found .given .1)), c .before .before .before .before .before .before .pre .0 .room, c .before .before .before .before .before .before .good .0 .1)
 
-shared-slice-read-t11 : tie.Need-shared-slice-read-t11
-shared-slice-read-t11 c = omega (arith, entry-inside 3 _ _ _ _ (told (c .before .before .before .before .entry-of .ensures) (c .before .before .found .given .1)), c .before .before .before .before .before .before .pre .room, c .before .before .before .before .before .before .good .0 .1)
+shared-slice-read-t12 : tie.Need-shared-slice-read-t12
+shared-slice-read-t12 c = omega (arith, entry-inside 3 _ _ _ _ (told (c .before .before .before .before .entry-of .ensures) (c .before .before .found .given .1)), c .before .before .before .before .before .before .before .pre .0 .room, c .before .before .before .before .before .before .before .good .0 .1)
 
-mul-t12 : tie.Need-mul-t12
-mul-t12 c = omega (arith, entry-inside 3 _ _ _ _ (told (c .before .before .before .before .entry-of .ensures) (c .before .before .found .given .1)), c .before .before .before .before .before .before .pre .room, c .before .before .before .before .before .before .good .0 .1)
+mul-t13 : tie.Need-mul-t13
+mul-t13 c = omega (arith, entry-inside 3 _ _ _ _ (told (c .before .before .before .before .entry-of .ensures) (c .before .before .found .given .1)), c .before .before .before .before .before .before .before .pre .0 .room, c .before .before .before .before .before .before .before .good .0 .1)
 
-add-t13 : tie.Need-add-t13
-add-t13 c = omega (arith, entry-inside 3 _ _ _ _ (told (c .before .before .before .before .entry-of .ensures) (c .before .before .found .given .1)), c .before .before .before .before .before .before .pre .room, c .before .before .before .before .before .before .good .0 .1)
+add-t14 : tie.Need-add-t14
+add-t14 c = omega (arith, entry-inside 3 _ _ _ _ (told (c .before .before .before .before .entry-of .ensures) (c .before .before .found .given .1)), c .before .before .before .before .before .before .before .pre .0 .room, c .before .before .before .before .before .before .before .good .0 .1)
 
-mul-t14 : tie.Need-mul-t14
-mul-t14 c = omega (arith, entry-inside 3 _ _ _ _ (told (c .before .before .before .before .entry-of .ensures) (c .before .before .found .given .1)), c .before .before .before .before .before .before .pre .room, c .before .before .before .before .before .before .good .0 .1)
+mul-t15 : tie.Need-mul-t15
+mul-t15 c = omega (arith, entry-inside 3 _ _ _ _ (told (c .before .before .before .before .entry-of .ensures) (c .before .before .found .given .1)), c .before .before .before .before .before .before .before .pre .0 .room, c .before .before .before .before .before .before .before .good .0 .1)
 
-shared-slice-read-t16 : tie.Need-shared-slice-read-t16
-shared-slice-read-t16 c = omega (arith, entry-inside 3 _ _ _ _ (told (c .before .before .before .before .before .entry-of .ensures) (c .before .before .before .found .given .1)), c .before .before .before .before .before .before .before .pre .room, c .before .before .before .before .before .before .before .good .0 .1)
+shared-slice-read-t17 : tie.Need-shared-slice-read-t17
+shared-slice-read-t17 c = omega (arith, entry-inside 3 _ _ _ _ (told (c .before .before .before .before .before .entry-of .ensures) (c .before .before .before .found .given .1)), c .before .before .before .before .before .before .before .before .pre .0 .room, c .before .before .before .before .before .before .before .before .good .0 .1)
 
 enum-told : tie.Need-enum-told
 enum-told c = search needs
@@ -53,14 +54,14 @@ given-spec =
     (tie.spec
     entry-of-requires
     enum-known-found
-    mul-t7
-    add-t8
-    mul-t9
-    shared-slice-read-t11
-    mul-t12
-    add-t13
-    mul-t14
-    shared-slice-read-t16
+    mul-t8
+    add-t9
+    mul-t10
+    shared-slice-read-t12
+    mul-t13
+    add-t14
+    mul-t15
+    shared-slice-read-t17
     enum-told
     returns
     returns-2)

@@ -1,0 +1,67 @@
+-- `evaluate::evaluate_in` meets its contract: the inputs pass or refuse, and the root has its value.
+use mathlib.Core.Path.{_∙_}
+use native.Mathlib.Omega.{arith}
+use lib.ListN.{length}
+use Rattle.dag.specs.Told.{told}
+use Rattle.evaluate.specs.CallLaws.{root-inside, may-fill, inputs-refused, inputs-value}
+use Rattle.evaluate.specs.KeyIndexLaws.{keyed-none}
+use borrow.Author.Needs.{needs}
+use Rattle.evaluate.proofs.evaluate_in.Statement.{statement}
+use Rattle.evaluate.proofs.evaluate_in.Tie as tie
+
+index-keys-requires : tie.Need-index-keys-requires
+index-keys-requires c κs = (may-fill _ _ _ _ _ (c .before .before .before .before .before .before .pre .0) (length (c .before .before .before .before .before .before .args .c0 .now)) (c .before .before .before .before .before .before .pre .1 .first) .lent, keyed-none _ _ _ (c .before .before .before .before .before .before .pre .1 .usable) (c .before .before .before .before .before .before .pre .1 .empty), c .before .before .before .before .before .before .pre .1 .entries)
+
+fill-values-requires : tie.Need-fill-values-requires
+fill-values-requires c κs = ((may-fill _ _ _ _ _ (c .before .before .before .before .before .before .before .before .before .before .before .before .pre .0) _ (c .before .before .before .before .before .before .before .before .before .before .before .before .pre .1 .first), c .before .before .before .before .before .before .before .before .before .before .before .before .pre .1 .second), c .before .before .before .before .before .index-keys .ensures)
+
+enum-known-filled : tie.Need-enum-known-filled
+enum-known-filled c = search needs
+
+enum-told : tie.Need-enum-told
+enum-told c = search needs
+
+element-at-requires : tie.Need-element-at-requires
+element-at-requires c κs = let h = root-inside _ _ _ _ _ (c .before .before .before .before .before .before .before .before .before .before .before .before .before .before .before .before .before .before .before .before .before .pre .0) in (omega (arith, h, c .before .before .before .before .before .before .before .before .before .before .before .before .before .before .before .before .before .before .before .before .before .pre .1 .first, c .before .before .before .before .before .before .before .before .fill-values .kept), omega (arith, h, c .before .before .before .before .before .before .before .before .before .before .before .before .before .before .before .before .before .before .before .before .before .pre .1 .second, c .before .before .before .before .before .before .before .before .fill-values .kept))
+
+same-length : tie.Need-same-length
+same-length c = search needs
+
+same-length-2 : tie.Need-same-length-2
+same-length-2 c = search needs
+
+same-length-3 : tie.Need-same-length-3
+same-length-3 c = search needs
+
+returns : tie.Need-returns
+returns c = inputs-refused _ _ _ _ _ (c .before .before .before .before .before .before .before .before .before .before .before .before .before .before .before .before .before .before .before .before .pre .0) _ (told (c .before .before .before .before .before .before .before .fill-values .ensures .0) (c .before .filled .given .1))
+
+same-length-4 : tie.Need-same-length-4
+same-length-4 c = search needs
+
+same-length-5 : tie.Need-same-length-5
+same-length-5 c = search needs
+
+same-length-6 : tie.Need-same-length-6
+same-length-6 c = search needs
+
+returns-2 : tie.Need-returns-2
+returns-2 c = inputs-value _ _ _ _ _ (c .before .before .before .before .before .before .before .before .before .before .before .before .before .before .before .before .before .before .before .before .before .before .pre .0) (told (c .before .before .before .before .before .before .before .before .before .fill-values .ensures .0) (c .before .before .before .enum-told .given .1)) _ (c .element-at .ensures ∙ c .before .before .before .before .before .before .before .before .before .fill-values .ensures .1 (c .before .before .before .enum-told .given .1) _ (root-inside _ _ _ _ _ (c .before .before .before .before .before .before .before .before .before .before .before .before .before .before .before .before .before .before .before .before .before .before .pre .0)))
+
+pub evaluate-in-spec : {M : Type 1} → statement M
+evaluate-in-spec =
+    tie.close
+    (tie.spec
+    index-keys-requires
+    fill-values-requires
+    enum-known-filled
+    enum-told
+    element-at-requires
+    same-length
+    same-length-2
+    same-length-3
+    returns
+    same-length-4
+    same-length-5
+    same-length-6
+    returns-2)

@@ -1,0 +1,31 @@
+-- `evaluate::evaluate_small` meets its contract.
+use native.Mathlib.Omega.{arith}
+use Rattle.evaluate.specs.KeyIndexLaws.{all-zero}
+use borrow.Author.Needs.{needs}
+use Rattle.evaluate.proofs.evaluate_small.Statement.{statement}
+use Rattle.evaluate.proofs.evaluate_small.Tie as tie
+
+slice-aggregate-evaluate-in : tie.Need-slice-aggregate-evaluate-in
+slice-aggregate-evaluate-in c = search needs
+
+slice-aggregate-evaluate-in-2 : tie.Need-slice-aggregate-evaluate-in-2
+slice-aggregate-evaluate-in-2 c = search needs
+
+slice-aggregate-evaluate-in-3 : tie.Need-slice-aggregate-evaluate-in-3
+slice-aggregate-evaluate-in-3 c = search needs
+
+evaluate-in-requires : tie.Need-evaluate-in-requires
+evaluate-in-requires c κs = (c .before .before .before .before .before .pre .0, record { first = c .before .before .before .before .before .pre .1; second = c .before .before .before .before .before .pre .1; usable = record { some = omega arith; few = omega arith }; entries = c .before .before .before .before .before .pre .2; empty = λ k. all-zero 128 k })
+
+returns : tie.Need-returns
+returns c = search needs
+
+pub evaluate-small-spec : {M : Type 1} → statement M
+evaluate-small-spec =
+    tie.close
+    (tie.spec
+    slice-aggregate-evaluate-in
+    slice-aggregate-evaluate-in-2
+    slice-aggregate-evaluate-in-3
+    evaluate-in-requires
+    returns)
