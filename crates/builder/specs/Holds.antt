@@ -32,13 +32,6 @@ rename-agree Low m k i (Sub a b) f h = ap₂ Sub (h a (f .0)) (h b (f .1))
 rename-agree Low m k i (Mul a b) f h = ap₂ Mul (h a (f .0)) (h b (f .1))
 rename-agree Low m k i (Neg a) f h = ap Neg (h a f)
 
--- what is known of x, said of what x is
-pub fine-as : (n : ℕ) {x y : NodeKind} → x ≡ y → Fine Below n x → Fine Below n y
-fine-as n e f = subst (λ (z : NodeKind). Fine Below n z) e f
-
-pub renamed-as : {x y z : NodeKind} (m : ℕ → ℕ) → x ≡ y → z ≡ rename m y → z ≡ rename m x
-renamed-as m e h = rw e h
-
 -- the places that a map store holds
 abbrev pub read : List ℕ → ℕ → ℕ
 read map j = getD map j 0

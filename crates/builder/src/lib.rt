@@ -12,7 +12,6 @@ ghost use lib.ListN.{length, getD};
 ghost use Rattle.field.specs.Field.{p, quad, Below};
 ghost use Rattle.dag.specs.Nodes as Nodes;
 ghost use Rattle.dag.specs.Store as Store;
-ghost use Rattle.dag.specs.WellFormed as Well;
 ghost use Rattle.index.specs.Index.{half, Usable, NodeIndex};
 ghost use Rattle.builder.specs.Steps as Steps;
 ghost use Rattle.builder.specs.Contracts as Said;
@@ -383,29 +382,6 @@ pub fn step(list: &mut [u64], n: usize, tag: u64, first: u64, second: u64) -> St
     }
 }
 
-// The result place of an earlier request.
-pub fn mapped(map: &[u64], i: usize) -> usize
-    requires { ⌜ i < length (now map) ⌝ }
-    ensures { λ r. ⌜ r ≡ Held.read (now (map .entry)) i ⌝ }
-{
-    map[i] as usize
-}
-
-// A record with the result places of its operands.
-pub fn renamed(map: &[u64], x: NodeKind) -> NodeKind
-    requires { ⌜ Well.Fine Below (length (now map)) x ⌝ }
-    ensures { λ r. ⌜ r ≡ Nodes.rename (Held.read (now (map .entry))) x ⌝ }
-{
-    match x {
-        NodeKind::Input(k) => NodeKind::Input(k),
-        NodeKind::Constant(v) => NodeKind::Constant(v),
-        NodeKind::Add(a, b) => NodeKind::Add(mapped(map, a), mapped(map, b)),
-        NodeKind::Sub(a, b) => NodeKind::Sub(mapped(map, a), mapped(map, b)),
-        NodeKind::Mul(a, b) => NodeKind::Mul(mapped(map, a), mapped(map, b)),
-        NodeKind::Neg(a) => NodeKind::Neg(mapped(map, a)),
-    }
-}
-
 // Replays the requests one after the other into an empty list; answers its count.
 fn replay(list: &[u64], n: usize, result: &mut [u64], map: &mut [u64], links: &mut [u64]) -> usize
     requires { ⌜ Store.Sound p (now list) n × (3 * n ≤ length (now result)) × (n ≤ length (now map)) × Usable (now links) × (n ≤ half (now links)) ⌝ }
@@ -415,7 +391,7 @@ fn replay(list: &[u64], n: usize, result: &mut [u64], map: &mut [u64], links: &m
     let mut count = 0;
     let mut i = 0;
     while i < n {
-        let x = renamed(map, dag::node_at(list, i));
+        let x = dag::renamed(map, dag::node_at(list, i));
         let entered = push(result, count, links, x);
         map[i] = entered.place as u64;
         count = entered.count;
@@ -464,7 +440,7 @@ fn build_with(
     dag::blank_from(map, n);
     BuildAnswer::Done {
         count,
-        root: mapped(map, root),
+        root: dag::mapped(map, root),
     }
 }
 
@@ -479,8 +455,8 @@ fn build_ready(
     requires { ⌜ BuildLaws.Ready (now list) n root (length (now result)) (length (now map)) ⌝ }
     ensures { λ r. ⌜ BuildLaws.Finished (Steps.replay quad (Nodes.nodes (now (list .entry)) n) n) root (now (result .entry)) (now (map .entry)) r (now (result .exit)) (now (map .exit)) ⌝ }
 {
-    if n <= index::FEW {
-        let mut few = [0u64; 2 * index::FEW];
+    if n <= dag::FEW_RECORDS {
+        let mut few = [0u64; 2 * dag::FEW_RECORDS];
         return build_with(list, n, root, result, map, &mut few);
     }
     let mut links = [0u64; 2 * dag::MOST_RECORDS];

@@ -8,7 +8,7 @@ use borrow.Author.Tests.{leb-true}
 use lib.Dec.{leb}
 use lib.ListN.{getD, length, take, drop, replicate}
 use Rattle.field.specs.Field.{p}
-use Rattle.dag.specs.Nodes.{nodes, blank}
+use Rattle.dag.specs.Nodes.{mostRecords, nodes, blank}
 use Rattle.dag.specs.NodeLaws.{length-nodes}
 use Rattle.dag.specs.Refusals.{need}
 use Rattle.dag.specs.Check.{listCheck}
@@ -24,7 +24,7 @@ use Rattle.compact.specs.Operands.{one-below}
 use Rattle.compact.specs.ArrayLaws.{Same, sweep-same, rank-same, kept-same, getD-ranks}
 use Rattle.compact.specs.CompactLaws.{compact-length, compact-short}
 use Rattle.compact.specs.Written.{written, length-written, written-filled}
-use Rattle.compact.specs.Asked.{mostMarks, Markable, Writing}
+use Rattle.compact.specs.Asked.{Markable, Writing}
 use Rattle.compact.specs.Calls.{compacted, keptOf, compactCheck, compactAnswer, compactResult}
 use Rattle.compact.specs.declared.Kept.{Kept}
 use Rattle.compact.specs.declared.Compacted.the-variants.{Done, Refused}
@@ -87,7 +87,7 @@ module _ (s : List ℕ) (n root : ℕ) (result : List ℕ) where
         let h = leb-true (3 * n) (length result) (need-good (leb (3 * n) (length result)) StoreTooShort (tests .1)) in
         omega (arith, compact-short (nodes s n) (root ∷ []), length-nodes s n)
 
-    pub may-compact : Markable s n root mostMarks × (3 * length (compacted s n root .list) ≤ length result)
+    pub may-compact : Markable s n root mostRecords × (3 * length (compacted s n root .list) ≤ length result)
     may-compact =
         let h = rooted p s n root (tests .0) in
         (record { sound = h .list .sound; inside = h .inside; fits = omega (arith, h .list .most) }, room)

@@ -12,7 +12,8 @@ use Rattle.dag.specs.NodeLaws.{at-nodes}
 use Rattle.dag.specs.CheckLaws.{Within}
 use Rattle.dag.specs.Store.{Sound, put}
 use Rattle.dag.specs.StoreLaws.{sound-well-formed}
-use Rattle.dag.specs.WellFormed.{WellFormed}
+use Rattle.dag.specs.WellFormed.{Any, Fine, WellFormed}
+use Rattle.dag.specs.WellFormedLaws.{fine-mono, fine-any}
 use Rattle.dag.specs.declared.NodeKind.{NodeKind}
 use Rattle.compact.specs.Reach.{marked, sweep}
 use Rattle.compact.specs.Compact.{rank, kept}
@@ -28,6 +29,13 @@ unfolding WellFormed
 operands-inside s n i k x sound h long e =
     rw (e, ← at-nodes s n i h)
     λ j q. let b = operands-below (Within p) i (at (nodes s n) i) (sound-well-formed p s n sound i) j q in omega arith
+
+-- so may the record stand behind them
+pub record-fine : (s : List ℕ) (n i k : ℕ) (x : NodeKind) → Sound p s n → i < n → n ≤ k → x ≡ recordAt s i → Fine Any k x
+unfolding WellFormed
+record-fine s n i k x sound h long e =
+    rw (e, ← at-nodes s n i h)
+    (fine-any (Within p) k (at (nodes s n) i) (fine-mono (Within p) i k (at (nodes s n) i) (omega arith) (sound-well-formed p s n sound i)))
 
 -- one place of the sweep
 sweep-step : (l : List NodeKind) (i : ℕ) (m : List Bool) → 0 < i

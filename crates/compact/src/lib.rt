@@ -57,7 +57,7 @@ pub fn mark_reachable(list: &[u64], n: usize, root: usize, reachable: &mut [bool
 }
 
 // Fills in the new places of the first n records, and answers how many of them are marked.
-pub fn number_marked(reachable: &[bool], n: usize, remap: &mut [usize]) -> usize
+pub fn number_marked(reachable: &[bool], n: usize, remap: &mut [u64]) -> usize
     requires { ⌜ (n ≤ length (now reachable)) × (n ≤ length (now remap)) ⌝ }
     ensures { λ r. ⌜ r ≡ Places.rank (now (reachable .entry)) n ⌝ }
     ensures { λ _. ⌜ now (remap .exit) ≡ Places.ranks (now (reachable .entry)) n ++ drop n (now (remap .entry)) ⌝ }
@@ -66,7 +66,7 @@ pub fn number_marked(reachable: &[bool], n: usize, remap: &mut [usize]) -> usize
     let mut i = 0;
     while i < n {
         let marked = reachable[i];
-        remap[i] = count;
+        remap[i] = count as u64;
         i += 1;
         if marked {
             count += 1;
@@ -75,23 +75,8 @@ pub fn number_marked(reachable: &[bool], n: usize, remap: &mut [usize]) -> usize
     count
 }
 
-// A record with its operands' new places.
-fn remapped(x: NodeKind, remap: &[usize]) -> NodeKind
-    requires { ⌜ AllBelow (length (now remap)) (Nodes.operands x) ⌝ }
-    ensures { λ r. ⌜ r ≡ Nodes.rename (λ i. getD (now (remap .entry)) i 0) x ⌝ }
-{
-    match x {
-        NodeKind::Input(k) => NodeKind::Input(k),
-        NodeKind::Constant(v) => NodeKind::Constant(v),
-        NodeKind::Add(a, b) => NodeKind::Add(remap[a], remap[b]),
-        NodeKind::Sub(a, b) => NodeKind::Sub(remap[a], remap[b]),
-        NodeKind::Mul(a, b) => NodeKind::Mul(remap[a], remap[b]),
-        NodeKind::Neg(a) => NodeKind::Neg(remap[a]),
-    }
-}
-
 // Writes the marked ones of the first n records, renamed, to the start of the result store.
-pub fn write_marked(list: &[u64], n: usize, reachable: &[bool], remap: &[usize], result: &mut [u64])
+pub fn write_marked(list: &[u64], n: usize, reachable: &[bool], remap: &[u64], result: &mut [u64])
     requires { ⌜ Writing (now list) n (now reachable) (now remap) (length (now result)) ⌝ }
     ensures { λ _. ⌜ now (result .exit) ≡ written (now (result .entry)) (Places.kept (Nodes.nodes (now (list .entry)) n) (now (reachable .entry)) n) ⌝ }
 {
@@ -100,38 +85,62 @@ pub fn write_marked(list: &[u64], n: usize, reachable: &[bool], remap: &[usize],
         let i = next;
         next += 1;
         if reachable[i] {
-            dag::put_node(result, remap[i], remapped(dag::node_at(list, i), remap));
+            dag::put_node(
+                result,
+                dag::mapped(remap, i),
+                dag::renamed(remap, dag::node_at(list, i)),
+            );
         }
     }
 }
 
-// How many of the first n records the root reaches.
-pub fn reachable_count(list: &[u64], n: usize, root: usize) -> usize
-    requires { ⌜ Markable (now list) n root mostMarks ⌝ }
+// How many of the first n records the root reaches, with a store for their new places lent.
+pub fn reachable_count(list: &[u64], n: usize, root: usize, remap: &mut [u64]) -> usize
+    requires { ⌜ Markable (now list) n root mostMarks × (n ≤ length (now remap)) ⌝ }
     ensures { λ r. ⌜ r ≡ length (Calls.compacted (now (list .entry)) n root .list) ⌝ }
 {
     let mut reachable = [false; 8192];
     mark_reachable(list, n, root, &mut reachable);
-    let mut remap = [0usize; 8192];
-    number_marked(&reachable, n, &mut remap)
+    number_marked(&reachable, n, remap)
 }
 
-// Writes what the root reaches, renamed, to the start of the result store.
-pub fn compact_into(list: &[u64], n: usize, root: usize, result: &mut [u64]) -> Kept
+// Writes what the root reaches, renamed, to the start of the result store, with a store for the new places lent.
+pub fn compact_into(
+    list: &[u64],
+    n: usize,
+    root: usize,
+    remap: &mut [u64],
+    result: &mut [u64],
+) -> Kept
     requires { ⌜ Markable (now list) n root mostMarks ⌝ }
+    requires { ⌜ n ≤ length (now remap) ⌝ }
     requires { ⌜ 3 * length (Calls.compacted (now list) n root .list) ≤ length (now result) ⌝ }
     ensures { λ r. ⌜ r ≡ Calls.keptOf (Calls.compacted (now (list .entry)) n root) ⌝ }
     ensures { λ _. ⌜ now (result .exit) ≡ written (now (result .entry)) (Calls.compacted (now (list .entry)) n root .list) ⌝ }
 {
     let mut reachable = [false; 8192];
     mark_reachable(list, n, root, &mut reachable);
-    let mut remap = [0usize; 8192];
-    let count = number_marked(&reachable, n, &mut remap);
-    write_marked(list, n, &reachable, &remap, result);
+    let count = number_marked(&reachable, n, remap);
+    write_marked(list, n, &reachable, remap, result);
     Kept {
         count,
-        root: remap[root],
+        root: dag::mapped(remap, root),
     }
+}
+
+// The same, with a store for the new places of the list's length.
+fn compact_sized(list: &[u64], n: usize, root: usize, result: &mut [u64]) -> Kept
+    requires { ⌜ Markable (now list) n root Nodes.mostRecords ⌝ }
+    requires { ⌜ 3 * length (Calls.compacted (now list) n root .list) ≤ length (now result) ⌝ }
+    ensures { λ r. ⌜ r ≡ Calls.keptOf (Calls.compacted (now (list .entry)) n root) ⌝ }
+    ensures { λ _. ⌜ now (result .exit) ≡ written (now (result .entry)) (Calls.compacted (now (list .entry)) n root .list) ⌝ }
+{
+    if n <= dag::FEW_RECORDS {
+        let mut few = [0u64; dag::FEW_RECORDS];
+        return compact_into(list, n, root, &mut few, result);
+    }
+    let mut remap = [0u64; dag::MOST_RECORDS];
+    compact_into(list, n, root, &mut remap, result)
 }
 
 // Compact's tests.
@@ -157,7 +166,7 @@ pub fn compact(list: &[u64], n: usize, root: usize, result: &mut [u64]) -> Compa
     match checked {
         Checked::Refused(r) => Compacted::Refused(r),
         Checked::Good => {
-            let kept = compact_into(list, n, root, result);
+            let kept = compact_sized(list, n, root, result);
             dag::blank_from(result, 3 * kept.count);
             Compacted::Done {
                 count: kept.count,

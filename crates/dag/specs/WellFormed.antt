@@ -9,6 +9,10 @@ use Rattle.dag.specs.Nodes.{at}
 use Rattle.dag.specs.declared.NodeKind.{NodeKind}
 use Rattle.dag.specs.declared.NodeKind.the-variants.{Input, Constant, Add, Sub, Mul, Neg}
 
+-- any element will do
+abbrev pub Any : QuadFelt → Type 0
+Any c = Unit
+
 -- a record that may stand at place i: a key's number, a constant in lowest form, operands before i
 unfoldable pub Fine : (QuadFelt → Type 0) → ℕ → NodeKind → Type 0
 Fine Low i (Input k) = isKey k ≡ true

@@ -1,7 +1,7 @@
 -- Where a record may stand, and how well-formed lists grow.
 use Prim.Native.Nat.{ℕ, suc, _<_, _≤_}
 use mathlib.Core.List.{List, [], _∷_, _++_}
-use mathlib.Core.Path.{refl}
+use mathlib.Core.Path.{_≡_, refl, subst}
 use native.Mathlib.Decide.{decLe}
 use native.Mathlib.Omega.{arith}
 use lib.ListN.{length}
@@ -10,11 +10,28 @@ use Rattle.dag.specs.Keys.{isKey}
 use Rattle.dag.specs.Nodes.{at, rename, like}
 use Rattle.dag.specs.NodeLaws.{at-left, at-last, at-past, length-snoc}
 use Rattle.dag.specs.Cases.{below-suc-elim}
-use Rattle.dag.specs.WellFormed.{Fine, WellFormed}
+use Rattle.dag.specs.WellFormed.{Any, Fine, WellFormed}
 use Rattle.dag.specs.declared.NodeKind.{NodeKind}
 use Rattle.dag.specs.declared.NodeKind.the-variants.{Input, Constant, Add, Sub, Mul, Neg}
 
+-- what is known of x, said of what x is
+pub fine-as : (Low : QuadFelt → Type 0) (n : ℕ) {x y : NodeKind} → x ≡ y → Fine Low n x → Fine Low n y
+fine-as Low n e f = subst (λ (z : NodeKind). Fine Low n z) e f
+
+pub renamed-as : {x y z : NodeKind} (m : ℕ → ℕ) → x ≡ y → z ≡ rename m y → z ≡ rename m x
+renamed-as m e h = rw e h
+
 module _ (Low : QuadFelt → Type 0) where
+  -- operands alone
+  pub fine-any : (n : ℕ) (x : NodeKind) → Fine Low n x → Fine Any n x
+  unfolding Fine
+  fine-any n (Input k) f = f
+  fine-any n (Constant c) f = tt
+  fine-any n (Add a b) f = f
+  fine-any n (Sub a b) f = f
+  fine-any n (Mul a b) f = f
+  fine-any n (Neg a) f = f
+
   -- a record may stand at any later place
   pub fine-mono : (i n : ℕ) (x : NodeKind) → i ≤ n → Fine Low i x → Fine Low n x
   unfolding Fine

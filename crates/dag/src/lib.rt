@@ -3,7 +3,7 @@ use field::QuadFelt;
 ghost use mathlib.Core.Path.{_≡_};
 ghost use Prim.Native.Nat.{ℕ, _+_, _*_, _-_, _<_, _≤_};
 ghost use mathlib.Core.List.{_++_};
-ghost use lib.ListN.{length, take, replicate};
+ghost use lib.ListN.{length, getD, take, replicate};
 ghost use Rattle.field.specs.Field.{p};
 ghost use Rattle.dag.specs.Keys as Keys;
 ghost use Rattle.dag.specs.Nodes as Nodes;
@@ -11,12 +11,16 @@ ghost use Rattle.dag.specs.Refusals as Refusals;
 ghost use Rattle.dag.specs.Check as Check;
 ghost use Rattle.dag.specs.Store as Store;
 ghost use Rattle.dag.specs.Lookup as Lookup;
+ghost use Rattle.dag.specs.WellFormed as Well;
 
 // The word behind the last one filled.
 pub const BLANK: u64 = 0;
 
 // The most records that a list has.
 pub const MOST_RECORDS: usize = 4096;
+
+// A list is short up to so many records: stores for the longest would take longer to clear than it takes to use.
+pub const FEW_RECORDS: usize = 256;
 
 // One record of a list. An input holds its key number; operands are places.
 pub enum NodeKind {
@@ -296,6 +300,29 @@ pub fn put_node(list: &mut [u64], i: usize, x: NodeKind)
     list[3 * i] = tag_of(x);
     list[3 * i + 1] = first_of(x);
     list[3 * i + 2] = second_of(x);
+}
+
+// The new place of place i.
+pub fn mapped(map: &[u64], i: usize) -> usize
+    requires { ⌜ i < length (now map) ⌝ }
+    ensures { λ r. ⌜ r ≡ getD (now (map .entry)) i 0 ⌝ }
+{
+    map[i] as usize
+}
+
+// A record with the new places of its operands.
+pub fn renamed(map: &[u64], x: NodeKind) -> NodeKind
+    requires { ⌜ Well.Fine Well.Any (length (now map)) x ⌝ }
+    ensures { λ r. ⌜ r ≡ Nodes.rename (λ i. getD (now (map .entry)) i 0) x ⌝ }
+{
+    match x {
+        NodeKind::Input(k) => NodeKind::Input(k),
+        NodeKind::Constant(v) => NodeKind::Constant(v),
+        NodeKind::Add(a, b) => NodeKind::Add(mapped(map, a), mapped(map, b)),
+        NodeKind::Sub(a, b) => NodeKind::Sub(mapped(map, a), mapped(map, b)),
+        NodeKind::Mul(a, b) => NodeKind::Mul(mapped(map, a), mapped(map, b)),
+        NodeKind::Neg(a) => NodeKind::Neg(mapped(map, a)),
+    }
 }
 
 // Whether the record at place i has the words t, a, b.

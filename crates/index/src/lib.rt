@@ -11,9 +11,6 @@ ghost use Rattle.dag.specs.Store as Store;
 ghost use Rattle.dag.specs.Lookup as Lookup;
 ghost use Rattle.index.specs.Index as Index;
 
-// So many places an index has for a short list, where the links of a long one would take longer to clear than to use.
-pub const FEW: usize = 256;
-
 // So many steps a walk along a bucket takes before the plain search is quicker.
 pub const MOST_STEPS: usize = 8;
 

@@ -11,7 +11,8 @@ use Rattle.dag.specs.WellFormed.{Fine}
 use Rattle.dag.specs.declared.NodeKind.{NodeKind}
 use Rattle.dag.specs.declared.NodeKind.the-variants.{Input, Constant, Add, Sub, Mul, Neg}
 use Rattle.builder.specs.Contracts.{Operands}
-use Rattle.builder.specs.Holds.{read, fine-as}
+use Rattle.dag.specs.WellFormedLaws.{fine-as}
+use Rattle.builder.specs.Holds.{read}
 use Rattle.normalize.specs.Rounds.{commonFactor, eitherRotation, rotationPlan, factorPlan, planOf}
 use Rattle.normalize.specs.Asked.{isShared, Planning}
 use Rattle.normalize.specs.declared.Factor.{Factor}
@@ -72,12 +73,12 @@ module _ (s : List ℕ) (n : ℕ) (fan : List ℕ) (i : ℕ) (x : NodeKind) (h :
 
   pub planned-add : (a b : ℕ) → x ≡ Add a b → Operands s n a b × (n ≤ length fan)
   unfolding Fine
-  planned-add a b e = pair a b (fine-as i e (h .fine))
+  planned-add a b e = pair a b (fine-as Below i e (h .fine))
 
   pub planned-sub : (a b : ℕ) → x ≡ Sub a b → Operands s n a b × (n ≤ length fan)
   unfolding Fine
-  planned-sub a b e = pair a b (fine-as i e (h .fine))
+  planned-sub a b e = pair a b (fine-as Below i e (h .fine))
 
   pub planned-mul : (a b : ℕ) → x ≡ Mul a b → Operands s n a b × (n ≤ length fan)
   unfolding Fine
-  planned-mul a b e = pair a b (fine-as i e (h .fine))
+  planned-mul a b e = pair a b (fine-as Below i e (h .fine))

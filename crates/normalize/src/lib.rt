@@ -420,13 +420,13 @@ fn enter_factored(
         work,
         count,
         links,
-        like(x, builder::mapped(map, a), builder::mapped(map, b)),
+        like(x, dag::mapped(map, a), dag::mapped(map, b)),
     );
     builder::push(
         work,
         inner.count,
         links,
-        NodeKind::Mul(builder::mapped(map, factor), inner.place),
+        NodeKind::Mul(dag::mapped(map, factor), inner.place),
     )
 }
 
@@ -457,11 +457,11 @@ fn enter_planned(
             links,
             like(
                 x,
-                builder::mapped(map, existing),
-                builder::mapped(map, remaining),
+                dag::mapped(map, existing),
+                dag::mapped(map, remaining),
             ),
         ),
-        Plan::Plain => builder::push(work, count, links, builder::renamed(map, x)),
+        Plan::Plain => builder::push(work, count, links, dag::renamed(map, x)),
     }
 }
 
@@ -539,15 +539,15 @@ fn once_in(
             root,
         };
     }
-    let new_root = builder::mapped(map, root);
-    if n <= compact::reachable_count(work, end.count, new_root) {
+    let new_root = dag::mapped(map, root);
+    if n <= compact::reachable_count(work, end.count, new_root, own) {
         return RoundKept {
             kept: false,
             count: n,
             root,
         };
     }
-    let kept = compact::compact_into(work, end.count, new_root, result);
+    let kept = compact::compact_into(work, end.count, new_root, own, result);
     RoundKept {
         kept: true,
         count: kept.count,
@@ -704,7 +704,7 @@ fn rounds_of(list: &[u64], n: usize, root: usize, result: &mut [u64], work: &mut
     requires { ⌜ CallLaws.Passed (now list) n root (length (now result)) (length (now work)) × CallLaws.Running (now list) n root (now result) n root 0 ⌝ }
     ensures { λ r. ⌜ CallLaws.Ended (now (list .entry)) n root (now (result .exit)) r ⌝ }
 {
-    if n <= index::FEW {
+    if n <= dag::FEW_RECORDS {
         return normalize_few(list, n, root, result, work);
     }
     normalize_with(list, n, root, result, work)

@@ -1,9 +1,10 @@
+use Rattle.dag.specs.WellFormedLaws.{fine-any}
 use Prim.Native.Nat.{_≤_, _-_}
 use mathlib.Core.Path.{_≡_, refl, sym, _∙_}
 use native.Mathlib.Nat.{le-antisymm}
 use native.Mathlib.Omega.{arith}
 use lib.ListN.{length, length-set}
-use Rattle.field.specs.Field.{quad}
+use Rattle.field.specs.Field.{quad, Below}
 use Rattle.dag.specs.Nodes as Nodes
 use Rattle.dag.specs.NodeLaws.{at-nodes}
 use Rattle.index.specs.Index.{NodeIndex}
@@ -31,7 +32,7 @@ node-at-requires : tie.Need-node-at-requires Inv-loop μ-loop
 node-at-requires c κs = omega (arith, (c .before .before .before .before .before .before .before .before .before .before .before .pre .0 .room), (c .before .loop-test .taken))
 
 renamed-requires : tie.Need-renamed-requires Inv-loop μ-loop
-renamed-requires c κs = turn-fine (Nodes.nodes (c .before .before .before .before .before .before .before .before .before .before .before .before .args .list .now) (c .before .before .before .before .before .before .before .before .before .before .before .before .args .n)) (list-fine (c .before .before .before .before .before .before .before .before .before .before .before .before .args .list .now) (c .before .before .before .before .before .before .before .before .before .before .before .before .args .n) (c .before .before .before .before .before .before .before .before .before .before .before .before .pre .0)) (c .before .before .before .loop .i) _ _ (omega (arith, (c .before .before .before .before .before .before .before .before .before .before .before .before .pre .2), (c .before .before .before .loop .inv .2), (c .before .before .loop-test .taken))) ((c .node-at .ensures) ∙ sym (at-nodes _ _ _ (c .before .before .loop-test .taken)))
+renamed-requires c κs = fine-any Below _ _ (turn-fine (Nodes.nodes (c .before .before .before .before .before .before .before .before .before .before .before .before .args .list .now) (c .before .before .before .before .before .before .before .before .before .before .before .before .args .n)) (list-fine (c .before .before .before .before .before .before .before .before .before .before .before .before .args .list .now) (c .before .before .before .before .before .before .before .before .before .before .before .before .args .n) (c .before .before .before .before .before .before .before .before .before .before .before .before .pre .0)) (c .before .before .before .loop .i) _ _ (omega (arith, (c .before .before .before .before .before .before .before .before .before .before .before .before .pre .2), (c .before .before .before .loop .inv .2), (c .before .before .loop-test .taken))) ((c .node-at .ensures) ∙ sym (at-nodes _ _ _ (c .before .before .loop-test .taken))))
 
 push-requires : tie.Need-push-requires Inv-loop μ-loop
 push-requires c κs =

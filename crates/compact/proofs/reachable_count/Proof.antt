@@ -3,6 +3,10 @@ use Rattle.compact.specs.CallLaws.{kept-count}
 use borrow.Author.Needs.{needs}
 use Rattle.compact.proofs.reachable_count.Statement.{statement}
 use Rattle.compact.proofs.reachable_count.Tie as tie
+use Rattle.compact.proofs.reachable_count.Reads as reads
+use Rattle.compact.proofs.reachable_count.Lts as lts
+use Rattle.compact.proofs.mark_reachable.Reads as mark-reachable-reads
+use Rattle.compact.proofs.number_marked.Reads as number-marked-reads
 
 slice-aggregate-mark-reachable : tie.Need-slice-aggregate-mark-reachable
 slice-aggregate-mark-reachable c = search needs
@@ -13,14 +17,14 @@ mark-reachable-requires c κs = search needs
 slice-aggregate-number-marked : tie.Need-slice-aggregate-number-marked
 slice-aggregate-number-marked c = search needs
 
-slice-aggregate-number-marked-2 : tie.Need-slice-aggregate-number-marked-2
-slice-aggregate-number-marked-2 c = search needs
-
 number-marked-requires : tie.Need-number-marked-requires
 number-marked-requires c κs = search needs
 
+same-length : tie.Need-same-length
+same-length c = search needs
+
 returns : tie.Need-returns
-returns c = c .before .number-marked .ensures .0 ∙ kept-count _ _ _ 8192 (c .before .before .before .before .before .before .before .before .pre) _ (c .before .before .before .before .before .mark-reachable .ensures)
+returns c = (c .before .before .number-marked .ensures .0) ∙ kept-count _ _ _ 8192 (c .before .before .before .before .before .before .before .before .before .before .pre .0) _ (c .before .before .before .before .before .before .mark-reachable .ensures)
 
 pub reachable-count-spec : {M : Type 1} → statement M
 reachable-count-spec =
@@ -29,6 +33,6 @@ reachable-count-spec =
     slice-aggregate-mark-reachable
     mark-reachable-requires
     slice-aggregate-number-marked
-    slice-aggregate-number-marked-2
     number-marked-requires
+    same-length
     returns)

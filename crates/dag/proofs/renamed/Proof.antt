@@ -1,11 +1,11 @@
-use Rattle.builder.specs.Holds.{fine-as, renamed-as}
+use Rattle.dag.specs.WellFormedLaws.{fine-as, renamed-as}
 use Rattle.dag.specs.declared.NodeKind.the-variants.{Add, Sub, Mul, Neg}
 use Rattle.dag.specs.WellFormed as Well
 use Rattle.dag.specs.Nodes as Nodes
 use mathlib.Core.Path.{refl, ap, ap₂}
 use borrow.Author.Needs.{needs}
-use Rattle.builder.proofs.renamed.Statement.{statement}
-use Rattle.builder.proofs.renamed.Tie as tie
+use Rattle.dag.proofs.renamed.Statement.{statement}
+use Rattle.dag.proofs.renamed.Tie as tie
 
 enum-known-x : tie.Need-enum-known-x
 enum-known-x c = search needs
@@ -18,40 +18,40 @@ enum-known-x-3 c = search needs
 
 mapped-requires : tie.Need-mapped-requires
 unfolding Well.Fine
-mapped-requires c κs = fine-as _ (c .before .x3 .given .1) (c .before .before .before .before .pre) .0
+mapped-requires c κs = fine-as Well.Any _ (c .before .x3 .given .1) (c .before .before .before .before .pre) .0
 
 mapped-requires-2 : tie.Need-mapped-requires-2
 unfolding Well.Fine
-mapped-requires-2 c κs = fine-as _ (c .before .before .x3 .given .1) (c .before .before .before .before .before .pre) .1
+mapped-requires-2 c κs = fine-as Well.Any _ (c .before .before .x3 .given .1) (c .before .before .before .before .before .pre) .1
 
 enum-known-x-4 : tie.Need-enum-known-x-4
 enum-known-x-4 c = search needs
 
 mapped-requires-3 : tie.Need-mapped-requires-3
 unfolding Well.Fine
-mapped-requires-3 c κs = fine-as _ (c .before .x4 .given .1) (c .before .before .before .before .pre) .0
+mapped-requires-3 c κs = fine-as Well.Any _ (c .before .x4 .given .1) (c .before .before .before .before .pre) .0
 
 mapped-requires-4 : tie.Need-mapped-requires-4
 unfolding Well.Fine
-mapped-requires-4 c κs = fine-as _ (c .before .before .x4 .given .1) (c .before .before .before .before .before .pre) .1
+mapped-requires-4 c κs = fine-as Well.Any _ (c .before .before .x4 .given .1) (c .before .before .before .before .before .pre) .1
 
 enum-known-x-5 : tie.Need-enum-known-x-5
 enum-known-x-5 c = search needs
 
 mapped-requires-5 : tie.Need-mapped-requires-5
 unfolding Well.Fine
-mapped-requires-5 c κs = fine-as _ (c .before .x5 .given .1) (c .before .before .before .before .pre) .0
+mapped-requires-5 c κs = fine-as Well.Any _ (c .before .x5 .given .1) (c .before .before .before .before .pre) .0
 
 mapped-requires-6 : tie.Need-mapped-requires-6
 unfolding Well.Fine
-mapped-requires-6 c κs = fine-as _ (c .before .before .x5 .given .1) (c .before .before .before .before .before .pre) .1
+mapped-requires-6 c κs = fine-as Well.Any _ (c .before .before .x5 .given .1) (c .before .before .before .before .before .pre) .1
 
 enum-known-x-6 : tie.Need-enum-known-x-6
 enum-known-x-6 c = search needs
 
 mapped-requires-7 : tie.Need-mapped-requires-7
 unfolding Well.Fine
-mapped-requires-7 c κs = fine-as _ (c .before .x6 .given .1) (c .before .before .before .before .pre)
+mapped-requires-7 c κs = fine-as Well.Any _ (c .before .x6 .given .1) (c .before .before .before .before .pre)
 
 returns : tie.Need-returns
 unfolding Nodes.rename
