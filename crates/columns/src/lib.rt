@@ -175,12 +175,20 @@ fn weight(col: &[u64], v: u64) -> usize
     if v == 0 { 0 } else { count(col, v) }
 }
 
+// A value of a column and its weight.
+struct Heavy {
+    value: u64,
+    weight: usize,
+}
+
 // The heavier of two values, on a tie the second.
-fn heavier(col: &[u64], d: u64, v: u64) -> u64
-    ensures { λ r. ⌜ r ≡ cond (leb (Columns.weight (now (col .entry)) d) (Columns.weight (now (col .entry)) v)) v d ⌝ }
+fn heavier(col: &[u64], d: Heavy, v: u64) -> Heavy
+    requires { ⌜ d .weight ≡ Columns.weight (now col) (d .value) ⌝ }
+    ensures { λ r. ⌜ (r .value ≡ cond (leb (Columns.weight (now (col .entry)) (d .value)) (Columns.weight (now (col .entry)) v)) v (d .value)) × (r .weight ≡ Columns.weight (now (col .entry)) (r .value)) ⌝ }
 {
-    if weight(col, d) <= weight(col, v) {
-        v
+    let weight = weight(col, v);
+    if d.weight <= weight {
+        Heavy { value: v, weight }
     } else {
         d
     }
@@ -190,13 +198,16 @@ fn heavier(col: &[u64], d: u64, v: u64) -> u64
 fn dominant(col: &[u64], values: &[u64]) -> u64
     ensures { λ r. ⌜ r ≡ Columns.heaviest (now (col .entry)) 0 (now (values .entry)) ⌝ }
 {
-    let mut d: u64 = 0;
+    let mut d = Heavy {
+        value: 0,
+        weight: 0,
+    };
     let mut i = 0;
     while i < values.len() {
         d = heavier(col, d, values[i]);
         i += 1;
     }
-    d
+    d.value
 }
 
 // Whether a class of value v is scaled, with offset d.
