@@ -112,6 +112,13 @@ module _ (s : List ℕ) (n root : ℕ) (fan : List ℕ) (sound : Sound p s n) (f
     fired-is : t ≡ fired (nodes s n) (fanout (nodes s n) (root ∷ [])) (length (nodes s n))
     fired-is = h .fired-is ∙ ap₂ (fired (nodes s n)) ef (sym (length-nodes s n))
 
+    pub round-short : count ≤ 2 * n
+    unfolding r
+    round-short =
+        let a = count-is r n work places count (h .holds) in
+        let b = round-length quad quad-laws (nodes s n) (list-fine s n sound) (read fan) n in
+        omega arith
+
     -- a round in which no rewrite fired
     pub not-fired : t ≡ false → (k : RoundKept) → k .kept ≡ false → Once s n root s k
     unfolding isKept

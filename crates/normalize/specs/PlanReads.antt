@@ -6,6 +6,7 @@ use mathlib.Core.Path.{_≡_, refl, sym, _∙_, ap, ap₂}
 use native.Mathlib.Omega.{arith}
 use lib.ListN.{length}
 use Rattle.field.specs.declared.QuadFelt.{QuadFelt}
+use Rattle.field.specs.Field.{Below}
 use Rattle.dag.specs.Nodes.{nodes}
 use Rattle.dag.specs.WellFormed.{Fine}
 use Rattle.dag.specs.declared.NodeKind.{NodeKind}

@@ -1,3 +1,5 @@
+use Rattle.field.specs.Field.{Below}
+use Rattle.dag.specs.WellFormedLaws.{fine-any}
 use Rattle.normalize.specs.EnterLaws as Enter
 use borrow.Author.Needs.{needs}
 use Rattle.normalize.proofs.enter_planned.Statement.{statement}
@@ -28,7 +30,7 @@ enum-told : tie.Need-enum-told
 enum-told c = search needs
 
 renamed-requires : tie.Need-renamed-requires
-renamed-requires c κs = Enter.record-fits (c .before .before .before .before .before .before .before .args .work .now) (c .before .before .before .before .before .before .before .args .count) (c .before .before .before .before .before .before .before .args .map .now) (c .before .before .before .before .before .before .before .pre .0 .0) (c .before .before .before .before .before .before .before .args .x) (c .before .before .before .before .before .before .before .args .plan) (c .before .before .before .before .before .before .before .pre .0 .1)
+renamed-requires c κs = fine-any Below _ _ (Enter.record-fits (c .before .before .before .before .before .before .before .args .work .now) (c .before .before .before .before .before .before .before .args .count) (c .before .before .before .before .before .before .before .args .map .now) (c .before .before .before .before .before .before .before .pre .0 .0) (c .before .before .before .before .before .before .before .args .x) (c .before .before .before .before .before .before .before .args .plan) (c .before .before .before .before .before .before .before .pre .0 .1))
 
 push-requires-2 : tie.Need-push-requires-2
 push-requires-2 c κs = (rw (c .renamed .ensures) (Enter.plain-request (c .before .before .before .before .before .before .before .before .args .work .now) (c .before .before .before .before .before .before .before .before .args .count) (c .before .before .before .before .before .before .before .before .args .map .now) (c .before .before .before .before .before .before .before .before .pre .0 .0) (c .before .before .before .before .before .before .before .before .args .x) (c .before .before .before .before .before .before .before .before .args .plan) (c .before .before .before .before .before .before .before .before .pre .0 .1)), Enter.push-room (c .before .before .before .before .before .before .before .before .args .work .now) (c .before .before .before .before .before .before .before .before .args .count) (c .before .before .before .before .before .before .before .before .args .map .now) (c .before .before .before .before .before .before .before .before .pre .0 .0) (c .before .before .before .before .before .before .before .before .args .x) (c .before .before .before .before .before .before .before .before .args .plan) (c .before .before .before .before .before .before .before .before .pre .0 .1) _ (c .before .before .before .before .before .before .before .before .pre .1))
