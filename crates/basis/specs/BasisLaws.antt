@@ -8,26 +8,46 @@ use borrow.Author.Tests.{eq-eqb, ne-eqb}
 use lib.Dec.{eqb}
 use lib.ListN.{getD, length, take, replicate}
 use lib.Seq.{take-at}
-use Rattle.field.specs.Field.{p, felt, quad}
+use Rattle.ring.specs.Power.{low-pow}
+use Rattle.field.specs.Field.{p, felt, felt-laws, quad}
 use Rattle.field.specs.Generators.{generator, half}
-use Rattle.columns.specs.Columns.{offset, values}
+use Rattle.columns.specs.Columns.{logLength, offset, values}
 use Rattle.columns.specs.Prepare.{upTo, padded, allBelow}
 use Rattle.columns.specs.ClassLaws.{below-values}
-use Rattle.columns.specs.ArrayLaws.{length-upTo, getD-upTo}
+use Rattle.columns.specs.ArrayLaws.{length-upTo, getD-upTo, getD-filled}
+use Rattle.coefficients.specs.Terms.{root}
+use Rattle.coefficients.specs.Arrays.{roots}
 use Rattle.builder.specs.declared.Entered.{Entered}
 use Rattle.periodic.specs.Builder.{Builder, done, _>>=_, add}
-use Rattle.periodic.specs.Periodic.{backwards, element, classTurn, coefficient, isAdded, isSubtracted, addClass, subClass, addTurn, subTurn}
+use Rattle.periodic.specs.Periodic.{backwards, factor, element, classTurn, coefficient, isAdded, isSubtracted, addClass, subClass, addTurn, subTurn}
 use Rattle.periodic.specs.Running.{Inside, AllInside, Entering}
 use Rattle.periodic.specs.RunLaws.{ran-done}
 use Rattle.periodic.specs.ListLaws.{all-later}
-use Rattle.basis.specs.Contracts.{Products, Offset}
+use Rattle.basis.specs.Contracts as Said
+use Rattle.basis.specs.Contracts.{Roots, Products, Offset}
 
 pub entered-done : (s : List ℕ) (n a : ℕ) → Inside n a → Entering s n (done a) s (record { place = a; count = n })
 entered-done s n a h = record { ran = ran-done s n a; inside = h }
 
-pub products-later : {n k : ℕ} {c prefix suffix : List ℕ} → n ≤ k → Products n c prefix suffix → Products k c prefix suffix
+-- the table of roots
+pub roots-of : (c rs : List ℕ) → rs ≡ roots felt generator half c → Roots c rs
+unfolding roots root
+roots-of c rs e =
+    record {
+      at = λ k h. rw e (getD-filled 0 0 128 (root felt generator half c) (length c) k h);
+      low = λ k h. rw (e, getD-filled 0 0 128 (root felt generator half c) (length c) k h) (low-pow felt-laws (generator (logLength c)) k);
+    }
+
+-- the factor of row k
+pub factor-at : (c rs : List ℕ) (point k : ℕ) → Roots c rs → k < length c → Said.factor point (getD rs k 0) ≡ factor quad p felt generator half c point k
+unfolding Said.factor factor
+factor-at c rs point k d h = rw (d .at k h)
+
+pub products-later : {n k : ℕ} {c roots prefix suffix : List ℕ} → n ≤ k → Products n c roots prefix suffix → Products k c roots prefix suffix
 products-later h d =
     record {
+      rows = d .rows;
+      short = d .short;
       prefix-long = d .prefix-long;
       suffix-long = d .suffix-long;
       prefix-inside = all-later h (d .prefix-inside);

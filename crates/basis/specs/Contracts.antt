@@ -1,16 +1,32 @@
 -- What the functions of a column in basis ask.
-use Prim.Native.Nat.{ℕ, _<_}
+use Prim.Native.Nat.{ℕ, _<_, _≤_}
 use mathlib.Core.Bool.{true}
 use mathlib.Core.List.{List}
 use mathlib.Core.Path.{_≡_}
-use lib.ListN.{length}
-use Rattle.field.specs.Field.{p}
+use lib.ListN.{getD, length}
+use Rattle.field.specs.Field.{p, felt, quad}
+use Rattle.field.specs.Generators.{generator, half}
 use Rattle.columns.specs.Columns.{values, offset}
 use Rattle.columns.specs.Prepare.{allBelow}
+use Rattle.coefficients.specs.Terms.{root}
+use Rattle.periodic.specs.Builder.{Builder, _>>=_, constant, sub}
 use Rattle.periodic.specs.Running.{AllInside}
 
--- the products before and behind each row of a column
-pub record Products (n : ℕ) (c prefix suffix : List ℕ) : Type 0 where
+-- point − root
+unfoldable pub factor : ℕ → ℕ → Builder ℕ
+factor point root = do
+  root ← constant quad root
+  sub quad point root
+
+-- the roots of a column's rows
+pub record Roots (c rs : List ℕ) : Type 0 where
+  pub at : (k : ℕ) → k < length c → getD rs k 0 ≡ root felt generator half c k
+  pub low : (k : ℕ) → k < length c → getD rs k 0 < p
+
+-- the roots of a column's rows, and the products before and behind each row
+pub record Products (n : ℕ) (c roots prefix suffix : List ℕ) : Type 0 where
+  pub rows : Roots c roots
+  pub short : length c ≤ 128
   pub prefix-long : length prefix ≡ length c
   pub suffix-long : length suffix ≡ length c
   pub prefix-inside : AllInside n prefix

@@ -13,24 +13,31 @@ ghost use Rattle.periodic.specs.Periodic as Periodic;
 ghost use Rattle.periodic.specs.Running as Run;
 ghost use Rattle.basis.specs.Contracts as Said;
 
-// point − w^k.
-fn basis_factor(list: &mut [u64], n: usize, point: usize, col: &[u64], k: usize) -> Entered
-    requires { ⌜ Run.Ready (now list) n × Run.Inside n point ⌝ }
-    ensures { λ r. ⌜ Run.Entering (now (list .entry)) n (Periodic.factor quad p felt generator half (now (col .entry)) point k) (now (list .exit)) r ⌝ }
+// point − w^k, from w^k.
+fn basis_factor(list: &mut [u64], n: usize, point: usize, root: u64) -> Entered
+    requires { ⌜ Run.Ready (now list) n × Run.Inside n point × (root < p) ⌝ }
+    ensures { λ r. ⌜ Run.Entering (now (list .entry)) n (Said.factor point root) (now (list .exit)) r ⌝ }
 {
-    let root = periodic::constant(list, n, coefficients::root(col, k));
+    let root = periodic::constant(list, n, root);
     periodic::sub(list, root.count, point, root.place)
 }
 
 // point − w^k for each row k, into a store of places; answers the count.
-fn basis_factors(list: &mut [u64], n: usize, point: usize, col: &[u64], places: &mut [u64]) -> usize
-    requires { ⌜ Run.Ready (now list) n × Run.Inside n point × (length (now col) ≤ length (now places)) ⌝ }
+fn basis_factors(
+    list: &mut [u64],
+    n: usize,
+    point: usize,
+    roots: &[u64; 128],
+    col: &[u64],
+    places: &mut [u64],
+) -> usize
+    requires { ⌜ Run.Ready (now list) n × Run.Inside n point × (length (now col) ≤ length (now places)) × Said.Roots (now col) (now roots) × (length (now col) ≤ 128) ⌝ }
     ensures { λ r. ⌜ Run.Listing (now (list .entry)) n (Periodic.factors quad p felt generator half (now (col .entry)) point) (now (list .exit)) r (now (places .exit)) (length (now (col .entry))) ⌝ }
 {
     let mut count = n;
     let mut k = 0;
     while k < col.len() {
-        let e = basis_factor(list, count, point, col, k);
+        let e = basis_factor(list, count, point, roots[k]);
         places[k] = e.place as u64;
         count = e.count;
         k += 1;
@@ -56,12 +63,13 @@ fn backwards(places: &[u64]) -> [u64; 128]
 fn element(
     list: &mut [u64],
     n: usize,
+    roots: &[u64; 128],
     prefix: &[u64],
     suffix: &[u64],
     col: &[u64],
     j: usize,
 ) -> Entered
-    requires { ⌜ Run.Ready (now list) n × Said.Products n (now col) (now prefix) (now suffix) × (j < length (now col)) ⌝ }
+    requires { ⌜ Run.Ready (now list) n × Said.Products n (now col) (now roots) (now prefix) (now suffix) × (j < length (now col)) ⌝ }
     ensures { λ r. ⌜ Run.Entering (now (list .entry)) n (Periodic.element quad p felt generator half (now (col .entry)) (now (prefix .entry)) (now (suffix .entry)) j) (now (list .exit)) r ⌝ }
 {
     let product = periodic::mul(
@@ -70,7 +78,7 @@ fn element(
         prefix[j] as usize,
         suffix[col.len() - 1 - j] as usize,
     );
-    let root = periodic::constant(list, product.count, coefficients::root(col, j));
+    let root = periodic::constant(list, product.count, roots[j]);
     periodic::mul(list, root.count, root.place, product.place)
 }
 
@@ -78,6 +86,7 @@ fn element(
 fn class_turn(
     list: &mut [u64],
     n: usize,
+    roots: &[u64; 128],
     prefix: &[u64],
     suffix: &[u64],
     col: &[u64],
@@ -85,7 +94,7 @@ fn class_turn(
     j: usize,
     acc: usize,
 ) -> Entered
-    requires { ⌜ Run.Ready (now list) n × Said.Products n (now col) (now prefix) (now suffix) × (j < length (now col)) × Run.Inside n acc ⌝ }
+    requires { ⌜ Run.Ready (now list) n × Said.Products n (now col) (now roots) (now prefix) (now suffix) × (j < length (now col)) × Run.Inside n acc ⌝ }
     ensures { λ r. ⌜ Run.Entering (now (list .entry)) n (Periodic.classTurn quad p felt generator half (now (col .entry)) (now (prefix .entry)) (now (suffix .entry)) v j acc) (now (list .exit)) r ⌝ }
 {
     if col[j] != v {
@@ -94,7 +103,7 @@ fn class_turn(
             count: n,
         };
     }
-    let e = element(list, n, prefix, suffix, col, j);
+    let e = element(list, n, roots, prefix, suffix, col, j);
     periodic::add(list, e.count, acc, e.place)
 }
 
@@ -102,18 +111,19 @@ fn class_turn(
 fn class_sum(
     list: &mut [u64],
     n: usize,
+    roots: &[u64; 128],
     prefix: &[u64],
     suffix: &[u64],
     col: &[u64],
     v: u64,
 ) -> Entered
-    requires { ⌜ Run.Ready (now list) n × Said.Products n (now col) (now prefix) (now suffix) ⌝ }
+    requires { ⌜ Run.Ready (now list) n × Said.Products n (now col) (now roots) (now prefix) (now suffix) ⌝ }
     ensures { λ r. ⌜ Run.Entering (now (list .entry)) n (Periodic.classSum quad p felt generator half (now (col .entry)) (now (prefix .entry)) (now (suffix .entry)) v) (now (list .exit)) r ⌝ }
 {
     let mut acc = periodic::constant(list, n, 0);
     let mut j = 0;
     while j < col.len() {
-        acc = class_turn(list, acc.count, prefix, suffix, col, v, j, acc.place);
+        acc = class_turn(list, acc.count, roots, prefix, suffix, col, v, j, acc.place);
         j += 1;
     }
     acc
@@ -123,6 +133,7 @@ fn class_sum(
 fn add_turn(
     list: &mut [u64],
     n: usize,
+    roots: &[u64; 128],
     prefix: &[u64],
     suffix: &[u64],
     col: &[u64],
@@ -130,7 +141,7 @@ fn add_turn(
     v: u64,
     sum: usize,
 ) -> Entered
-    requires { ⌜ Run.Ready (now list) n × Said.Products n (now col) (now prefix) (now suffix) × Run.Inside n sum × Said.Class (now col) d v ⌝ }
+    requires { ⌜ Run.Ready (now list) n × Said.Products n (now col) (now roots) (now prefix) (now suffix) × Run.Inside n sum × Said.Class (now col) d v ⌝ }
     ensures { λ r. ⌜ Run.Entering (now (list .entry)) n (Periodic.addTurn quad p felt generator half (now (col .entry)) (now (prefix .entry)) (now (suffix .entry)) v sum) (now (list .exit)) r ⌝ }
 {
     if v == d {
@@ -146,7 +157,7 @@ fn add_turn(
             count: n,
         };
     }
-    let class = class_sum(list, n, prefix, suffix, col, v);
+    let class = class_sum(list, n, roots, prefix, suffix, col, v);
     let scale = periodic::constant(list, class.count, k);
     let term = periodic::mul(list, scale.count, scale.place, class.place);
     periodic::add(list, term.count, sum, term.place)
@@ -156,6 +167,7 @@ fn add_turn(
 fn sub_turn(
     list: &mut [u64],
     n: usize,
+    roots: &[u64; 128],
     prefix: &[u64],
     suffix: &[u64],
     col: &[u64],
@@ -163,7 +175,7 @@ fn sub_turn(
     v: u64,
     sum: usize,
 ) -> Entered
-    requires { ⌜ Run.Ready (now list) n × Said.Products n (now col) (now prefix) (now suffix) × Run.Inside n sum × Said.Class (now col) d v ⌝ }
+    requires { ⌜ Run.Ready (now list) n × Said.Products n (now col) (now roots) (now prefix) (now suffix) × Run.Inside n sum × Said.Class (now col) d v ⌝ }
     ensures { λ r. ⌜ Run.Entering (now (list .entry)) n (Periodic.subTurn quad p felt generator half (now (col .entry)) (now (prefix .entry)) (now (suffix .entry)) v sum) (now (list .exit)) r ⌝ }
 {
     if v == d {
@@ -178,7 +190,7 @@ fn sub_turn(
             count: n,
         };
     }
-    let class = class_sum(list, n, prefix, suffix, col, v);
+    let class = class_sum(list, n, roots, prefix, suffix, col, v);
     periodic::sub(list, class.count, sum, class.place)
 }
 
@@ -186,6 +198,7 @@ fn sub_turn(
 fn add_classes(
     list: &mut [u64],
     n: usize,
+    roots: &[u64; 128],
     prefix: &[u64],
     suffix: &[u64],
     col: &[u64],
@@ -193,7 +206,7 @@ fn add_classes(
     d: u64,
     start: usize,
 ) -> Entered
-    requires { ⌜ Run.Ready (now list) n × Said.Products n (now col) (now prefix) (now suffix) × Run.Inside n start × Said.Offset (now col) (now values) d ⌝ }
+    requires { ⌜ Run.Ready (now list) n × Said.Products n (now col) (now roots) (now prefix) (now suffix) × Run.Inside n start × Said.Offset (now col) (now values) d ⌝ }
     ensures { λ r. ⌜ Run.Entering (now (list .entry)) n (Periodic.addClasses quad p felt generator half (now (col .entry)) (now (prefix .entry)) (now (suffix .entry)) start) (now (list .exit)) r ⌝ }
 {
     let mut sum = Entered {
@@ -205,6 +218,7 @@ fn add_classes(
         sum = add_turn(
             list,
             sum.count,
+            roots,
             prefix,
             suffix,
             col,
@@ -221,6 +235,7 @@ fn add_classes(
 fn sub_classes(
     list: &mut [u64],
     n: usize,
+    roots: &[u64; 128],
     prefix: &[u64],
     suffix: &[u64],
     col: &[u64],
@@ -228,7 +243,7 @@ fn sub_classes(
     d: u64,
     start: usize,
 ) -> Entered
-    requires { ⌜ Run.Ready (now list) n × Said.Products n (now col) (now prefix) (now suffix) × Run.Inside n start × Said.Offset (now col) (now values) d ⌝ }
+    requires { ⌜ Run.Ready (now list) n × Said.Products n (now col) (now roots) (now prefix) (now suffix) × Run.Inside n start × Said.Offset (now col) (now values) d ⌝ }
     ensures { λ r. ⌜ Run.Entering (now (list .entry)) n (Periodic.subClasses quad p felt generator half (now (col .entry)) (now (prefix .entry)) (now (suffix .entry)) start) (now (list .exit)) r ⌝ }
 {
     let mut sum = Entered {
@@ -240,6 +255,7 @@ fn sub_classes(
         sum = sub_turn(
             list,
             sum.count,
+            roots,
             prefix,
             suffix,
             col,
@@ -253,8 +269,15 @@ fn sub_classes(
 }
 
 // The offset and the classes of a column, over the products before and behind each row.
-fn basis_sum(list: &mut [u64], n: usize, prefix: &[u64], suffix: &[u64], col: &[u64]) -> Entered
-    requires { ⌜ Run.Ready (now list) n × Said.Products n (now col) (now prefix) (now suffix) × Asked.Column p (now col) ⌝ }
+fn basis_sum(
+    list: &mut [u64],
+    n: usize,
+    roots: &[u64; 128],
+    prefix: &[u64],
+    suffix: &[u64],
+    col: &[u64],
+) -> Entered
+    requires { ⌜ Run.Ready (now list) n × Said.Products n (now col) (now roots) (now prefix) (now suffix) × Asked.Column p (now col) ⌝ }
     ensures { λ r. ⌜ Run.Entering (now (list .entry)) n (Periodic.basisSum quad p felt generator half (now (col .entry)) (now (prefix .entry)) (now (suffix .entry))) (now (list .exit)) r ⌝ }
 {
     let mut store = [0u64; 128];
@@ -265,6 +288,7 @@ fn basis_sum(list: &mut [u64], n: usize, prefix: &[u64], suffix: &[u64], col: &[
     let sum = add_classes(
         list,
         start.count,
+        roots,
         prefix,
         suffix,
         col,
@@ -272,12 +296,29 @@ fn basis_sum(list: &mut [u64], n: usize, prefix: &[u64], suffix: &[u64], col: &[
         d,
         start.place,
     );
-    sub_classes(list, sum.count, prefix, suffix, col, values, d, sum.place)
+    sub_classes(
+        list,
+        sum.count,
+        roots,
+        prefix,
+        suffix,
+        col,
+        values,
+        d,
+        sum.place,
+    )
 }
 
 // The products behind each row, from its factors and the products before it, and then the sum.
-fn basis_back(list: &mut [u64], n: usize, factors: &[u64], prefix: &[u64], col: &[u64]) -> Entered
-    requires { ⌜ Run.Ready (now list) n × Said.Products n (now col) (now prefix) (now factors) × Asked.Column p (now col) ⌝ }
+fn basis_back(
+    list: &mut [u64],
+    n: usize,
+    roots: &[u64; 128],
+    factors: &[u64],
+    prefix: &[u64],
+    col: &[u64],
+) -> Entered
+    requires { ⌜ Run.Ready (now list) n × Said.Products n (now col) (now roots) (now prefix) (now factors) × Asked.Column p (now col) ⌝ }
     ensures { λ r. ⌜ Run.Entering (now (list .entry)) n (Periodic.basisBack quad p felt generator half (now (col .entry)) (now (factors .entry)) (now (prefix .entry))) (now (list .exit)) r ⌝ }
 {
     let period = col.len();
@@ -292,17 +333,17 @@ fn basis_back(list: &mut [u64], n: usize, factors: &[u64], prefix: &[u64], col: 
         period - 1,
         &mut suffix,
     );
-    basis_sum(list, count, prefix, &suffix[..period], col)
+    basis_sum(list, count, roots, prefix, &suffix[..period], col)
 }
 
 // The factors and the products before each row, and then the rest.
-fn basis_front(list: &mut [u64], n: usize, point: usize, col: &[u64]) -> Entered
-    requires { ⌜ Run.Ready (now list) n × Run.Inside n point × Asked.Column p (now col) ⌝ }
+fn basis_front(list: &mut [u64], n: usize, point: usize, roots: &[u64; 128], col: &[u64]) -> Entered
+    requires { ⌜ Run.Ready (now list) n × Run.Inside n point × Asked.Column p (now col) × Said.Roots (now col) (now roots) ⌝ }
     ensures { λ r. ⌜ Run.Entering (now (list .entry)) n (Periodic.basisFront quad p felt generator half (now (col .entry)) point) (now (list .exit)) r ⌝ }
 {
     let period = col.len();
     let mut store = [0u64; 128];
-    let listed = basis_factors(list, n, point, col, &mut store);
+    let listed = basis_factors(list, n, point, roots, col, &mut store);
     let factors = &store[..period];
     let scale = periodic::constant(list, listed, coefficients::size_inverse(col));
     let mut prefix = [0u64; 128];
@@ -314,7 +355,7 @@ fn basis_front(list: &mut [u64], n: usize, point: usize, col: &[u64]) -> Entered
         period - 1,
         &mut prefix,
     );
-    basis_back(list, count, factors, &prefix[..period], col)
+    basis_back(list, count, roots, factors, &prefix[..period], col)
 }
 
 // The value of a column in basis whose point is ZK squared k times.
@@ -323,5 +364,6 @@ pub fn basis_value(list: &mut [u64], n: usize, col: &[u64], k: usize) -> Entered
     ensures { λ r. ⌜ Run.Entering (now (list .entry)) n (Periodic.basisValue quad p felt generator half (now (col .entry)) k) (now (list .exit)) r ⌝ }
 {
     let z = periodic::z_power(list, n, k);
-    basis_front(list, z.count, z.place, col)
+    let roots = coefficients::roots(col);
+    basis_front(list, z.count, z.place, &roots, col)
 }

@@ -9,7 +9,7 @@ use lib.Dec.{leb}
 use lib.ListN.{length, getD, take, replicate, List·getD-append}
 use lib.Seq.{getD-take, length-take-le}
 use Rattle.field.specs.Field.{p, quad, quad-laws, Below}
-use Rattle.dag.specs.Nodes.{blank, nodes, wordsOf, filled}
+use Rattle.dag.specs.Nodes.{blank, mostRecords, nodes, wordsOf, filled}
 use Rattle.dag.specs.Cases.{and-true}
 use Rattle.dag.specs.Refusals.{need, _then_}
 use Rattle.dag.specs.Check.{listCheck}
@@ -34,6 +34,7 @@ pub record Ready (s : List ℕ) (n root resultWords mapWords : ℕ) : Type 0 whe
   pub result-room : 3 * n ≤ resultWords
   pub map-room : n ≤ mapWords
   pub inside : root < n
+  pub most : n ≤ mostRecords
 
 pub ready : (s : List ℕ) (n root resultWords mapWords : ℕ) → buildCheck s n root resultWords mapWords ≡ Good → Ready s n root resultWords mapWords
 unfolding buildCheck
@@ -46,6 +47,7 @@ ready s n root resultWords mapWords e =
       result-room = leb-true (3 * n) resultWords (stores .0);
       map-room = leb-true n mapWords (stores .1);
       inside = list .inside;
+      most = list .list .most;
     }
 
 -- the answer and the stores of a replay r

@@ -1,5 +1,5 @@
 -- What the builder's functions ask and say of their stores.
-use Prim.Native.Nat.{ℕ, _+_, _<_, _≤_}
+use Prim.Native.Nat.{ℕ, _+_, _*_, _<_, _≤_}
 use mathlib.Core.Bool.{true}
 use mathlib.Core.List.{List}
 use mathlib.Core.Path.{_≡_}
@@ -9,6 +9,7 @@ use Rattle.dag.specs.Store.{Sound}
 use Rattle.dag.specs.Nodes.{nodes}
 use Rattle.dag.specs.Lookup.{lookup}
 use Rattle.dag.specs.WellFormed.{Fine}
+use Rattle.index.specs.Index.{half, NodeIndex}
 use Rattle.dag.specs.declared.NodeKind.{NodeKind}
 use Rattle.dag.specs.declared.Found.{Found}
 use Rattle.dag.specs.declared.Found.the-variants.{At, Missing}
@@ -63,3 +64,14 @@ pub record Pushed (s : List ℕ) (n : ℕ) (x : NodeKind) (after : List ℕ) (r 
   pub inside : r .place < r .count
   pub longer : n ≤ r .count
   pub by-one : r .count ≤ n + 1
+
+-- a store of n records and its index, with room for one record more
+pub record Room (s : List ℕ) (n : ℕ) (links : List ℕ) : Type 0 where
+  pub room : 3 * n + 2 < length s
+  pub index : NodeIndex (nodes s n) links
+  pub link-room : n < half links
+
+-- a store with one request entered, and its index
+pub record Noted (s : List ℕ) (n : ℕ) (x : NodeKind) (after links : List ℕ) (r : Entered) : Type 0 where
+  pub pushed : Pushed s n x after r
+  pub index : NodeIndex (nodes after (r .count)) links

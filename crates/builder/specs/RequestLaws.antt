@@ -1,13 +1,13 @@
 -- Requests on a store: what each kind asks of its operands, what it comes to, and what entering it leaves.
 use Prim.Native.Nat.{ℕ, suc, _+_, _*_, _<_, _≤_}
 use mathlib.Core.List.{List, [], _∷_, _++_}
-use mathlib.Core.Path.{_≡_, refl, sym, _∙_, ap, subst}
+use mathlib.Core.Path.{_≡_, refl, sym, _∙_, ap, ap₂, subst}
 use native.Mathlib.Numerals.{add-one}
 use native.Mathlib.Omega.{arith}
 use lib.ListN.{length}
 use Rattle.field.specs.Field.{p, quad, quad-laws, Below}
 use Rattle.field.specs.declared.QuadFelt.{QuadFelt}
-use Rattle.dag.specs.Nodes.{recordAt, nodes, at}
+use Rattle.dag.specs.Nodes.{tag, first, second, recordAt, nodes, at}
 use Rattle.dag.specs.NodeLaws.{at-nodes, length-nodes}
 use Rattle.dag.specs.Lookup.{lookup}
 use Rattle.dag.specs.Store.{Sound, put}
@@ -17,10 +17,12 @@ use Rattle.dag.specs.declared.NodeKind.{NodeKind}
 use Rattle.dag.specs.declared.NodeKind.the-variants.{Input, Constant, Add, Sub, Mul, Neg}
 use Rattle.dag.specs.declared.Found.{Found}
 use Rattle.dag.specs.declared.Found.the-variants.{At, Missing}
+use Rattle.index.specs.Index.{half, noted, hash, bucketOf, nodeBucket}
+use Rattle.index.specs.NodeIndexLaws.{same-bucket, index-more}
 use Rattle.builder.specs.Steps.{outcome, mulOutcome, negOutcome, addOutcome, subOutcome, interned, intern, enter, step, Built}
 use Rattle.builder.specs.StepLaws.{OutcomeFine, outcome-fine, Grown, step-grown}
 use Rattle.builder.specs.OutcomeLaws.{list-fine, at-below}
-use Rattle.builder.specs.Contracts.{ConstantBelow, ConstantsBelow, Operands, Request, newUnless, foundOrNew, searched, resolved, Pushed}
+use Rattle.builder.specs.Contracts.{ConstantBelow, ConstantsBelow, Operands, Request, newUnless, foundOrNew, searched, resolved, Pushed, Room, Noted}
 use Rattle.builder.specs.declared.Outcome.{Outcome}
 use Rattle.builder.specs.declared.Outcome.the-variants.{Place, Node}
 use Rattle.builder.specs.declared.Entered.{Entered}
@@ -83,9 +85,13 @@ pub resolved-place : (l : List NodeKind) (n : ℕ) (x : NodeKind) (o : Outcome) 
 unfolding resolved
 resolved-place l n x o i e h = ap (searched l n) (sym h ∙ e)
 
-pub resolved-node : (l : List NodeKind) (n : ℕ) (x : NodeKind) (o : Outcome) (y : NodeKind) (r : Outcome) → o ≡ outcome quad l x → o ≡ Node y → r ≡ foundOrNew l n y → r ≡ resolved l n x
+resolved-node : (l : List NodeKind) (n : ℕ) (x : NodeKind) (o : Outcome) (y : NodeKind) (r : Outcome) → o ≡ outcome quad l x → o ≡ Node y → r ≡ foundOrNew l n y → r ≡ resolved l n x
 unfolding resolved
 resolved-node l n x o y r e h k = k ∙ ap (searched l n) (sym h ∙ e)
+
+pub resolved-found : (l : List NodeKind) (n : ℕ) (x : NodeKind) (o : Outcome) (y : NodeKind) (f : Found) (r : Outcome) → o ≡ outcome quad l x → o ≡ Node y → f ≡ lookup l y n → r ≡ newUnless y f → r ≡ resolved l n x
+unfolding foundOrNew
+resolved-found l n x o y f r e h k q = resolved-node l n x o y r e h (q ∙ ap (newUnless y) k)
 
 -- the step's list and place, by what was resolved
 abbrev pub appended : List NodeKind → Outcome → Built
@@ -155,3 +161,20 @@ module _ (s : List ℕ) (n : ℕ) (x : NodeKind) (req : Request s n x) where
         longer = omega arith;
         by-one = omega arith;
       }
+
+  -- a place that is there, with the index as it was
+  pub noted-place : (o : Outcome) (i : ℕ) (links : List ℕ) → o ≡ resolved (nodes s n) n x → o ≡ Place i → Room s n links → Noted s n x s links (record { place = i; count = n })
+  noted-place o i links e h room = record { pushed = pushed-place o i e h; index = room .index }
+
+  -- a record appended and noted
+  pub noted-node : (o : Outcome) (z : NodeKind) (after links later : List ℕ) (t a b : ℕ) → o ≡ resolved (nodes s n) n x → o ≡ Node z → after ≡ put s n z → Room s n links
+      → t ≡ tag z → a ≡ first z → b ≡ second z → later ≡ noted links n (bucketOf (half links) (hash t a b))
+      → Noted s n x after later (record { place = n; count = n + 1 })
+  noted-node o z after links later t a b e h k room et ea eb el =
+      record {
+        pushed = pushed-node o z after e h k (room .room);
+        index = rw (k, add-one n, nodes-put s n z (room .room), is) (index-more (nodes s n) links z (room .index) (rw (length-nodes s n) (room .link-room)));
+      }
+    where
+      is : later ≡ noted links (length (nodes s n)) (nodeBucket (half links) z)
+      is = el ∙ ap₂ (noted links) (sym (length-nodes s n)) (same-bucket (half links) et ea eb)

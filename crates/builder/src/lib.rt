@@ -13,6 +13,7 @@ ghost use Rattle.field.specs.Field.{p, quad, Below};
 ghost use Rattle.dag.specs.Nodes as Nodes;
 ghost use Rattle.dag.specs.Store as Store;
 ghost use Rattle.dag.specs.WellFormed as Well;
+ghost use Rattle.index.specs.Index.{half, Usable, NodeIndex};
 ghost use Rattle.builder.specs.Steps as Steps;
 ghost use Rattle.builder.specs.Contracts as Said;
 ghost use Rattle.builder.specs.Calls as Calls;
@@ -270,40 +271,57 @@ fn request_outcome(list: &[u64], n: usize, x: NodeKind) -> Outcome
     }
 }
 
-// The place of a record among the first n, or the record itself where it is new.
-fn found_or_new(list: &[u64], n: usize, x: NodeKind) -> Outcome
-    requires { ⌜ Store.Sound p (now list) n ⌝ }
-    ensures { λ r. ⌜ r ≡ Said.foundOrNew (Nodes.nodes (now (list .entry)) n) n x ⌝ }
+// A search's answer: a place, or the record itself where it is new.
+fn found_or_new(found: Found, x: NodeKind) -> Outcome
+    ensures { λ r. ⌜ r ≡ Said.newUnless x found ⌝ }
 {
-    let found = dag::lookup(list, n, x);
     match found {
         Found::At(i) => Outcome::Place(i),
         Found::Missing => Outcome::Node(x),
     }
 }
 
-// The place of a request's result among the first n records, or the new record that it needs.
-pub fn resolve(list: &[u64], n: usize, x: NodeKind) -> Outcome
+// The place of a request's result among the first n records, or the new record that it needs, by the plain search.
+fn resolve_searching(list: &[u64], n: usize, x: NodeKind) -> Outcome
     requires { ⌜ Said.Request (now list) n x ⌝ }
     ensures { λ r. ⌜ r ≡ Said.resolved (Nodes.nodes (now (list .entry)) n) n x ⌝ }
 {
     let first = request_outcome(list, n, x);
     match first {
         Outcome::Place(i) => Outcome::Place(i),
-        Outcome::Node(y) => found_or_new(list, n, y),
+        Outcome::Node(y) => found_or_new(dag::lookup(list, n, y), y),
     }
 }
 
-// Enters one request into a list of n records that has room for one more.
-pub fn push(list: &mut [u64], n: usize, x: NodeKind) -> Entered
-    requires { ⌜ Said.Request (now list) n x × (3 * n + 2 < length (now list)) ⌝ }
-    ensures { λ r. ⌜ Said.Pushed (now (list .entry)) n x (now (list .exit)) r ⌝ }
+// The same by the list's index.
+pub fn resolve(list: &[u64], n: usize, links: &[u64], x: NodeKind) -> Outcome
+    requires { ⌜ Said.Request (now list) n x × NodeIndex (Nodes.nodes (now list) n) (now links) ⌝ }
+    ensures { λ r. ⌜ r ≡ Said.resolved (Nodes.nodes (now (list .entry)) n) n x ⌝ }
 {
-    let result = resolve(list, n, x);
+    let first = request_outcome(list, n, x);
+    match first {
+        Outcome::Place(i) => Outcome::Place(i),
+        Outcome::Node(y) => found_or_new(index::find(list, n, links, y), y),
+    }
+}
+
+// Enters one request into a list of n records and its index, which have room for one more.
+pub fn push(list: &mut [u64], n: usize, links: &mut [u64], x: NodeKind) -> Entered
+    requires { ⌜ Said.Request (now list) n x × Said.Room (now list) n (now links) ⌝ }
+    ensures { λ r. ⌜ Said.Noted (now (list .entry)) n x (now (list .exit)) (now (links .exit)) r ⌝ }
+{
+    let result = resolve(list, n, links, x);
     match result {
         Outcome::Place(i) => Entered { place: i, count: n },
         Outcome::Node(y) => {
             dag::put_node(list, n, y);
+            index::note(
+                links,
+                n,
+                dag::tag_of(y),
+                dag::first_of(y),
+                dag::second_of(y),
+            );
             Entered {
                 place: n,
                 count: n + 1,
@@ -346,7 +364,7 @@ fn enter(list: &mut [u64], n: usize, x: NodeKind) -> StepAnswer
     requires { ⌜ Said.Request (now list) n x × (n ≤ Nodes.mostRecords) ⌝ }
     ensures { λ r. ⌜ CallLaws.Stepped (now (list .entry)) n (Said.resolved (Nodes.nodes (now (list .entry)) n) n x) r (now (list .exit)) ⌝ }
 {
-    let result = resolve(list, n, x);
+    let result = resolve_searching(list, n, x);
     match result {
         Outcome::Place(i) => StepAnswer::Done { place: i, count: n },
         Outcome::Node(y) => append(list, n, y),
@@ -389,15 +407,16 @@ pub fn renamed(map: &[u64], x: NodeKind) -> NodeKind
 }
 
 // Replays the requests one after the other into an empty list; answers its count.
-fn replay(list: &[u64], n: usize, result: &mut [u64], map: &mut [u64]) -> usize
-    requires { ⌜ Store.Sound p (now list) n × (3 * n ≤ length (now result)) × (n ≤ length (now map)) ⌝ }
+fn replay(list: &[u64], n: usize, result: &mut [u64], map: &mut [u64], links: &mut [u64]) -> usize
+    requires { ⌜ Store.Sound p (now list) n × (3 * n ≤ length (now result)) × (n ≤ length (now map)) × Usable (now links) × (n ≤ half (now links)) ⌝ }
     ensures { λ r. ⌜ Held.Holds (Steps.replay quad (Nodes.nodes (now (list .entry)) n) n) n (now (result .exit)) (now (map .exit)) r ⌝ }
 {
+    index::clear(links);
     let mut count = 0;
     let mut i = 0;
     while i < n {
         let x = renamed(map, dag::node_at(list, i));
-        let entered = push(result, count, x);
+        let entered = push(result, count, links, x);
         map[i] = entered.place as u64;
         count = entered.count;
         i += 1;
@@ -428,6 +447,27 @@ fn build_check(
     Checked::Good
 }
 
+// Build past its tests, with the links of an index lent.
+fn build_with(
+    list: &[u64],
+    n: usize,
+    root: usize,
+    result: &mut [u64],
+    map: &mut [u64],
+    links: &mut [u64],
+) -> BuildAnswer
+    requires { ⌜ BuildLaws.Ready (now list) n root (length (now result)) (length (now map)) × Usable (now links) × (n ≤ half (now links)) ⌝ }
+    ensures { λ r. ⌜ BuildLaws.Finished (Steps.replay quad (Nodes.nodes (now (list .entry)) n) n) root (now (result .entry)) (now (map .entry)) r (now (result .exit)) (now (map .exit)) ⌝ }
+{
+    let count = replay(list, n, result, map, links);
+    dag::blank_from(result, 3 * count);
+    dag::blank_from(map, n);
+    BuildAnswer::Done {
+        count,
+        root: mapped(map, root),
+    }
+}
+
 // Build past its tests.
 fn build_ready(
     list: &[u64],
@@ -439,13 +479,12 @@ fn build_ready(
     requires { ⌜ BuildLaws.Ready (now list) n root (length (now result)) (length (now map)) ⌝ }
     ensures { λ r. ⌜ BuildLaws.Finished (Steps.replay quad (Nodes.nodes (now (list .entry)) n) n) root (now (result .entry)) (now (map .entry)) r (now (result .exit)) (now (map .exit)) ⌝ }
 {
-    let count = replay(list, n, result, map);
-    dag::blank_from(result, 3 * count);
-    dag::blank_from(map, n);
-    BuildAnswer::Done {
-        count,
-        root: mapped(map, root),
+    if n <= index::FEW {
+        let mut few = [0u64; 2 * index::FEW];
+        return build_with(list, n, root, result, map, &mut few);
     }
+    let mut links = [0u64; 2 * dag::MOST_RECORDS];
+    build_with(list, n, root, result, map, &mut links)
 }
 
 // Build: a list of requests with a root, one after the other into an empty list.

@@ -9,7 +9,7 @@ use Rattle.ring.specs.Ring.{Ops}
 use Rattle.ring.specs.Power.{pow}
 use Rattle.columns.specs.Columns.{logLength, support}
 use Rattle.columns.specs.Prepare.{upTo, padded}
-use Rattle.coefficients.specs.Terms.{dense, scaledValue, twiddle}
+use Rattle.coefficients.specs.Terms.{root, dense, scaledValue, twiddle}
 
 -- place j, unless its entry v is 0
 unfoldable pub placed : ℕ → ℕ → List ℕ
@@ -19,13 +19,20 @@ placed j v = cond (eqb v 0) [] (j ∷ [])
 unfoldable pub squares : Ops ℕ → ℕ → ℕ → List ℕ
 squares o base L = padded 0 7 (upTo (λ i. pow o base (2 ^ i)) L)
 
+-- a column's entries, then 0
+unfoldable pub copied : List ℕ → List ℕ
+copied c = padded 0 128 (upTo (λ i. getD c i 0) (length c))
+
 module _ (o : Ops ℕ) where
-  -- the polynomial with coefficients c, lowest degree first, at x
-  unfoldable pub horner : ℕ → List ℕ → ℕ
-  horner x [] = o .zero
-  horner x (v ∷ c) = o .add (o .mul (horner x c) x) v
+  -- base^i for i below n, then 0
+  unfoldable pub powers : ℕ → ℕ → List ℕ
+  powers base n = padded 0 128 (upTo (pow o base) n)
 
   module _ (gen : ℕ → ℕ) (half : ℕ) where
+    -- w^k for each row k, then 0
+    unfoldable pub roots : List ℕ → List ℕ
+    roots c = padded 0 128 (upTo (root o gen half c) (length c))
+
     -- the dense coefficients, 0 past the last
     unfoldable pub coefficients : List ℕ → List ℕ
     coefficients c = padded 0 128 (upTo (dense o gen half c) (length c))

@@ -22,49 +22,7 @@ use Rattle.columns.specs.Prepare.{upTo, padded, allBelow}
 use Rattle.columns.specs.CountLaws.{count-le}
 use Rattle.columns.specs.ClassLaws.{below-at}
 use Rattle.coefficients.specs.Terms.{root, rootInverse, sizeInverse, dense, scaledValue, twiddle}
-use Rattle.coefficients.specs.Arrays.{placed, squares, horner, twiddles}
-
--- Horner's rule sums the terms
-module _ {o : Ops ℕ} (L : Laws o) (x : ℕ) where
-  pub horner-sum : (c : List ℕ) → ((i : ℕ) → i < length c → L .Low (getD c i 0)) → horner o x c ≡ sum o (λ i. o .mul (getD c i 0) (pow o x i)) (length c)
-  unfolding horner
-  horner-sum [] low = sym (sum-zero L (λ i. o .mul (getD {A = ℕ} [] i 0) (pow o x i)))
-  horner-sum (v ∷ c) low =
-      rw (sum-shift L (λ i. o .mul (getD (v ∷ c) i 0) (pow o x i)) (length c), pow-zero L x, L .zero-add (o .mul v (o .one)) (L .low-mul v (o .one)), mul-one L v (low 0 (omega arith)))
-      (L .add-comm (o .mul (horner o x c) x) v
-      ∙ ap (o .add v)
-      (L .mul-comm (horner o x c) x
-      ∙ (ap (o .mul x) (horner-sum c (λ i h. low (suc i) (omega arith)))
-      ∙ (sym (sum-scale L x (λ i. o .mul (getD c i 0) (pow o x i)) (length c))
-      ∙ sum-cong L (λ i. o .mul x (o .mul (getD c i 0) (pow o x i))) (λ i. o .mul (getD c i 0) (pow o x (suc i))) (length c)
-      (λ i _. left-comm (o .mul) (L .mul-comm) (L .mul-assoc) x (getD c i 0) (pow o x i) ∙ ap (o .mul (getD c i 0)) (sym (pow-suc L x i)))))))
-
--- from the end down to place i
-horner-next : (o : Ops ℕ) (x : ℕ) (c : List ℕ) (i : ℕ) → i < length c → horner o x (drop i c) ≡ o .add (o .mul (horner o x (drop (suc i) c)) x) (getD c i 0)
-unfolding horner
-horner-next o x c i h = rw (drop-cons c i 0 h)
-
-pub horner-down : (x : ℕ) (c : List ℕ) (i v y r : ℕ) → 0 < i → i ≤ length c → v ≡ horner felt x (drop i c) → y ≡ felt .mul v x → r ≡ felt .add y (getD c (i - 1) 0) → r ≡ horner felt x (drop (i - 1) c)
-horner-down x c i v y r pos le ev ey er =
-    er ∙ (ap (λ z. felt .add z (getD c (i - 1) 0)) (ey ∙ ap (λ z. felt .mul z x) (ev ∙ ap (λ j. horner felt x (drop j c)) back)) ∙ sym (horner-next felt x c (i - 1) (omega arith)))
-  where
-    back : i ≡ suc (i - 1)
-    back = omega arith
-
-pub horner-start : (x : ℕ) (c : List ℕ) → 0 ≡ horner felt x (drop (length c) c)
-unfolding horner felt
-horner-start x c = rw (drop-of-length-le c {i = length c} (omega arith))
-
--- a dense coefficient
-pub dense-told : (c : List ℕ) (j v x h s r : ℕ) → allBelow p c ≡ true → v ≡ rootInverse felt generator half c → x ≡ pow felt v j → h ≡ horner felt x c → s ≡ sizeInverse felt generator half c → r ≡ felt .mul h s
-    → r ≡ dense felt generator half c j
-unfolding dense
-dense-told c j v x h s r low ev ex eh es er =
-    er ∙ ap₂ (felt .mul)
-    (eh ∙ (horner-sum felt-laws x c (λ i h. below-at p c i low h)
-    ∙ sum-cong felt-laws (λ i. felt .mul (getD c i 0) (pow felt x i)) (λ i. felt .mul (getD c i 0) (pow felt (rootInverse felt generator half c) (j * i))) (length c)
-    (λ i _. ap (felt .mul (getD c i 0)) (rw (ex, ev) (sym (pow-mul felt-laws (rootInverse felt generator half c) j i))))))
-    es
+use Rattle.coefficients.specs.Arrays.{placed, squares, twiddles}
 
 pub pow-start : (a : ℕ) → 1 ≡ pow felt a 0
 unfolding felt
@@ -163,7 +121,3 @@ length-support c = omega (arith, places-many c 0)
 pub value-told : (c ps : List ℕ) (k s r : ℕ) → ps ≡ support c → s ≡ sizeInverse felt generator half c → r ≡ felt .mul (getD c (getD ps k 0) 0) s → r ≡ scaledValue felt generator half c (getD (support c) k 0)
 unfolding scaledValue
 value-told c ps k s r ep es er = er ∙ rw (ep, es)
-
-pub horner-end : (x : ℕ) (c : List ℕ) (i v : ℕ) → i ≤ 0 → v ≡ horner felt x (drop i c) → v ≡ horner felt x c
-horner-end x c zero v h e = e
-horner-end x c (suc i) v h e = absurd (omega arith)

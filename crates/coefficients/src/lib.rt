@@ -13,6 +13,7 @@ ghost use Rattle.columns.specs.Prepare as Prepare;
 ghost use Rattle.columns.specs.Contracts as Asked;
 ghost use Rattle.coefficients.specs.Terms as Terms;
 ghost use Rattle.coefficients.specs.Arrays as Arrays;
+ghost use Rattle.coefficients.specs.Split as Split;
 
 // w^k, where w generates the subgroup of the column's rows.
 pub fn root(col: &[u64], k: usize) -> u64
@@ -36,18 +37,96 @@ pub fn size_inverse(col: &[u64]) -> u64
     felt::pow(felt::HALF, columns::log_length(col) as u64)
 }
 
-// The polynomial with these coefficients, lowest degree first, at x.
-fn horner(col: &[u64], x: u64) -> u64
-    requires { ⌜ (Prepare.allBelow p (now col) ≡ true) × (x < p) ⌝ }
-    ensures { λ r. ⌜ (r ≡ Arrays.horner felt x (now (col .entry))) × (r < p) ⌝ }
+// base^0, base^1, .., base^(n − 1), then 0.
+fn powers(base: u64, n: usize) -> [u64; 128]
+    requires { ⌜ (base < p) × (n ≤ 128) ⌝ }
+    ensures { λ r. ⌜ r ≡ Arrays.powers felt base n ⌝ }
 {
-    let mut value: u64 = 0;
-    let mut i = col.len();
-    while 0 < i {
-        i -= 1;
-        value = felt::add(felt::mul(value, x), col[i]);
+    let mut row = [0u64; 128];
+    let mut power: u64 = 1;
+    let mut i = 0;
+    while i < n {
+        row[i] = power;
+        power = felt::mul(base, power);
+        i += 1;
     }
-    value
+    row
+}
+
+// w^k for each row k, then 0.
+pub fn roots(col: &[u64]) -> [u64; 128]
+    requires { ⌜ length (now col) ≤ 128 ⌝ }
+    ensures { λ r. ⌜ r ≡ Arrays.roots felt generator half (now (col .entry)) ⌝ }
+{
+    powers(
+        felt::two_adic_generator(columns::log_length(col)),
+        col.len(),
+    )
+}
+
+// A column's entries, then 0.
+fn copied(col: &[u64]) -> [u64; 128]
+    requires { ⌜ length (now col) ≤ 128 ⌝ }
+    ensures { λ r. ⌜ r ≡ Arrays.copied (now (col .entry)) ⌝ }
+{
+    let mut row = [0u64; 128];
+    let mut i = 0;
+    while i < col.len() {
+        row[i] = col[i];
+        i += 1;
+    }
+    row
+}
+
+// Place j, counted round a circle of n.
+fn round(n: usize, j: usize) -> usize
+    ensures { λ r. ⌜ r ≡ Split.round n j ⌝ }
+{
+    if j < n { j } else { j - n }
+}
+
+// Writes s words, each from two words of the table that is halved.
+fn join_row(from: &[u64; 128], a: usize, x: u64, s: usize, to: &mut [u64], at: usize)
+    requires { ⌜ Split.Low (now from) × Split.Low (now to) × (x < p) × (a + 2 * s ≤ 128) × (at + s ≤ length (now to)) ⌝ }
+    ensures { λ _. ⌜ Split.RowDone (Split.joined felt (now (from .entry)) s x a) (now (to .entry)) at s (now (to .exit)) ⌝ }
+{
+    let mut r = 0;
+    while r < s {
+        to[at + r] = felt::add(from[a + r], felt::mul(x, from[a + s + r]));
+        r += 1;
+    }
+}
+
+// From a table of n rows of 2·s words, one of 2·n rows of s words.
+fn halved(from: &[u64; 128], factors: &[u64; 128], s: usize, n: usize) -> [u64; 128]
+    requires { ⌜ Split.Low (now from) × Split.Low (now factors) × (0 < s) × (2 * s * n ≤ 128) ⌝ }
+    ensures { λ r. ⌜ Split.Halved felt (now (from .entry)) (now (factors .entry)) s n r × Split.Low r ⌝ }
+{
+    let mut to = [0u64; 128];
+    let mut j = 0;
+    while j < 2 * n {
+        let a = round(n, j) * (2 * s);
+        join_row(from, a, factors[j * s], s, &mut to, j * s);
+        j += 1;
+    }
+    to
+}
+
+// The sum of the entries at the powers of w^(−j), for each row j.
+fn sums(col: &[u64]) -> [u64; 128]
+    requires { ⌜ Asked.Column p (now col) ⌝ }
+    ensures { λ r. ⌜ Split.Reached (now (col .entry)) 1 (length (now (col .entry))) r ⌝ }
+{
+    let factors = powers(root_inverse(col), col.len());
+    let mut table = copied(col);
+    let mut s = col.len();
+    let mut n = 1;
+    while 1 < s {
+        s = s / 2;
+        table = halved(&table, &factors, s, n);
+        n = 2 * n;
+    }
+    table
 }
 
 // The dense coefficients, 0 past the last.
@@ -56,13 +135,11 @@ pub fn dense(col: &[u64]) -> [u64; 128]
     ensures { λ r. ⌜ r ≡ Arrays.coefficients felt generator half (now (col .entry)) ⌝ }
 {
     let scale = size_inverse(col);
-    let step = root_inverse(col);
-    let mut x: u64 = 1;
+    let sums = sums(col);
     let mut coefficients = [0u64; 128];
     let mut j = 0;
     while j < col.len() {
-        coefficients[j] = felt::mul(horner(col, x), scale);
-        x = felt::mul(step, x);
+        coefficients[j] = felt::mul(sums[j], scale);
         j += 1;
     }
     coefficients

@@ -12,6 +12,7 @@ use Rattle.columns.specs.Prepare.{total, columns, allBelow, mostColumns,
 pub record Column (m : ℕ) (c : List ℕ) : Type 0 where
   pub some : 0 < length c
   pub short : length c ≤ 128
+  pub power : isPower 7 (length c) ≡ true
   pub low : allBelow m c ≡ true
 
 -- a column that was tested, with its values

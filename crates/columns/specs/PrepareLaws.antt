@@ -133,6 +133,7 @@ module _ (m : ℕ) (ls es : List ℕ) (j : ℕ) (h : j < length ls) where
       record {
         some = rw (column-length ls es j (t .handed .enough) h) (power-pos 7 (getD ls j 0) (t .handed .powers j h));
         short = column-short (t .handed);
+        power = column-power (t .handed);
         low = t .low j h;
       }
 

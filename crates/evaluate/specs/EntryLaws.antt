@@ -5,9 +5,9 @@ use mathlib.Core.List.{List}
 use mathlib.Core.Logic.{_⊎_, inl, inr}
 use mathlib.Core.Path.{_≡_, refl, sym, _∙_, ap}
 use native.Mathlib.Nat.{mul-suc, mul-le-mul-left}
-use native.Mathlib.Numerals.{add-one}
+use native.Mathlib.Numerals.{add-one, sub-one}
 use native.Mathlib.Omega.{arith}
-use borrow.Author.Tests.{lt-ltb, ltb-true, eqb-true, eqb-false}
+use borrow.Author.Tests.{lt-ltb, ltb-true, eq-eqb, ne-eqb, eqb-true, eqb-false}
 use lib.Dec.{ltb, eqb}
 use lib.ListN.{getD, length}
 use Rattle.dag.specs.Keys.{isKey}
@@ -103,6 +103,25 @@ module _ (width : ℕ) (e : List ℕ) (n : ℕ) (lent : Lent width e n) where
 
   pub key-room : (i : ℕ) → i < n → width * i < length e
   key-room i h = omega (arith, entry-room i h, lent .wide)
+
+-- the search for a key's last entry, one entry a turn
+module _ (width : ℕ) (e : List ℕ) (key : ℕ) where
+  entry-step : (i : ℕ) → 0 < i → entryOf width e i key ≡ cond (eqb (keyAt width e (i - 1)) key) (At (i - 1)) (entryOf width e (i - 1) key)
+  unfolding entryOf
+  entry-step zero h = absurd (omega arith)
+  entry-step (suc i) h = rw (sub-one (suc i))
+
+  module _ (n i : ℕ) (h : 0 < i) (inv : entryOf width e n key ≡ entryOf width e i key) where
+    pub entry-hit : keyAt width e (i - 1) ≡ key → At (i - 1) ≡ entryOf width e n key
+    entry-hit q = sym (inv ∙ (entry-step i h ∙ rw (eq-eqb (keyAt width e (i - 1)) key q)))
+
+    pub entry-miss : (keyAt width e (i - 1) ≡ key → ⊥) → entryOf width e n key ≡ entryOf width e (i - 1) key
+    entry-miss q = inv ∙ (entry-step i h ∙ rw (ne-eqb (keyAt width e (i - 1)) key q))
+
+  pub entry-none : (n i : ℕ) → i ≤ 0 → entryOf width e n key ≡ entryOf width e i key → Missing ≡ entryOf width e n key
+  unfolding entryOf
+  entry-none n zero h inv = sym inv
+  entry-none n (suc i) h inv = absurd (omega arith)
 
 -- what is found is an entry
 module _ (width : ℕ) (e : List ℕ) (key : ℕ) where

@@ -3,17 +3,19 @@ use Prim.Native.Nat.{ℕ, zero, suc, _+_, _-_, _/_, _≤_, _<_}
 use mathlib.Core.Bool.{Bool, true, false}
 use mathlib.Core.List.{List}
 use mathlib.Core.Path.{_≡_, refl, sym, _∙_, ap}
+use native.Mathlib.Nat.{mul-le-mul-left}
 use native.Mathlib.Numerals.{add-one}
 use native.Mathlib.Omega.{arith}
 use borrow.Author.Tests.{eq-eqb, ne-eqb, eqb-true}
 use lib.Dec.{eqb}
 use lib.ListN.{getD, length, replicate}
+use Rattle.dag.specs.declared.Found.{Found}
 use Rattle.dag.specs.declared.Found.the-variants.{At, Missing}
 use Rattle.index.specs.Index.{greatest, half, noted, Usable}
 use Rattle.index.specs.IndexLaws.{indexed-none, indexed-noted, length-noted}
 use Rattle.index.specs.NodeIndexLaws.{node-inside}
 use Rattle.index.specs.WalkLaws.{Walking, walk-begin, walk-on, walk-down, walk-hit, walk-none}
-use Rattle.evaluate.specs.Entries.{keyAt, entryOf}
+use Rattle.evaluate.specs.Entries.{Lent, keyAt, entryOf}
 use Rattle.evaluate.specs.KeyIndex.{keyBucket, Keyed}
 
 -- links of zeros index no entry
@@ -94,3 +96,12 @@ module _ (width : ℕ) (e : List ℕ) (n : ℕ) (links : List ℕ) (key : ℕ) w
 
   pub find-none : (link : ℕ) → Standing link → link ≤ 0 → Missing ≡ entryOf width e n key
   find-none link w g = walk-none here bucket start n only link (w .walking) g ∙ whole
+
+  -- the plain search from here on
+  pub find-plain : (link : ℕ) → Standing link → {r : Found} → r ≡ entryOf width e link key → r ≡ entryOf width e n key
+  unfolding here
+  find-plain link w q = q ∙ (entry-greatest width e link key ∙ (sym (w .walking .same) ∙ whole))
+
+-- the first entries of those lent
+pub lent-first : (width : ℕ) (e : List ℕ) (n k : ℕ) → k ≤ n → Lent width e n → Lent width e k
+lent-first width e n k h d = record { wide = d .wide; room = omega (arith, d .room, mul-le-mul-left width h) }

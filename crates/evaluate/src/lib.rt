@@ -130,8 +130,7 @@ fn note_key(entries: &[u64], width: usize, i: usize, links: &mut [u64])
     requires { ⌜ KeyIndex.Keyed width (now entries) i (now links) × (i < Index.half (now links)) × (width * i < length (now entries)) ⌝ }
     ensures { λ _. ⌜ KeyIndex.Keyed width (now (entries .entry)) (i + 1) (now (links .exit)) ⌝ }
 {
-    let k = key_bucket(links.len() / 2, key_at(entries, width, i));
-    index::link(links, i, k);
+    index::note(links, i, 0, key_at(entries, width, i), 0);
 }
 
 // Indexes the first m entries by their keys, in links that index none.
@@ -146,19 +145,40 @@ fn index_keys(entries: &[u64], width: usize, m: usize, links: &mut [u64])
     }
 }
 
-// The last entry of a key among the first m, along its bucket.
+// The last entry of a key among the first m, by the plain search.
+fn entry_search(entries: &[u64], width: usize, m: usize, key: u64) -> Found
+    requires { ⌜ Lent width (now entries) m ⌝ }
+    ensures { λ r. ⌜ r ≡ Entries.entryOf width (now (entries .entry)) m key ⌝ }
+{
+    let mut i = m;
+    while 0 < i {
+        i -= 1;
+        let number = key_at(entries, width, i);
+        if number == key {
+            return Found::At(i);
+        }
+    }
+    Found::Missing
+}
+
+// The same along the key's bucket; behind many others of the bucket by the plain search.
 fn entry_of(entries: &[u64], width: usize, m: usize, links: &[u64], key: u64) -> Found
     requires { ⌜ Lent width (now entries) m × KeyIndex.Keyed width (now entries) m (now links) ⌝ }
     ensures { λ r. ⌜ r ≡ Entries.entryOf width (now (entries .entry)) m key ⌝ }
 {
     let half = links.len() / 2;
     let mut link = links[key_bucket(half, key)];
+    let mut steps = 0;
     while 0 < link {
+        if index::MOST_STEPS <= steps {
+            return entry_search(entries, width, link as usize, key);
+        }
         let i = (link - 1) as usize;
         if key_at(entries, width, i) == key {
             return Found::At(i);
         }
         link = links[half + i];
+        steps += 1;
     }
     Found::Missing
 }

@@ -34,7 +34,7 @@ unfoldable pub noted : List ℕ → ℕ → ℕ → List ℕ
 noted links n k = set (set links (half links + n) (getD links k 0)) k (n + 1)
 
 -- the hash of three words; nothing is shown by which it is
-unfoldable pub hash : ℕ → ℕ → ℕ → ℕ
+abbrev pub hash : ℕ → ℕ → ℕ → ℕ
 hash t a b = (a % 2 ^ 32 * 1013904243 + a / 2 ^ 32 * 965271753 + b % 2 ^ 32 * 736899889 + t % 8 * 889516853) % 2 ^ 32
 
 -- one of b buckets by a hash

@@ -3,7 +3,7 @@ use Prim.Native.Nat.{ℕ, zero, suc, _+_, _*_, _-_, _/_, _^_, _<_, _≤_}
 use mathlib.Core.Bool.{Bool, true, false, _&&_}
 use mathlib.Core.List.{List, [], _∷_, _++_}
 use mathlib.Core.Logic.{_⊎_, inl, inr}
-use mathlib.Core.Path.{_≡_, refl, sym, _∙_, ap}
+use mathlib.Core.Path.{_≡_, refl, sym, _∙_, ap, ap₂}
 use native.Mathlib.Nat.{mul-lt-mul-of-pos-right, mul-le-mul, sub-zero}
 use native.Mathlib.Numerals.{add-one}
 use native.Mathlib.Omega.{arith}
@@ -17,13 +17,18 @@ use Rattle.dag.specs.Lookup.{lookup}
 use Rattle.dag.specs.Store.{Sound, wordsAre, lookupWords}
 use Rattle.dag.specs.StoreLaws.{lookup-words, tag-word, first-word, second-word, sound-less}
 use Rattle.dag.specs.declared.NodeKind.{NodeKind}
+use Rattle.dag.specs.declared.Found.{Found}
 use Rattle.dag.specs.declared.Found.the-variants.{At, Missing}
 use Rattle.index.specs.Index.{greatest, half, Indexed, noted, hash, bucketOf, nodeBucket, Usable, NodeIndex}
 use Rattle.index.specs.IndexLaws.{indexed-agree, indexed-none, indexed-noted, length-noted}
 use Rattle.index.specs.WalkLaws.{Walking, walk-begin, walk-on, walk-down, walk-hit, walk-none}
 
+-- the same words have the same bucket
+pub same-bucket : (n : ℕ) {t a b u v w : ℕ} → t ≡ u → a ≡ v → b ≡ w → bucketOf n (hash t a b) ≡ bucketOf n (hash u v w)
+same-bucket n {t} {a} {b} {u} {v} {w} p q r =
+    ap (λ x. bucketOf n (hash x a b)) p ∙ (ap (λ x. bucketOf n (hash u x b)) q ∙ ap (λ x. bucketOf n (hash u v x)) r)
+
 pub hash-below : (t a b : ℕ) → hash t a b < 2 ^ 32
-unfolding hash
 hash-below t a b = omega arith
 
 pub bucket-below : (b h : ℕ) → 0 < b → h < 2 ^ 32 → bucketOf b h < b
@@ -74,17 +79,28 @@ module _ (l : List NodeKind) (links : List ℕ) (x : NodeKind) (d : NodeIndex l 
         indexed = rw (k, length-snoc l x) new;
       }
 
--- the record behind the first n of a store
-pub index-next : (m : ℕ) (s : List ℕ) (n : ℕ) (links : List ℕ) (h k : ℕ) (after : List ℕ) → Sound m s (n + 1) → NodeIndex (nodes s n) links → n < half links
-    → h ≡ hash (getD s (3 * n) 0) (getD s (3 * n + 1) 0) (getD s (3 * n + 2) 0) → k ≡ bucketOf (half links) h → after ≡ noted links n k
-    → NodeIndex (nodes s (n + 1)) after
+pub noted-as : (links : List ℕ) (n t a b k : ℕ) {h : ℕ} {after : List ℕ} → after ≡ noted links n k → k ≡ bucketOf (half links) h → h ≡ hash t a b → after ≡ noted links n (bucketOf (half links) (hash t a b))
+noted-as links n t a b k e ek eh = e ∙ ap (noted links n) (ek ∙ ap (bucketOf (half links)) eh)
+
+-- the record at place i of a store, behind those before it
+pub index-next : (m : ℕ) (s : List ℕ) (n i : ℕ) (links after : List ℕ) → Sound m s n → i < n → n ≤ half links → NodeIndex (nodes s i) links
+    → after ≡ noted links i (bucketOf (half links) (hash (getD s (3 * i) 0) (getD s (3 * i + 1) 0) (getD s (3 * i + 2) 0)))
+    → NodeIndex (nodes s (i + 1)) after
 unfolding nodes
-index-next m s n links h k after sound d room eh ek ea =
-    let good : Sound m s (suc n) = rw (add-one n) at sound in
-    let in-list : length (nodes s n) < half links = rw (length-nodes s n) room in
-    let same : k ≡ nodeBucket (half links) (recordAt s n) = ek ∙ ap (bucketOf (half links)) (eh ∙ rw (tag-word m s (suc n) good n (omega arith), first-word m s (suc n) good n (omega arith), second-word m s (suc n) good n (omega arith))) in
-    let is : after ≡ noted links (length (nodes s n)) (nodeBucket (half links) (recordAt s n)) = ea ∙ rw (same, length-nodes s n) in
-    rw (add-one n, is) (index-more (nodes s n) links (recordAt s n) d in-list)
+index-next m s n i links after sound h room d e =
+    let in-list : length (nodes s i) < half links = rw (length-nodes s i) (omega arith) in
+    let same = same-bucket (half links) (tag-word m s n sound i h) (first-word m s n sound i h) (second-word m s n sound i h) in
+    let is : after ≡ noted links (length (nodes s i)) (nodeBucket (half links) (recordAt s i)) = e ∙ ap₂ (noted links) (sym (length-nodes s i)) (sym same) in
+    rw (add-one i, is) (index-more (nodes s i) links (recordAt s i) d in-list)
+
+-- the first of n records that pass
+pub sound-first : (m : ℕ) (s : List ℕ) (n k : ℕ) → k ≤ n → Sound m s n → Sound m s k
+sound-first m s zero k h d = let e : k ≡ 0 = omega arith in rw e d
+sound-first m s (suc n) k h d = go (below-suc k (suc n) (omega arith)) (λ j. sound-first m s n k j (sound-less m s n d))
+  where
+    go : (k < suc n) ⊎ (k ≡ suc n) → (k ≤ n → Sound m s k) → Sound m s k
+    go (inl j) before = before (omega arith)
+    go (inr e) before = rw e d
 
 -- the walk of a lookup over the words t, a, b of a record
 module _ (s : List ℕ) (n : ℕ) (links : List ℕ) (t a b : ℕ) where
@@ -110,7 +126,9 @@ module _ (s : List ℕ) (n : ℕ) (links : List ℕ) (t a b : ℕ) where
     only i h e =
         let p = and-true (eqb (getD s (3 * i) 0) t && eqb (getD s (3 * i + 1) 0) a) (eqb (getD s (3 * i + 2) 0) b) e in
         let q = and-true (eqb (getD s (3 * i) 0) t) (eqb (getD s (3 * i + 1) 0) a) (p .0) in
-        rw (at-nodes s n i h, tag-word m s n sound i h, first-word m s n sound i h, second-word m s n sound i h, eqb-true (getD s (3 * i) 0) t (q .0), eqb-true (getD s (3 * i + 1) 0) a (q .1), eqb-true (getD s (3 * i + 2) 0) b (p .1))
+        ap (nodeBucket (half links)) (at-nodes s n i h)
+        ∙ same-bucket (half links) (tag-word m s n sound i h ∙ eqb-true (getD s (3 * i) 0) t (q .0)) (first-word m s n sound i h ∙ eqb-true (getD s (3 * i + 1) 0) a (q .1))
+        (second-word m s n sound i h ∙ eqb-true (getD s (3 * i + 2) 0) b (p .1))
 
     inside : start < half links
     unfolding start
@@ -143,11 +161,10 @@ module _ (s : List ℕ) (n : ℕ) (links : List ℕ) (t a b : ℕ) where
       pub find-none : (link : ℕ) → Standing link → link ≤ 0 → Missing ≡ lookup (nodes s n) x n
       find-none link w g = walk-none here bucket start n only link (w .walking) g ∙ whole
 
--- the first i + 1 of n records that pass
-pub sound-part : (m : ℕ) (s : List ℕ) (n i : ℕ) → i + 1 ≤ n → Sound m s n → Sound m s (i + 1)
-sound-part m s zero i h d = absurd (omega arith)
-sound-part m s (suc n) i h d = go (below-suc i n (omega arith)) (λ j. sound-part m s n i j (sound-less m s n d))
-  where
-    go : (i < n) ⊎ (i ≡ n) → (i + 1 ≤ n → Sound m s (i + 1)) → Sound m s (i + 1)
-    go (inl j) before = before (omega arith)
-    go (inr e) before = rw (e, add-one n) d
+      -- the plain search from here on
+      pub find-plain : (link : ℕ) → Standing link → {r : Found} → r ≡ lookup (nodes s link) x link → r ≡ lookup (nodes s n) x n
+      unfolding here
+      find-plain link w e =
+          e
+          ∙ (sym (lookup-words m s link (sound-first m s n link (w .walking .below) sound) x link (omega arith))
+          ∙ (sym (rw (et, ea, eb)) ∙ (lookup-greatest s t a b link ∙ (sym (w .walking .same) ∙ whole))))

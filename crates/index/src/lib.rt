@@ -11,6 +11,12 @@ ghost use Rattle.dag.specs.Store as Store;
 ghost use Rattle.dag.specs.Lookup as Lookup;
 ghost use Rattle.index.specs.Index as Index;
 
+// So many places an index has for a short list, where the links of a long one would take longer to clear than to use.
+pub const FEW: usize = 256;
+
+// So many steps a walk along a bucket takes before the plain search is quicker.
+pub const MOST_STEPS: usize = 8;
+
 // 2^32.
 const BASE: u64 = 4294967296;
 
@@ -38,7 +44,7 @@ pub fn clear(links: &mut [u64])
 }
 
 // Notes place n in bucket k.
-pub fn link(links: &mut [u64], n: usize, k: usize)
+fn link(links: &mut [u64], n: usize, k: usize)
     requires { ⌜ (n < Index.half (now links)) × (k < Index.half (now links)) ⌝ }
     ensures { λ _. ⌜ now (links .exit) ≡ Index.noted (now (links .entry)) n k ⌝ }
 {
@@ -46,13 +52,13 @@ pub fn link(links: &mut [u64], n: usize, k: usize)
     links[k] = n as u64 + 1;
 }
 
-// Notes the record at place n of a list, behind those before it.
-pub fn note(list: &[u64], n: usize, links: &mut [u64])
-    requires { ⌜ Store.Sound p (now list) (n + 1) × Index.NodeIndex (Nodes.nodes (now list) n) (now links) × (n < Index.half (now links)) ⌝ }
-    ensures { λ _. ⌜ Index.NodeIndex (Nodes.nodes (now (list .entry)) (n + 1)) (now (links .exit)) ⌝ }
+// Notes place n in the bucket of three words.
+pub fn note(links: &mut [u64], n: usize, t: u64, a: u64, b: u64)
+    requires { ⌜ Index.Usable (now links) × (n < Index.half (now links)) ⌝ }
+    ensures { λ _. ⌜ now (links .exit) ≡ Index.noted (now (links .entry)) n (Index.bucketOf (Index.half (now (links .entry))) (Index.hash t a b)) ⌝ }
 {
-    let h = hash(list[3 * n], list[3 * n + 1], list[3 * n + 2]);
-    link(links, n, bucket_of(links.len() / 2, h));
+    let k = bucket_of(links.len() / 2, hash(t, a, b));
+    link(links, n, k);
 }
 
 // Indexes the first n records of a list.
@@ -63,12 +69,12 @@ pub fn index_list(list: &[u64], n: usize, links: &mut [u64])
     clear(links);
     let mut i = 0;
     while i < n {
-        note(list, i, links);
+        note(links, i, list[3 * i], list[3 * i + 1], list[3 * i + 2]);
         i += 1;
     }
 }
 
-// The greatest place of a record equal to x among the first n, along its bucket.
+// The greatest place of a record equal to x among the first n, along its bucket; behind many others of the bucket by the plain search.
 pub fn find(list: &[u64], n: usize, links: &[u64], x: NodeKind) -> Found
     requires { ⌜ Store.Sound p (now list) n × Index.NodeIndex (Nodes.nodes (now list) n) (now links) ⌝ }
     ensures { λ r. ⌜ r ≡ Lookup.lookup (Nodes.nodes (now (list .entry)) n) x n ⌝ }
@@ -78,12 +84,17 @@ pub fn find(list: &[u64], n: usize, links: &[u64], x: NodeKind) -> Found
     let b = dag::second_of(x);
     let half = links.len() / 2;
     let mut link = links[bucket_of(half, hash(t, a, b))];
+    let mut steps = 0;
     while 0 < link {
+        if MOST_STEPS <= steps {
+            return dag::lookup(list, link as usize, x);
+        }
         let i = (link - 1) as usize;
         if dag::words_are(list, i, t, a, b) {
             return Found::At(i);
         }
         link = links[half + i];
+        steps += 1;
     }
     Found::Missing
 }

@@ -10,14 +10,15 @@ use native.Mathlib.Omega.{arith}
 use borrow.Author.Tests.{le-leb, lt-leb, eq-eqb, ne-eqb, leb-true, leb-false, eqb-true}
 use lib.Dec.{leb, eqb}
 use lib.ListN.{getD, length, take, drop, set, replicate, length-append, length-replicate, drop-of-length-le, List·getD-append}
-use lib.Seq.{drop-cons, take-suc, take-suc-set, getD-take, length-take-le, take-length}
+use borrow.Rule.Slice.PartMut.{putMid, same-len-mid}
+use lib.Seq.{drop-at, drop-cons, take-suc, take-suc-set, getD-take, length-take-le, take-length}
 use Rattle.field.specs.Field.{p, felt, quad}
 use Rattle.field.specs.Generators.{generator, half}
 use Rattle.dag.specs.Cases.{and-true, or-true, cond-elim}
-use Rattle.dag.specs.Nodes.{blank, mostRecords, recordAt, nodes, wordsOf, filled}
+use Rattle.dag.specs.Nodes.{blank, mostRecords, nodes, wordsOf, filled}
 use Rattle.dag.specs.NodeLaws.{length-nodes}
 use Rattle.dag.specs.Refusals.{need, _then_, isRefused, unlessRefused}
-use Rattle.dag.specs.Check.{checkAt, recordsCheck, rootlessCheck}
+use Rattle.dag.specs.Check.{rootlessCheck}
 use Rattle.dag.specs.CheckLaws.{then-good, need-good, refused-then}
 use Rattle.dag.specs.PassLaws.{Listed, listed}
 use Rattle.dag.specs.Store.{Sound}
@@ -32,8 +33,10 @@ use Rattle.columns.specs.Contracts.{Tested}
 use Rattle.columns.specs.PrepareLaws.{prepared}
 use Rattle.periodic.specs.Builder.{Run}
 use Rattle.periodic.specs.Periodic.{buildPeriodicNodes}
-use Rattle.periodic.specs.Running.{Holds, Ready, Listing}
+use Rattle.index.specs.Index.{NodeIndex}
+use Rattle.periodic.specs.Running.{storeWords, links, Holds, Ready, Listing}
 use Rattle.periodic.specs.RunLaws.{le-or-lt}
+use Rattle.periodic.specs.StoreLaws.{Same, same-records, same-sound, links-back}
 use Rattle.lower.specs.Lower.{longestFrom, longest, periodGood, lowerCheck, lowered, roomCheck, wholeCheck, lowerAnswer, lowerResult, lowerPlaces, lowerWork}
 use Rattle.lower.specs.Contracts.{Covered}
 use Rattle.lower.specs.FormLaws.{covered}
@@ -84,6 +87,13 @@ module _ (ls : List ℕ) (period : ℕ) where
       go (inl z) = let q = eqb-true (length ls) 0 z in absurd (omega arith)
       go (inr b) = le-trans (longest-le 0 ls j h) (leb-true (longestFrom 0 ls) period (and-true (isPower 32 period) (leb (longestFrom 0 ls) period) b .1))
 
+-- what the tests give
+pub record Passed (s : List ℕ) (n : ℕ) (ls es : List ℕ) (period placeWords : ℕ) : Type 0 where
+  pub list : Listed p s 0 n
+  pub tested : Tested p ls es
+  pub place-room : length ls ≤ placeWords
+  pub covered : Covered ls es (logWithin 32 period)
+
 -- the tests in their order
 module _ (s : List ℕ) (n : ℕ) (ls es : List ℕ) (period workWords placeWords : ℕ) where
   pub check-list : (r : Checked) → r ≡ rootlessCheck p 0 s n → isRefused (rootlessCheck p 0 s n) ≡ true → r ≡ lowerCheck s n ls es period workWords placeWords
@@ -108,15 +118,7 @@ module _ (s : List ℕ) (n : ℕ) (ls es : List ℕ) (period workWords placeWord
       unfolding lowerCheck
       check-period t h k e = rw (good, fine, le-leb (3 * mostRecords) workWords h, le-leb (length ls) placeWords k, e)
 
-  -- what the tests give
-  pub record Passed : Type 0 where
-    pub list : Listed p s 0 n
-    pub tested : Tested p ls es
-    pub work-room : 3 * mostRecords ≤ workWords
-    pub place-room : length ls ≤ placeWords
-    pub covered : Covered ls es (logWithin 32 period)
-
-  pub passed : lowerCheck s n ls es period workWords placeWords ≡ Good → Passed
+  pub passed : lowerCheck s n ls es period workWords placeWords ≡ Good → Passed s n ls es period placeWords
   unfolding lowerCheck
   passed e =
       let stores = leb (3 * mostRecords) workWords && leb (length ls) placeWords in
@@ -128,10 +130,12 @@ module _ (s : List ℕ) (n : ℕ) (ls es : List ℕ) (period workWords placeWord
       record {
         list = listed p 0 s n (one .0);
         tested = t;
-        work-room = leb-true (3 * mostRecords) workWords (both .0);
         place-room = leb-true (length ls) placeWords (both .1);
         covered = covered ls es period t (covers ls period (need-good (periodGood ls period) SharedPeriod (three .1)));
       }
+
+pub blank-whole : (s t : List ℕ) (n : ℕ) → length s ≡ n → t ≡ take 0 s ++ replicate (length s - 0) blank → t ≡ replicate n blank
+blank-whole s t n e q = let k : length s - 0 ≡ n = omega arith in q ∙ ap (λ k. replicate k blank) k
 
 -- a store filled from another, word by word
 module _ (a b : List ℕ) (i : ℕ) where
@@ -142,47 +146,44 @@ pub filled-told : (a b c : List ℕ) (m n : ℕ) → m ≤ length a → take m b
 unfolding filled
 filled-told a b c m n h e k q = q ∙ rw (e, k, length-take-le m a h)
 
--- stores that begin with the same words hold the same records
-module _ (s u : List ℕ) where
-  Same : ℕ → Type 0
-  Same n = (k : ℕ) → k < 3 * n → getD s k 0 ≡ getD u k 0
+-- a store to build in, with the first n records of the list s and their index
+pub record Stored (s : List ℕ) (n : ℕ) (t : List ℕ) : Type 0 where
+  pub long : length t ≡ storeWords
+  pub same : Same s t n
+  pub indexed : NodeIndex (nodes s n) (links t)
 
-  same-records : (n : ℕ) → Same n → nodes s n ≡ nodes u n
-  unfolding nodes recordAt Same
-  same-records zero a = refl
-  same-records (suc n) a =
-      rw (same-records n (λ k h. a k (omega arith)), a (3 * n) (omega arith), a (3 * n + 1) (omega arith), a (3 * n + 2) (omega arith))
+module _ (s : List ℕ) (n : ℕ) (few : n ≤ mostRecords) where
+  pub stored : (u ys : List ℕ) → take (3 * n) u ≡ take (3 * n) s → length u ≡ storeWords → NodeIndex (nodes s n) ys → length ys ≡ length (take (length u - 3 * mostRecords) (drop (3 * mostRecords) u))
+      → Stored s n (putMid (3 * mostRecords) (length u - 3 * mostRecords) u ys)
+  stored u ys e long d kept = record { long = same-len-mid (3 * mostRecords) (length u - 3 * mostRecords) u ys kept ∙ long; same = same; indexed = rw (links-back u ys long, drop-at (take (3 * mostRecords) u) ys (3 * mostRecords) front) d }
+    where
+      front : length (take (3 * mostRecords) u) ≡ 3 * mostRecords
+      front = length-take-le (3 * mostRecords) u (omega arith)
 
-  same-checks : (n : ℕ) → Same n → recordsCheck p s n ≡ recordsCheck p u n
-  unfolding recordsCheck checkAt Same
-  same-checks zero a = refl
-  same-checks (suc n) a =
-      rw (same-checks n (λ k h. a k (omega arith)), a (3 * n) (omega arith), a (3 * n + 1) (omega arith), a (3 * n + 2) (omega arith))
+      same : Same s (putMid (3 * mostRecords) (length u - 3 * mostRecords) u ys) n
+      same k h =
+          rw (links-back u ys long)
+          (sym (getD-take (3 * n) s k 0 h) ∙ (ap (λ l. getD l k 0) (sym e) ∙ (getD-take (3 * n) u k 0 h
+          ∙ sym (List·getD-append (take (3 * mostRecords) u) ys 0 k (omega (arith, front)) ∙ getD-take (3 * mostRecords) u k 0 (omega arith)))))
 
--- a work store with the list copied into it
-module _ (s : List ℕ) (n : ℕ) (work words : List ℕ) (sound : Sound p s n) (room : 3 * mostRecords ≤ length work) (few : n ≤ mostRecords) (e : words ≡ filled (length work) (take (3 * n) s)) where
-  same-words : Same s words n
-  unfolding Same filled
-  same-words k h =
-      sym (rw e (List·getD-append (take (3 * n) s) (replicate (length work - length (take (3 * n) s)) blank) 0 k (rw (length-take-le (3 * n) s (sound .room)) h)) ∙ getD-take (3 * n) s k 0 h)
+  module _ (sound : Sound p s n) (t : List ℕ) (d : Stored s n t) where
+    stored-sound : Sound p t n
+    stored-sound = same-sound s t n (omega (arith, d .long)) (d .same) sound
 
-  copied-long : length words ≡ length work
-  unfolding filled
-  copied-long = rw e (length-append (take (3 * n) s) (replicate (length work - length (take (3 * n) s)) blank) ∙ (rw (length-replicate {A = ℕ} (length work - length (take (3 * n) s)) blank, length-take-le (3 * n) s (sound .room)) (omega arith)))
+    stored-records : nodes s n ≡ nodes t n
+    stored-records = same-records s t n (d .same)
 
-  copied-sound : Sound p words n
-  copied-sound = record { room = omega (arith, copied-long); good = sym (same-checks s words n same-words) ∙ sound .good }
+    pub stored-holds : Holds t n (nodes s n)
+    stored-holds =
+        record {
+          sound = λ _. stored-sound;
+          list-is = λ _. sym stored-records;
+          indexed = λ _. subst (λ l. NodeIndex l (links t)) stored-records (d .indexed);
+          too-long = λ h. absurd (omega arith);
+        }
 
-  pub copied-ready : Ready words n
-  copied-ready = record { room = rw copied-long room; sound = λ _. copied-sound }
-
-  pub copied-holds : Holds words n (nodes s n)
-  copied-holds =
-      record {
-        sound = λ _. copied-sound;
-        list-is = λ _. sym (same-records s words n same-words);
-        too-long = λ h. absurd (omega arith);
-      }
+    pub stored-ready : Ready t n
+    stored-ready = record { long = d .long; sound = λ _. stored-sound; indexed = stored-holds .indexed }
 
 -- a list of count records has room
 abbrev pub hasRoom : ℕ → List ℕ → Bool
@@ -215,10 +216,9 @@ need-cond true q f g = refl
 need-cond false q f g = refl
 
 -- the answer and the stores, past the first tests
-pub record Finished (s : List ℕ) (n : ℕ) (ls es : List ℕ) (period : ℕ) (result work places : List ℕ) (r : LowerAnswer) (after blanked listed : List ℕ) : Type 0 where
+pub record Finished (s : List ℕ) (n : ℕ) (ls es : List ℕ) (period : ℕ) (result places : List ℕ) (r : LowerAnswer) (after listed : List ℕ) : Type 0 where
   pub answer : r ≡ unlessRefused (roomCheck (lowered s n ls es period) (length result)) LowerAnswer'.Refused (LowerAnswer'.Done (length (lowered s n ls es period .list)))
   pub result-is : after ≡ unlessRefused (roomCheck (lowered s n ls es period) (length result)) (λ q. result) (filled (length result) (wordsOf (lowered s n ls es period .list)))
-  pub work-is : blanked ≡ replicate (length work) blank
   pub places-are : listed ≡ unlessRefused (roomCheck (lowered s n ls es period) (length result)) (λ q. places) (filled (length places) (lowered s n ls es period .answer))
 
 module _ (result places : List ℕ) (L : Run (List ℕ)) (work : List ℕ) (count : ℕ) (ns : List ℕ) (holds : Holds work count (L .list)) (answers : count ≤ mostRecords → ns ≡ L .answer) (r : LowerAnswer) (after listed : List ℕ) (h : HandedOver work count ns result places r after listed) where
@@ -259,31 +259,25 @@ module _ (result places : List ℕ) (L : Run (List ℕ)) (work : List ℕ) (coun
       ∙ (when-room (filled (length places) ns) (filled (length places) (L .answer)) places (λ i. ap (filled (length places)) (answers i))
       ∙ need-cond (hasRoom (length (L .list)) result) NoRoom (λ q. places) (filled (length places) (L .answer)))
 
-pub finished : (s : List ℕ) (n : ℕ) (ls es : List ℕ) (period : ℕ) (result work places : List ℕ) (words : List ℕ) (log : ℕ) (built : List ℕ) (count : ℕ) (ns : List ℕ) (r : LowerAnswer) (after listed blanked : List ℕ)
-    → Passed s n ls es period (length work) (length places)
-    → words ≡ filled (length work) (take (3 * n) s)
+pub finished : (s : List ℕ) (n : ℕ) (ls es : List ℕ) (period : ℕ) (result places : List ℕ) (words : List ℕ) (log : ℕ) (built : List ℕ) (count : ℕ) (ns : List ℕ) (r : LowerAnswer) (after listed : List ℕ)
+    → Passed s n ls es period (length places)
+    → Stored s n words
     → log ≡ logWithin 32 period
     → Listing words n (buildPeriodicNodes quad p felt generator half (columns ls es) log) built count ns (length ls)
     → HandedOver built count (take (length ls) ns) result places r after listed
-    → blanked ≡ take 0 built ++ replicate (length built - 0) blank
-    → Finished s n ls es period result work places r after blanked listed
+    → Finished s n ls es period result places r after listed
 unfolding lowered
-finished s n ls es period result work places words log built count ns r after listed blanked ok copy el d h b =
-    let holds = copied-holds s n work words (ok .list .sound) (ok .work-room) (ok .list .most) copy in
-    let long = copied-long s n work words (ok .list .sound) (ok .work-room) (ok .list .most) copy in
-    let run = subst (λ x. Listing words n (buildPeriodicNodes quad p felt generator half (columns ls es) x) built count ns (length ls)) el d in
+finished s n ls es period result places words log built count ns r after listed ok d el run h =
+    let holds = stored-holds s n (ok .list .most) (ok .list .sound) words d in
+    let ran = subst (λ x. Listing words n (buildPeriodicNodes quad p felt generator half (columns ls es) x) built count ns (length ls)) el run in
     let L = buildPeriodicNodes quad p felt generator half (columns ls es) (logWithin 32 period) .run (nodes s n) in
-    let g = run .ran .gives (nodes s n) holds in
-    let a = run .ran .answers (nodes s n) holds in
+    let g = ran .ran .gives (nodes s n) holds in
+    let a = ran .ran .answers (nodes s n) holds in
     record {
       answer = room-answer result places L built count (take (length ls) ns) g a r after listed h;
       result-is = room-result result places L built count (take (length ls) ns) g a r after listed h;
-      work-is = b ∙ ap (λ k. replicate k blank) (zeros (length built) (length work) (run .ran .kept ∙ long));
       places-are = room-places result places L built count (take (length ls) ns) g a r after listed h;
     }
-  where
-    zeros : (k m : ℕ) → k ≡ m → k - 0 ≡ m
-    zeros k m e = omega arith
 
 -- the whole call
 pub record Called (s : List ℕ) (n : ℕ) (ls es : List ℕ) (period : ℕ) (result work places : List ℕ) (r : LowerAnswer) (after blanked listed : List ℕ) : Type 0 where
@@ -297,7 +291,7 @@ module _ (s : List ℕ) (n : ℕ) (ls es : List ℕ) (period : ℕ) (result work
   unfolding lowerAnswer lowerResult lowerWork lowerPlaces wholeCheck
   lower-refused r e = record { answer = rw e; result-is = rw e; work-is = rw e; places-are = rw e }
 
-  pub lower-done : (r : LowerAnswer) (after blanked listed : List ℕ) → lowerCheck s n ls es period (length work) (length places) ≡ Good → Finished s n ls es period result work places r after blanked listed → Called s n ls es period result work places r after blanked listed
+  pub lower-done : (r : LowerAnswer) (after blanked listed : List ℕ) → lowerCheck s n ls es period (length work) (length places) ≡ Good → Finished s n ls es period result places r after listed → blanked ≡ replicate (length work) blank → Called s n ls es period result work places r after blanked listed
   unfolding lowerAnswer lowerResult lowerWork lowerPlaces wholeCheck
-  lower-done r after blanked listed e d =
-      record { answer = rw e (d .answer); result-is = rw e (d .result-is); work-is = rw e (d .work-is); places-are = rw e (d .places-are) }
+  lower-done r after blanked listed e d b =
+      record { answer = rw e (d .answer); result-is = rw e (d .result-is); work-is = rw e b; places-are = rw e (d .places-are) }

@@ -7,10 +7,11 @@ ghost use mathlib.Core.Path.{_≡_};
 ghost use mathlib.Core.Bool.{cond};
 ghost use lib.Dec.{leb};
 ghost use Prim.Native.Nat.{ℕ, _+_, _*_, _-_, _<_, _≤_};
-ghost use lib.ListN.{length, getD, take, drop};
+ghost use lib.ListN.{length, getD, take, drop, replicate};
 ghost use Rattle.field.specs.Field.{p, felt, quad};
 ghost use Rattle.field.specs.Generators.{generator, half};
-ghost use Rattle.dag.specs.Nodes.{mostRecords, filled};
+ghost use Rattle.dag.specs.Nodes.{mostRecords, blank, filled};
+ghost use Rattle.dag.specs.Store.{Sound};
 ghost use Rattle.columns.specs.Columns as Columns;
 ghost use Rattle.columns.specs.Prepare as Prepare;
 ghost use Rattle.columns.specs.Contracts as Asked;
@@ -150,17 +151,34 @@ fn lower_check(
     Checked::Good
 }
 
-// Writes the first m words of a store to another, blanks behind them.
-fn fill_from(from: &[u64], m: usize, to: &mut [u64])
+// Writes the first m words of a store to another.
+fn copy(from: &[u64], m: usize, to: &mut [u64])
     requires { ⌜ (m ≤ length (now from)) × (m ≤ length (now to)) ⌝ }
-    ensures { λ _. ⌜ now (to .exit) ≡ filled (length (now (to .entry))) (take m (now (from .entry))) ⌝ }
+    ensures { λ _. ⌜ take m (now (to .exit)) ≡ take m (now (from .entry)) ⌝ }
 {
     let mut i = 0;
     while i < m {
         to[i] = from[i];
         i += 1;
     }
+}
+
+// Writes the first m words of a store to another, blanks behind them.
+fn fill_from(from: &[u64], m: usize, to: &mut [u64])
+    requires { ⌜ (m ≤ length (now from)) × (m ≤ length (now to)) ⌝ }
+    ensures { λ _. ⌜ now (to .exit) ≡ filled (length (now (to .entry))) (take m (now (from .entry))) ⌝ }
+{
+    copy(from, m, to);
     dag::blank_from(to, m);
+}
+
+// Writes the first n records of a list and their index to a store.
+fn store_list(list: &[u64], n: usize, store: &mut [u64])
+    requires { ⌜ Sound p (now list) n × (n ≤ mostRecords) × (length (now store) ≡ Run.storeWords) ⌝ }
+    ensures { λ _. ⌜ CallLaws.Stored (now (list .entry)) n (now (store .exit)) ⌝ }
+{
+    copy(list, 3 * n, store);
+    index::index_list(list, n, &mut store[periodic::RECORD_WORDS..]);
 }
 
 // The list that was built, and its columns' nodes, where there is room for the list: else 7.
@@ -185,6 +203,27 @@ fn hand_over(
     LowerAnswer::Done { count }
 }
 
+// Lower past its first tests, built in this store.
+fn lower_with(
+    list: &[u64],
+    n: usize,
+    lengths: &[u64],
+    entries: &[u64],
+    period: u64,
+    result: &mut [u64],
+    store: &mut [u64],
+    places: &mut [u64],
+) -> LowerAnswer
+    requires { ⌜ CallLaws.Passed (now list) n (now lengths) (now entries) period (length (now places)) × (length (now store) ≡ Run.storeWords) ⌝ }
+    ensures { λ r. ⌜ CallLaws.Finished (now (list .entry)) n (now (lengths .entry)) (now (entries .entry)) period (now (result .entry)) (now (places .entry)) r (now (result .exit)) (now (places .exit)) ⌝ }
+{
+    store_list(list, n, store);
+    let mut nodes = [0u64; 16];
+    let log = columns::power_within(MOST_PERIOD_LOG, period).log;
+    let count = build_periodic_nodes(store, n, lengths, entries, log, &mut nodes);
+    hand_over(store, count, &nodes[..lengths.len()], result, places)
+}
+
 // Lower past its first tests.
 fn lower_ready(
     list: &[u64],
@@ -196,16 +235,21 @@ fn lower_ready(
     work: &mut [u64],
     places: &mut [u64],
 ) -> LowerAnswer
-    requires { ⌜ CallLaws.Passed (now list) n (now lengths) (now entries) period (length (now work)) (length (now places)) ⌝ }
-    ensures { λ r. ⌜ CallLaws.Finished (now (list .entry)) n (now (lengths .entry)) (now (entries .entry)) period (now (result .entry)) (now (work .entry)) (now (places .entry)) r (now (result .exit)) (now (work .exit)) (now (places .exit)) ⌝ }
+    requires { ⌜ CallLaws.Passed (now list) n (now lengths) (now entries) period (length (now places)) ⌝ }
+    ensures { λ r. ⌜ CallLaws.Finished (now (list .entry)) n (now (lengths .entry)) (now (entries .entry)) period (now (result .entry)) (now (places .entry)) r (now (result .exit)) (now (places .exit)) × (now (work .exit) ≡ replicate (length (now (work .entry))) blank) ⌝ }
 {
-    fill_from(list, 3 * n, work);
-    let mut nodes = [0u64; 16];
-    let log = columns::power_within(MOST_PERIOD_LOG, period).log;
-    let count = build_periodic_nodes(work, n, lengths, entries, log, &mut nodes);
-    let answer = hand_over(work, count, &nodes[..lengths.len()], result, places);
     dag::blank_from(work, 0);
-    answer
+    let mut store = [0u64; 5 * dag::MOST_RECORDS];
+    lower_with(
+        list,
+        n,
+        lengths,
+        entries,
+        period,
+        result,
+        &mut store,
+        places,
+    )
 }
 
 // Lower: the list with the nodes of these columns, under a shared period.

@@ -11,8 +11,9 @@ use Rattle.dag.specs.WellFormed.{Fine}
 use Rattle.dag.specs.WellFormedLaws.{fine-mono, fine-like, fine-rename}
 use Rattle.dag.specs.declared.NodeKind.{NodeKind}
 use Rattle.dag.specs.declared.NodeKind.the-variants.{Mul}
+use Rattle.index.specs.Index.{half, NodeIndex}
 use Rattle.builder.specs.Steps.{Built, Replay, placeOf, step}
-use Rattle.builder.specs.Contracts.{Request, Pushed}
+use Rattle.builder.specs.Contracts.{Request, Pushed, Room}
 use Rattle.builder.specs.Holds.{read}
 use Rattle.builder.specs.declared.Entered.{Entered}
 use Rattle.normalize.specs.Rounds.{planned}
@@ -28,6 +29,11 @@ pub record Entering (work : List ℕ) (count : ℕ) (map : List ℕ) (i : ℕ) (
   pub fine : Fine Below i x
   pub plan-fine : PlanFine i plan
   pub room : 3 * count + 5 < length work
+
+-- the list's index, with room for two records more
+pub record Linked (work : List ℕ) (count : ℕ) (links : List ℕ) : Type 0 where
+  pub index : NodeIndex (nodes work count) links
+  pub room : count + 1 < half links
 
 -- the results so far, as two stores hold them
 abbrev pub held : List ℕ → ℕ → List ℕ → Replay
@@ -56,6 +62,10 @@ by-push work count x after e h =
     }
 
 module _ (work : List ℕ) (count : ℕ) (map : List ℕ) (i : ℕ) (x : NodeKind) (plan : Plan) (h : Entering work count map i x plan) where
+  -- there is room for a request
+  pub push-room : (links : List ℕ) → Linked work count links → Room work count links
+  push-room links d = let a = h .room in let b = d .room in record { room = omega arith; index = d .index; link-room = omega arith }
+
   like-request : (a b : ℕ) → a < i → b < i → Request work count (like x (read map a) (read map b))
   like-request a b p q =
       record { sound = h .sound; fine = fine-like Below i count x (read map a) (read map b) (h .fine) (h .places a p) (h .places b q) }
@@ -113,15 +123,16 @@ module _ (work : List ℕ) (count : ℕ) (map : List ℕ) (i : ℕ) (x : NodeKin
       inner-request = rw inner-like (like-request a b (factored-places .1) (factored-places .2))
 
       module _ (mid : List ℕ) (r : Entered) (k : Pushed work count q mid r) (g : ℕ) (eg : g ≡ read map f) where
-        pub outer-request : Request mid (r .count) (Mul g (r .place)) × (3 * r .count + 2 < length mid)
+        pub outer-request : (links later : List ℕ) → Linked work count links → NodeIndex (nodes mid (r .count)) later → length later ≡ length links → Request mid (r .count) (Mul g (r .place)) × Room mid (r .count) later
         unfolding Fine
-        outer-request =
+        outer-request links later linked index same =
             let j = h .places f (factored-places .0) in
             let l = k .longer in
             let s = k .by-one in
             let t = k .kept in
             let u = h .room in
-            (record { sound = k .sound; fine = (omega arith, k .inside) }, omega arith)
+            let v = linked .room in
+            (record { sound = k .sound; fine = (omega arith, k .inside) }, record { room = omega arith; index = index; link-room = rw same (omega arith) })
 
         pub factored-planned : (after : List ℕ) (o : Entered) → Pushed mid (r .count) (Mul g (r .place)) after o → Planned work count (planned quad (held work count map) x plan) after o
         unfolding planned placeOf

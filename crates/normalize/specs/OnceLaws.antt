@@ -1,17 +1,20 @@
 -- One round on a store: whether it is kept, and what it leaves.
-use Prim.Native.Nat.{ℕ, suc, _+_, _*_, _<_, _≤_}
+use Prim.Native.Nat.{ℕ, suc, _+_, _*_, _-_, _^_, _<_, _≤_}
 use mathlib.Core.Bool.{Bool, true, false, _&&_, true≢false}
-use mathlib.Core.List.{List, [], _∷_, map}
+use mathlib.Core.List.{List, [], _∷_, _++_, map}
 use mathlib.Core.Path.{_≡_, refl, sym, _∙_, ap, ap₂}
+use native.Mathlib.Nat.{sub-zero}
 use native.Mathlib.Omega.{arith}
 use borrow.Author.Tests.{lt-ltb, le-ltb}
-use lib.ListN.{length, getD, replicate, length-replicate}
+use lib.ListN.{length, getD, take, replicate, length-replicate}
+use lib.Seq.{length-take-le}
 use Rattle.field.specs.Field.{p, quad, quad-laws, Below}
 use Rattle.dag.specs.Nodes.{nodes}
 use Rattle.dag.specs.NodeLaws.{length-nodes}
 use Rattle.dag.specs.Store.{Sound}
 use Rattle.dag.specs.WellFormed.{WellFormed}
 use Rattle.dag.specs.declared.NodeKind.{NodeKind}
+use Rattle.index.specs.Index.{half, Usable}
 use Rattle.builder.specs.Steps.{Replay, placeOf}
 use Rattle.builder.specs.OutcomeLaws.{list-fine}
 use Rattle.builder.specs.Holds.{read, count-is, place-read}
@@ -34,28 +37,57 @@ pub record Ready (s : List ℕ) (n root workWords : ℕ) : Type 0 where
   pub inside : root < n
   pub room : 6 * n ≤ workWords
 
-pub zero-at : (k j : ℕ) → _≡_ {A = ℕ} (getD (replicate k 0) j 0) 0
+-- scratch stores for n records: counts, places, and the links of two indexes
+pub record Scratch (n fan places own links : ℕ) : Type 0 where
+  pub fan-long : n ≤ fan
+  pub places-long : n ≤ places
+  pub own-long : 2 * n ≤ own
+  pub own-few : own ≤ 2 ^ 32
+  pub links-long : 4 * n ≤ links
+  pub links-few : links ≤ 2 ^ 32
+
+-- new stores for up to k records
+pub scratch-new : (n k o l : ℕ) → n ≤ k → o ≡ 2 * k → l ≡ 4 * k → k ≤ 4096
+    → Scratch n (length (replicate {A = ℕ} k 0)) (length (replicate {A = ℕ} k 0)) (length (replicate {A = ℕ} o 0)) (length (replicate {A = ℕ} l 0))
+scratch-new n k o l h eo el few =
+    rw (length-replicate {A = ℕ} k 0, length-replicate {A = ℕ} o 0, length-replicate {A = ℕ} l 0)
+    (record { fan-long = omega arith; places-long = omega arith; own-long = omega arith; own-few = omega arith; links-long = omega arith; links-few = omega arith })
+
+-- stores of the same lengths serve a shorter list
+pub scratch-fewer : (n k : ℕ) {f m o l f' m' o' l' : ℕ} → Scratch n f m o l → k ≤ n → f' ≡ f → m' ≡ m → o' ≡ o → l' ≡ l → Scratch k f' m' o' l'
+scratch-fewer n k c h a b d e =
+    let u = c .fan-long in let v = c .places-long in let w = c .own-long in let x = c .own-few in let y = c .links-long in let z = c .links-few in
+    record { fan-long = omega arith; places-long = omega arith; own-long = omega arith; own-few = omega arith; links-long = omega arith; links-few = omega arith }
+
+-- so do their first parts
+pub scratch-part : (n : ℕ) (fan places own links : List ℕ) → Scratch n (length fan) (length places) (length own) (length links)
+    → Scratch n (length (take n fan)) (length (take n places)) (length (take (2 * n) own)) (length (take (4 * n) links))
+scratch-part n fan places own links c =
+    let u = c .own-long in let v = c .own-few in let w = c .links-long in let x = c .links-few in
+    rw (length-take-le n fan (c .fan-long), length-take-le n places (c .places-long), length-take-le (2 * n) own u, length-take-le (4 * n) links w)
+    (record { fan-long = omega arith; places-long = omega arith; own-long = omega arith; own-few = omega arith; links-long = omega arith; links-few = omega arith })
+
+zero-at : (k j : ℕ) → _≡_ {A = ℕ} (getD (replicate k 0) j 0) 0
 zero-at ℕ.zero j = refl
 zero-at (suc k) ℕ.zero = refl
 zero-at (suc k) (suc j) = zero-at k j
 
--- scratch arrays: counts of 0, and places
-pub record Scratch (fan places : List ℕ) : Type 0 where
-  pub zeros : (j : ℕ) → getD fan j 0 ≡ 0
-  pub fan-long : 4096 ≤ length fan
-  pub places-long : 4096 ≤ length places
+module _ (s : List ℕ) (n root k f m o l : ℕ) (h : Ready s n root k) (c : Scratch n f m o l) where
+  pub countable : (fan cleared : List ℕ) → f ≡ length fan → cleared ≡ take 0 fan ++ replicate (length fan - 0) 0 → Countable s n root cleared
+  countable fan cleared e z =
+      let q : cleared ≡ replicate (length fan) 0 = rw (sub-zero (length fan)) at z in
+      let a = c .fan-long in
+      record { sound = h .sound; inside = h .inside; few = h .few; fits = rw (q, length-replicate {A = ℕ} (length fan) 0) (omega arith); zeros = λ j. rw q (zero-at (length fan) j) }
 
-pub scratch : (k : ℕ) → 4096 ≤ k → Scratch (replicate k 0) (replicate k 0)
-scratch k h = record { zeros = zero-at k; fan-long = rw (length-replicate {A = ℕ} k 0) h; places-long = rw (length-replicate {A = ℕ} k 0) h }
-
-module _ (s : List ℕ) (n root k : ℕ) (fan places : List ℕ) (h : Ready s n root k) (c : Scratch fan places) where
-  pub countable : Countable s n root fan
-  countable = let a = c .fan-long in let b = h .few in record { sound = h .sound; inside = h .inside; few = h .few; fits = omega arith; zeros = c .zeros }
-
-  pub roundable : (counted work : List ℕ) → length counted ≡ length fan → k ≡ length work → Rounding s n counted work places
-  roundable counted work e f =
-      let a = c .fan-long in let b = c .places-long in let d = h .few in let g = h .room in
+  pub roundable : (counted work places : List ℕ) → length counted ≡ f → k ≡ length work → m ≡ length places → Rounding s n counted work places
+  roundable counted work places e g d =
+      let a = c .fan-long in let b = c .places-long in let r = h .room in
       record { sound = h .sound; few = h .few; fan-fits = omega arith; work-fits = omega arith; map-fits = omega arith }
+
+  pub linkable : (links : List ℕ) → l ≡ length links → Usable links × (2 * n ≤ half links)
+  linkable links e =
+      let a = c .links-long in let b = c .links-few in let d = h .inside in
+      (record { some = omega arith; few = omega arith }, omega arith)
 
 never : {a : Bool} (b : Bool) → a ≡ false → (b && a) ≡ false
 never true e = e

@@ -14,6 +14,7 @@ ghost use Rattle.field.specs.Field.{p, quad, Below};
 ghost use Rattle.dag.specs.Nodes as Nodes;
 ghost use Rattle.dag.specs.Lookup as Lookup;
 ghost use Rattle.dag.specs.Store as Store;
+ghost use Rattle.index.specs.Index.{half, Usable, NodeIndex};
 ghost use Rattle.builder.specs.Steps as Steps;
 ghost use Rattle.builder.specs.Contracts as Built;
 ghost use Rattle.builder.specs.Holds as Held;
@@ -64,7 +65,7 @@ pub enum Plan {
 }
 
 // Counts one mention of place i.
-fn mention(fan: &mut [usize], i: usize)
+fn mention(fan: &mut [u64], i: usize)
     requires { ⌜ (i < length (now fan)) × (getD (now fan) i 0 ≤ 65536) ⌝ }
     ensures { λ _. ⌜ now (fan .exit) ≡ Fanouts.mentioned (now (fan .entry)) (i ∷ []) ⌝ }
 {
@@ -72,7 +73,7 @@ fn mention(fan: &mut [usize], i: usize)
 }
 
 // Counts one mention each of places a and b.
-fn mention_pair(fan: &mut [usize], a: usize, b: usize)
+fn mention_pair(fan: &mut [u64], a: usize, b: usize)
     requires { ⌜ (a < length (now fan)) × (b < length (now fan)) × Fanouts.AtMost 65535 (now fan) ⌝ }
     ensures { λ _. ⌜ now (fan .exit) ≡ Fanouts.mentioned (now (fan .entry)) (a ∷ b ∷ []) ⌝ }
 {
@@ -81,7 +82,7 @@ fn mention_pair(fan: &mut [usize], a: usize, b: usize)
 }
 
 // Counts the mentions that a record makes.
-fn mention_operands(fan: &mut [usize], x: NodeKind)
+fn mention_operands(fan: &mut [u64], x: NodeKind)
     requires { ⌜ AllBelow (length (now fan)) (Nodes.operands x) × Fanouts.AtMost 65535 (now fan) ⌝ }
     ensures { λ _. ⌜ now (fan .exit) ≡ Fanouts.mentioned (now (fan .entry)) (Nodes.operands x) ⌝ }
 {
@@ -96,7 +97,7 @@ fn mention_operands(fan: &mut [usize], x: NodeKind)
 }
 
 // The fanout of each place: each mention as an operand, and one for the root.
-fn fanout(list: &[u64], n: usize, root: usize, fan: &mut [usize])
+fn fanout(list: &[u64], n: usize, root: usize, fan: &mut [u64])
     requires { ⌜ Fanouts.Countable (now list) n root (now fan) ⌝ }
     ensures { λ _. ⌜ Held.read (now (fan .exit)) ≡ Rounds.fanout (Nodes.nodes (now (list .entry)) n) (root ∷ []) ⌝ }
 {
@@ -135,7 +136,7 @@ fn shared_factor(a: [usize; 2], b: [usize; 2]) -> Factor
 }
 
 // Whether x and y are muls of fanout 1 each.
-fn single_muls(x: NodeKind, y: NodeKind, fan_x: usize, fan_y: usize) -> bool
+fn single_muls(x: NodeKind, y: NodeKind, fan_x: u64, fan_y: u64) -> bool
     ensures { λ r. ⌜ r ≡ (Steps.isMul x && Steps.isMul y && eqb «fan_x» 1 && eqb «fan_y» 1) ⌝ }
 {
     if dag::tag_of(x) != 4 {
@@ -151,7 +152,7 @@ fn single_muls(x: NodeKind, y: NodeKind, fan_x: usize, fan_y: usize) -> bool
 }
 
 // Two muls, each of fanout 1, that share a factor.
-fn common_factor(list: &[u64], n: usize, fan: &[usize], a: usize, b: usize) -> Factor
+fn common_factor(list: &[u64], n: usize, fan: &[u64], a: usize, b: usize) -> Factor
     requires { ⌜ Built.Operands (now list) n a b × (n ≤ length (now fan)) ⌝ }
     ensures { λ r. ⌜ r ≡ Rounds.commonFactor (Nodes.nodes (now (list .entry)) n) (Held.read (now (fan .entry))) a b ⌝ }
 {
@@ -187,7 +188,7 @@ fn op_tag(op: AssociativeOp) -> u64
 }
 
 // Whether an operand of this fanout holds the operation and may be taken apart.
-fn rotates(op: AssociativeOp, z: NodeKind, fan_z: usize) -> bool
+fn rotates(op: AssociativeOp, z: NodeKind, fan_z: u64) -> bool
     ensures { λ r. ⌜ r ≡ (eqb «fan_z» 1 && eqb (Nodes.tag z) (Nodes.tag (Asked.operation op 0 0))) ⌝ }
 {
     if fan_z != 1 {
@@ -197,11 +198,18 @@ fn rotates(op: AssociativeOp, z: NodeKind, fan_z: usize) -> bool
 }
 
 // The candidate's greatest place, if it stands before place i, with what remains.
-fn onto_before(list: &[u64], n: usize, i: usize, candidate: NodeKind, remaining: usize) -> Rotation
-    requires { ⌜ Store.Sound p (now list) n ⌝ }
+fn onto_before(
+    list: &[u64],
+    n: usize,
+    own: &[u64],
+    i: usize,
+    candidate: NodeKind,
+    remaining: usize,
+) -> Rotation
+    requires { ⌜ Store.Sound p (now list) n × NodeIndex (Nodes.nodes (now list) n) (now own) ⌝ }
     ensures { λ r. ⌜ r ≡ Rounds.ontoBefore i remaining (Lookup.lookup (Nodes.nodes (now (list .entry)) n) candidate n) ⌝ }
 {
-    let found = dag::lookup(list, n, candidate);
+    let found = index::find(list, n, own, candidate);
     match found {
         Found::At(j) => {
             if j < i {
@@ -234,13 +242,14 @@ fn is_onto(r: Rotation) -> bool
 fn existing_rotation(
     list: &[u64],
     n: usize,
-    fan: &[usize],
+    own: &[u64],
+    fan: &[u64],
     op: AssociativeOp,
     i: usize,
     inner: usize,
     other: usize,
 ) -> Rotation
-    requires { ⌜ Built.Operands (now list) n inner other × (n ≤ length (now fan)) ⌝ }
+    requires { ⌜ Built.Operands (now list) n inner other × (n ≤ length (now fan)) × NodeIndex (Nodes.nodes (now list) n) (now own) ⌝ }
     ensures { λ r. ⌜ r ≡ Rounds.existingRotation (Asked.operation op) (Nodes.nodes (now (list .entry)) n) (Held.read (now (fan .entry))) i inner other ⌝ }
 {
     let z = dag::node_at(list, inner);
@@ -249,31 +258,32 @@ fn existing_rotation(
     }
     let x = dag::first_of(z) as usize;
     let y = dag::second_of(z) as usize;
-    let first = onto_before(list, n, i, canonical(op, x, other), y);
+    let first = onto_before(list, n, own, i, canonical(op, x, other), y);
     if is_onto(first) {
         return first;
     }
-    onto_before(list, n, i, canonical(op, y, other), x)
+    onto_before(list, n, own, i, canonical(op, y, other), x)
 }
 
 // The first operand is tried as the inner one, then the second.
 fn either_rotation(
     list: &[u64],
     n: usize,
-    fan: &[usize],
+    own: &[u64],
+    fan: &[u64],
     op: AssociativeOp,
     i: usize,
     a: usize,
     b: usize,
 ) -> Rotation
-    requires { ⌜ Built.Operands (now list) n a b × (n ≤ length (now fan)) ⌝ }
+    requires { ⌜ Built.Operands (now list) n a b × (n ≤ length (now fan)) × NodeIndex (Nodes.nodes (now list) n) (now own) ⌝ }
     ensures { λ r. ⌜ r ≡ Rounds.eitherRotation (Asked.operation op) (Nodes.nodes (now (list .entry)) n) (Held.read (now (fan .entry))) i a b ⌝ }
 {
-    let first = existing_rotation(list, n, fan, op, i, a, b);
+    let first = existing_rotation(list, n, own, fan, op, i, a, b);
     if is_onto(first) {
         return first;
     }
-    existing_rotation(list, n, fan, op, i, b, a)
+    existing_rotation(list, n, own, fan, op, i, b, a)
 }
 
 // The plan of a rotation.
@@ -325,28 +335,29 @@ fn is_shared(f: Factor) -> bool
 }
 
 // What a round does with add(a, b) at place i.
-fn add_plan(list: &[u64], n: usize, fan: &[usize], i: usize, a: usize, b: usize) -> Plan
-    requires { ⌜ Built.Operands (now list) n a b × (n ≤ length (now fan)) ⌝ }
+fn add_plan(list: &[u64], n: usize, own: &[u64], fan: &[u64], i: usize, a: usize, b: usize) -> Plan
+    requires { ⌜ Built.Operands (now list) n a b × (n ≤ length (now fan)) × NodeIndex (Nodes.nodes (now list) n) (now own) ⌝ }
     ensures { λ r. ⌜ r ≡ Rounds.planOf (Nodes.nodes (now (list .entry)) n) (Held.read (now (fan .entry))) i (NodeKind.Add a b) ⌝ }
 {
     let factor = common_factor(list, n, fan, a, b);
     if is_shared(factor) {
         return factor_plan(factor, Plan::Plain);
     }
-    rotation_plan(either_rotation(list, n, fan, AssociativeOp::Add, i, a, b))
+    rotation_plan(either_rotation(list, n, own, fan, AssociativeOp::Add, i, a, b))
 }
 
 // What a round does with the record x at place i.
-fn plan_of(list: &[u64], n: usize, fan: &[usize], i: usize, x: NodeKind) -> Plan
-    requires { ⌜ Asked.Planning (now list) n (now fan) i x ⌝ }
+fn plan_of(list: &[u64], n: usize, own: &[u64], fan: &[u64], i: usize, x: NodeKind) -> Plan
+    requires { ⌜ Asked.Planning (now list) n (now fan) i x × NodeIndex (Nodes.nodes (now list) n) (now own) ⌝ }
     ensures { λ r. ⌜ r ≡ Rounds.planOf (Nodes.nodes (now (list .entry)) n) (Held.read (now (fan .entry))) i x ⌝ }
 {
     match x {
-        NodeKind::Add(a, b) => add_plan(list, n, fan, i, a, b),
+        NodeKind::Add(a, b) => add_plan(list, n, own, fan, i, a, b),
         NodeKind::Sub(a, b) => factor_plan(common_factor(list, n, fan, a, b), Plan::Plain),
         NodeKind::Mul(a, b) => rotation_plan(either_rotation(
             list,
             n,
+            own,
             fan,
             AssociativeOp::Mul,
             i,
@@ -395,51 +406,62 @@ fn like(x: NodeKind, a: usize, b: usize) -> NodeKind
 fn enter_factored(
     work: &mut [u64],
     count: usize,
+    links: &mut [u64],
     map: &[u64],
     x: NodeKind,
     factor: usize,
     a: usize,
     b: usize,
 ) -> Entered
-    requires { ⌜ ((i : ℕ) × Enter.Entering (now work) count (now map) i x (Plan.Factored factor a b)) ⌝ }
-    ensures { λ r. ⌜ Enter.Planned (now (work .entry)) count (Rounds.planned quad (Enter.held (now (work .entry)) count (now (map .entry))) x (Plan.Factored factor a b)) (now (work .exit)) r ⌝ }
+    requires { ⌜ ((i : ℕ) × Enter.Entering (now work) count (now map) i x (Plan.Factored factor a b)) × Enter.Linked (now work) count (now links) ⌝ }
+    ensures { λ r. ⌜ Enter.Planned (now (work .entry)) count (Rounds.planned quad (Enter.held (now (work .entry)) count (now (map .entry))) x (Plan.Factored factor a b)) (now (work .exit)) r × NodeIndex (Nodes.nodes (now (work .exit)) (r .count)) (now (links .exit)) ⌝ }
 {
     let inner = builder::push(
         work,
         count,
+        links,
         like(x, builder::mapped(map, a), builder::mapped(map, b)),
     );
     builder::push(
         work,
         inner.count,
+        links,
         NodeKind::Mul(builder::mapped(map, factor), inner.place),
     )
 }
 
 // Enters a record into a round's list by its plan.
-fn enter_planned(work: &mut [u64], count: usize, map: &[u64], x: NodeKind, plan: Plan) -> Entered
-    requires { ⌜ ((i : ℕ) × Enter.Entering (now work) count (now map) i x plan) ⌝ }
-    ensures { λ r. ⌜ Enter.Planned (now (work .entry)) count (Rounds.planned quad (Enter.held (now (work .entry)) count (now (map .entry))) x plan) (now (work .exit)) r ⌝ }
+fn enter_planned(
+    work: &mut [u64],
+    count: usize,
+    links: &mut [u64],
+    map: &[u64],
+    x: NodeKind,
+    plan: Plan,
+) -> Entered
+    requires { ⌜ ((i : ℕ) × Enter.Entering (now work) count (now map) i x plan) × Enter.Linked (now work) count (now links) ⌝ }
+    ensures { λ r. ⌜ Enter.Planned (now (work .entry)) count (Rounds.planned quad (Enter.held (now (work .entry)) count (now (map .entry))) x plan) (now (work .exit)) r × NodeIndex (Nodes.nodes (now (work .exit)) (r .count)) (now (links .exit)) ⌝ }
 {
     match plan {
         Plan::Factored {
             factor,
             a_other,
             b_other,
-        } => enter_factored(work, count, map, x, factor, a_other, b_other),
+        } => enter_factored(work, count, links, map, x, factor, a_other, b_other),
         Plan::Rotated {
             existing,
             remaining,
         } => builder::push(
             work,
             count,
+            links,
             like(
                 x,
                 builder::mapped(map, existing),
                 builder::mapped(map, remaining),
             ),
         ),
-        Plan::Plain => builder::push(work, count, builder::renamed(map, x)),
+        Plan::Plain => builder::push(work, count, links, builder::renamed(map, x)),
     }
 }
 
@@ -457,17 +479,26 @@ fn either(a: bool, b: bool) -> bool
 }
 
 // Replays the records into an empty list, each by its plan.
-fn round(list: &[u64], n: usize, fan: &[usize], work: &mut [u64], map: &mut [u64]) -> RoundEnd
-    requires { ⌜ Turn.Rounding (now list) n (now fan) (now work) (now map) ⌝ }
+fn round(
+    list: &[u64],
+    n: usize,
+    own: &[u64],
+    fan: &[u64],
+    work: &mut [u64],
+    links: &mut [u64],
+    map: &mut [u64],
+) -> RoundEnd
+    requires { ⌜ Turn.Rounding (now list) n (now fan) (now work) (now map) × NodeIndex (Nodes.nodes (now list) n) (now own) × Usable (now links) × (2 * n ≤ half (now links)) ⌝ }
     ensures { λ r. ⌜ Turn.RoundHeld (now (list .entry)) n (now (fan .entry)) n (now (work .exit)) (now (map .exit)) (r .count) (r .fired) ⌝ }
 {
+    index::clear(links);
     let mut count = 0;
     let mut fired = false;
     let mut i = 0;
     while i < n {
         let x = dag::node_at(list, i);
-        let plan = plan_of(list, n, fan, i, x);
-        let entered = enter_planned(work, count, map, x, plan);
+        let plan = plan_of(list, n, own, fan, i, x);
+        let entered = enter_planned(work, count, links, map, x, plan);
         fired = either(fired, fires(plan));
         map[i] = entered.place as u64;
         count = entered.count;
@@ -483,20 +514,24 @@ pub struct RoundKept {
     pub root: usize,
 }
 
-// One round, with scratch arrays lent: counts of 0, and places.
+// One round on the list in the result store, which is written where the round is kept, with scratch stores of its length lent.
 fn once_in(
     result: &mut [u64],
     n: usize,
     root: usize,
     work: &mut [u64],
-    fan: &mut [usize],
+    fan: &mut [u64],
     map: &mut [u64],
+    own: &mut [u64],
+    links: &mut [u64],
 ) -> RoundKept
-    requires { ⌜ Rounded.Ready (now result) n root (length (now work)) × (3 * n ≤ length (now result)) × Rounded.Scratch (now fan) (now map) ⌝ }
+    requires { ⌜ Rounded.Ready (now result) n root (length (now work)) × (3 * n ≤ length (now result)) × Rounded.Scratch n (length (now fan)) (length (now map)) (length (now own)) (length (now links)) ⌝ }
     ensures { λ r. ⌜ Rounded.Once (now (result .entry)) n root (now (result .exit)) r ⌝ }
 {
+    dag::fill(fan, 0, 0);
     fanout(result, n, root, fan);
-    let end = round(result, n, fan, work, map);
+    index::index_list(result, n, own);
+    let end = round(result, n, own, fan, work, links, map);
     if !end.fired {
         return RoundKept {
             kept: false,
@@ -520,14 +555,30 @@ fn once_in(
     }
 }
 
-// One round on the list in the result store, which is written where the round is kept.
-fn normalize_once(result: &mut [u64], n: usize, root: usize, work: &mut [u64]) -> RoundKept
-    requires { ⌜ Rounded.Ready (now result) n root (length (now work)) × (3 * n ≤ length (now result)) ⌝ }
+// One round, with the parts of the scratch stores that its list needs.
+fn normalize_once(
+    result: &mut [u64],
+    n: usize,
+    root: usize,
+    work: &mut [u64],
+    fan: &mut [u64],
+    map: &mut [u64],
+    own: &mut [u64],
+    links: &mut [u64],
+) -> RoundKept
+    requires { ⌜ Rounded.Ready (now result) n root (length (now work)) × (3 * n ≤ length (now result)) × Rounded.Scratch n (length (now fan)) (length (now map)) (length (now own)) (length (now links)) ⌝ }
     ensures { λ r. ⌜ Rounded.Once (now (result .entry)) n root (now (result .exit)) r ⌝ }
 {
-    let mut fan = [0usize; 4096];
-    let mut map = [0u64; 4096];
-    once_in(result, n, root, work, &mut fan, &mut map)
+    once_in(
+        result,
+        n,
+        root,
+        work,
+        &mut fan[..n],
+        &mut map[..n],
+        &mut own[..2 * n],
+        &mut links[..4 * n],
+    )
 }
 
 // The list after the rounds: its count, its root and how many rounds were kept.
@@ -559,22 +610,26 @@ fn copy_words(list: &[u64], m: usize, result: &mut [u64])
     }
 }
 
-// Rounds on the list in the result store, until one isn't kept.
+// Rounds on the list in the result store, until one isn't kept, with scratch stores lent.
 fn normalize_rounds(
     list: &[u64],
     n: usize,
     root: usize,
     result: &mut [u64],
     work: &mut [u64],
+    fan: &mut [u64],
+    map: &mut [u64],
+    own: &mut [u64],
+    links: &mut [u64],
 ) -> NormalEnd
-    requires { ⌜ CallLaws.Passed (now list) n root (length (now result)) (length (now work)) × CallLaws.Running (now list) n root (now result) n root 0 ⌝ }
+    requires { ⌜ CallLaws.Passed (now list) n root (length (now result)) (length (now work)) × CallLaws.Running (now list) n root (now result) n root 0 × Rounded.Scratch n (length (now fan)) (length (now map)) (length (now own)) (length (now links)) ⌝ }
     ensures { λ r. ⌜ CallLaws.Ended (now (list .entry)) n root (now (result .exit)) r ⌝ }
 {
     let mut count = n;
     let mut place = root;
     let mut rounds = 0;
     loop {
-        let once = normalize_once(result, count, place, work);
+        let once = normalize_once(result, count, place, work, fan, map, own, links);
         if !once.kept {
             return NormalEnd {
                 count,
@@ -586,6 +641,73 @@ fn normalize_rounds(
         place = once.root;
         rounds += 1;
     }
+}
+
+// The same, with scratch stores of its own.
+fn normalize_with(
+    list: &[u64],
+    n: usize,
+    root: usize,
+    result: &mut [u64],
+    work: &mut [u64],
+) -> NormalEnd
+    requires { ⌜ CallLaws.Passed (now list) n root (length (now result)) (length (now work)) × CallLaws.Running (now list) n root (now result) n root 0 ⌝ }
+    ensures { λ r. ⌜ CallLaws.Ended (now (list .entry)) n root (now (result .exit)) r ⌝ }
+{
+    let mut fan = [0u64; 4096];
+    let mut map = [0u64; 4096];
+    let mut own = [0u64; 8192];
+    let mut links = [0u64; 16384];
+    normalize_rounds(
+        list,
+        n,
+        root,
+        result,
+        work,
+        &mut fan,
+        &mut map,
+        &mut own,
+        &mut links,
+    )
+}
+
+// The same for a short list.
+fn normalize_few(
+    list: &[u64],
+    n: usize,
+    root: usize,
+    result: &mut [u64],
+    work: &mut [u64],
+) -> NormalEnd
+    requires { ⌜ CallLaws.Passed (now list) n root (length (now result)) (length (now work)) × CallLaws.Running (now list) n root (now result) n root 0 × (n ≤ 256) ⌝ }
+    ensures { λ r. ⌜ CallLaws.Ended (now (list .entry)) n root (now (result .exit)) r ⌝ }
+{
+    let mut fan = [0u64; 256];
+    let mut map = [0u64; 256];
+    let mut own = [0u64; 512];
+    let mut links = [0u64; 1024];
+    normalize_rounds(
+        list,
+        n,
+        root,
+        result,
+        work,
+        &mut fan,
+        &mut map,
+        &mut own,
+        &mut links,
+    )
+}
+
+// The rounds, with scratch stores for the list's length.
+fn rounds_of(list: &[u64], n: usize, root: usize, result: &mut [u64], work: &mut [u64]) -> NormalEnd
+    requires { ⌜ CallLaws.Passed (now list) n root (length (now result)) (length (now work)) × CallLaws.Running (now list) n root (now result) n root 0 ⌝ }
+    ensures { λ r. ⌜ CallLaws.Ended (now (list .entry)) n root (now (result .exit)) r ⌝ }
+{
+    if n <= index::FEW {
+        return normalize_few(list, n, root, result, work);
+    }
+    normalize_with(list, n, root, result, work)
 }
 
 // Normalise's tests.
@@ -623,7 +745,7 @@ fn normalize_ready(
     ensures { λ r. ⌜ CallLaws.Finished (now (list .entry)) n root (now (result .entry)) (now (work .entry)) r (now (result .exit)) (now (work .exit)) ⌝ }
 {
     copy_words(list, 3 * n, result);
-    let end = normalize_rounds(list, n, root, result, work);
+    let end = rounds_of(list, n, root, result, work);
     dag::blank_from(result, 3 * end.count);
     dag::blank_from(work, 0);
     NormalizeAnswer::Done {

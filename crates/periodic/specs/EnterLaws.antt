@@ -15,15 +15,17 @@ use Rattle.dag.specs.Store.{Sound, put}
 use Rattle.dag.specs.WellFormed.{Fine}
 use Rattle.dag.specs.declared.NodeKind.{NodeKind}
 use Rattle.dag.specs.declared.NodeKind.the-variants.{Input, Constant, Add, Sub, Mul}
+use Rattle.index.specs.Index.{NodeIndex}
 use Rattle.builder.specs.Steps as Steps
 use Rattle.builder.specs.Contracts.{Request, resolved, Pushed}
-use Rattle.builder.specs.RequestLaws.{pushed-place, pushed-node, step-appended, appended}
+use Rattle.builder.specs.RequestLaws.{pushed-place, step-appended, appended}
 use Rattle.builder.specs.declared.Outcome.{Outcome}
 use Rattle.builder.specs.declared.Outcome.the-variants.{Place, Node}
 use Rattle.builder.specs.declared.Entered.{Entered}
 use Rattle.periodic.specs.Builder.{Builder, enter}
-use Rattle.periodic.specs.Running.{Holds, Ready, Inside, Ran, Entering, Appended}
+use Rattle.periodic.specs.Running.{storeWords, links, noted, Holds, Ready, Inside, Ran, Entering, Appended}
 use Rattle.periodic.specs.RunLaws.{stays-long}
+use Rattle.periodic.specs.StoreLaws.{entered-noted}
 
 as-entered : (r : Entered) (i k : ℕ) → r .place ≡ i → r .count ≡ k → r ≡ record { place = i; count = k }
 as-entered r i k e f = ap₂ (λ a b. record { place = a; count = b }) e f
@@ -44,9 +46,9 @@ enter-long s n x h =
 
 module _ (s : List ℕ) (n : ℕ) (x : NodeKind) (h : n ≤ mostRecords) where
   -- a request that was pushed
-  pushed-entering : (after : List ℕ) (r : Entered) → Pushed s n x after r → r .count ≤ mostRecords → Entering s n (enter quad x) after r
+  pushed-entering : (after : List ℕ) (r : Entered) → Pushed s n x after r → NodeIndex (nodes after (r .count)) (links after) → r .count ≤ mostRecords → Entering s n (enter quad x) after r
   unfolding enter
-  pushed-entering after r d j =
+  pushed-entering after r d ix j =
       record {
         ran =
             record {
@@ -56,6 +58,7 @@ module _ (s : List ℕ) (n : ℕ) (x : NodeKind) (h : n ≤ mostRecords) where
                   record {
                     sound = λ _. d .sound;
                     list-is = λ _. d .list-is ∙ ap (λ k. Steps.step quad k x .list) (e .list-is h);
+                    indexed = λ _. ix;
                     too-long = λ i. absurd (omega arith);
                   };
               answers = λ l e _. d .place-is ∙ ap (λ k. Steps.step quad k x .place) (e .list-is h);
@@ -63,27 +66,27 @@ module _ (s : List ℕ) (n : ℕ) (x : NodeKind) (h : n ≤ mostRecords) where
         inside = λ _. d .inside;
       }
 
-  module _ (req : Request s n x) (o : Outcome) (e : o ≡ resolved (nodes s n) n x) where
+  module _ (req : Request s n x) (ix : NodeIndex (nodes s n) (links s)) (o : Outcome) (e : o ≡ resolved (nodes s n) n x) where
     pub enter-place : (i : ℕ) → o ≡ Place i → Entering s n (enter quad x) s (record { place = i; count = n })
-    enter-place i q = pushed-entering s (record { place = i; count = n }) (pushed-place s n x req o i e q) h
+    enter-place i q = pushed-entering s (record { place = i; count = n }) (pushed-place s n x req o i e q) ix h
 
     full : n ≡ mostRecords → (y : NodeKind) → o ≡ Node y → mostRecords < length (Steps.step quad (nodes s n) x .list)
     full i y q = rw (step-appended s n x, ← e, q) (omega (arith, length-snoc (nodes s n) y, length-nodes s n))
 
-    pub enter-node : (y : NodeKind) (after : List ℕ) (r : Entered) → 3 * mostRecords ≤ length s → o ≡ Node y → Appended s n y after r → Entering s n (enter quad x) after r
+    pub enter-node : (y : NodeKind) (after : List ℕ) (r : Entered) → length s ≡ storeWords → o ≡ Node y → Appended s n y after r → Entering s n (enter quad x) after r
     unfolding enter
-    enter-node y after r room q a = go (below-suc n mostRecords (omega arith))
+    enter-node y after r long q a = go (below-suc n mostRecords (omega arith))
       where
         over : n ≡ mostRecords → mostRecords < r .count
         over i = omega (arith, a .counts)
 
-        long : n ≡ mostRecords → (l : List NodeKind) → Holds s n l → mostRecords < length (enter quad x .run l .list)
-        long i l d = subst (λ k. mostRecords < length (Steps.step quad k x .list)) (d .list-is h) (full i y q)
+        longer : n ≡ mostRecords → (l : List NodeKind) → Holds s n l → mostRecords < length (enter quad x .run l .list)
+        longer i l d = subst (λ k. mostRecords < length (Steps.step quad k x .list)) (d .list-is h) (full i y q)
 
         go : (n < mostRecords) ⊎ (n ≡ mostRecords) → Entering s n (enter quad x) after r
         go (inl i) =
             rw (as-entered r n (n + 1) (a .written i .1) (a .counts))
-            (pushed-entering after (record { place = n; count = n + 1 }) (pushed-node s n x req o y after e q (a .written i .0) (omega arith)) (omega arith))
+            (let told = entered-noted s n x req o y e q long i ix in rw (a .written i .0) (pushed-entering (noted (put s n y) n y) (record { place = n; count = n + 1 }) (told .0) (told .1) (omega arith)))
         go (inr i) =
             record {
               ran =
@@ -94,7 +97,8 @@ module _ (s : List ℕ) (n : ℕ) (x : NodeKind) (h : n ≤ mostRecords) where
                         record {
                           sound = λ j. absurd (omega (arith, over i));
                           list-is = λ j. absurd (omega (arith, over i));
-                          too-long = λ _. long i l d;
+                          indexed = λ j. absurd (omega (arith, over i));
+                          too-long = λ _. longer i l d;
                         };
                     answers = λ l d j. absurd (omega (arith, over i));
                   };

@@ -2,6 +2,7 @@ pub mod Builder
 pub mod Periodic
 pub mod Running
 pub mod RunLaws
+pub mod StoreLaws
 pub mod EnterLaws
 pub mod ListLaws
 pub mod SparseLaws

@@ -34,6 +34,7 @@ stays-long m s k l h j =
     record {
       sound = λ i. absurd (omega arith);
       list-is = λ i. absurd (omega arith);
+      indexed = λ i. absurd (omega arith);
       too-long = λ _. lt-of-lt-of-le j (grows m l);
     }
 
@@ -42,16 +43,17 @@ held : (s : List ℕ) (n : ℕ) → Ready s n → (l : List NodeKind) × Holds s
 held s n r = go (le-or-lt n mostRecords)
   where
     go : (n ≤ mostRecords) ⊎ (mostRecords < n) → (l : List NodeKind) × Holds s n l
-    go (inl h) = (nodes s n, record { sound = r .sound; list-is = λ _. refl; too-long = λ j. absurd (omega arith) })
+    go (inl h) = (nodes s n, record { sound = r .sound; list-is = λ _. refl; indexed = r .indexed; too-long = λ j. absurd (omega arith) })
     go (inr h) =
-        (replicate n (Input 0), record { sound = r .sound; list-is = λ j. absurd (omega arith); too-long = λ _. omega (arith, length-replicate n (Input 0)) })
+        (replicate n (Input 0), record { sound = r .sound; list-is = λ j. absurd (omega arith); indexed = r .indexed; too-long = λ _. omega (arith, length-replicate n (Input 0)) })
 
 module _ {A : Type 0} (s : List ℕ) (n : ℕ) (m : Builder A) (after : List ℕ) (k : ℕ) (Is : A → Type 0) where
   pub ready-after : Ready s n → Ran s n m after k Is → Ready after k
   ready-after r d =
       record {
-        room = rw (d .kept) (r .room);
+        long = d .kept ∙ r .long;
         sound = d .gives (held s n r .0) (held s n r .1) .sound;
+        indexed = d .gives (held s n r .0) (held s n r .1) .indexed;
       }
 
   pub ran-as : (q : Builder A) → ((l : List NodeKind) → m .run l ≡ q .run l) → Ran s n m after k Is → Ran s n q after k Is

@@ -1,26 +1,41 @@
 -- Computations run in a store of 4,096 records: what the functions ask and say. A count above 4,096 stands for every list that is too long.
 use Prim.Native.Nat.{ℕ, _+_, _*_, _<_, _≤_}
-use mathlib.Core.List.{List, []}
+use mathlib.Core.List.{List, [], _++_}
 use mathlib.Core.Path.{_≡_}
-use lib.ListN.{getD, length, take}
+use lib.ListN.{getD, length, take, drop}
 use Rattle.field.specs.Field.{p}
 use Rattle.dag.specs.Nodes.{mostRecords, nodes}
 use Rattle.dag.specs.Store.{Sound, put}
 use Rattle.dag.specs.declared.NodeKind.{NodeKind}
+use Rattle.index.specs.Index as Index
 use Rattle.builder.specs.declared.Entered.{Entered}
 use Rattle.columns.specs.Columns.{support}
 use Rattle.periodic.specs.Builder.{Builder}
+
+-- the words of a store: 4,096 records of three words, and an index of two words for each
+abbrev pub storeWords : ℕ
+storeWords = 5 * mostRecords
+
+-- the index of a store
+abbrev pub links : List ℕ → List ℕ
+links s = drop (3 * mostRecords) s
+
+-- a store whose index has the record y at place n noted
+unfoldable pub noted : List ℕ → ℕ → NodeKind → List ℕ
+noted s n y = take (3 * mostRecords) s ++ Index.noted (links s) n (Index.nodeBucket (Index.half (links s)) y)
 
 -- a store of n records holds the list l
 pub record Holds (s : List ℕ) (n : ℕ) (l : List NodeKind) : Type 0 where
   pub sound : n ≤ mostRecords → Sound p s n
   pub list-is : n ≤ mostRecords → nodes s n ≡ l
+  pub indexed : n ≤ mostRecords → Index.NodeIndex (nodes s n) (links s)
   pub too-long : mostRecords < n → mostRecords < length l
 
 -- a store to build in
 pub record Ready (s : List ℕ) (n : ℕ) : Type 0 where
-  pub room : 3 * mostRecords ≤ length s
+  pub long : length s ≡ storeWords
   pub sound : n ≤ mostRecords → Sound p s n
+  pub indexed : n ≤ mostRecords → Index.NodeIndex (nodes s n) (links s)
 
 -- place a is one of n records
 abbrev pub Inside : ℕ → ℕ → Type 0
@@ -47,10 +62,10 @@ pub record Listing (s : List ℕ) (n : ℕ) (m : Builder (List ℕ)) (after : Li
   pub ran : Ran s n m after k (λ ps. take c places ≡ ps)
   pub inside : AllInside k (take c places)
 
--- the record y was appended, where the list was not full
+-- the record y was appended and noted, where the list was not full
 pub record Appended (s : List ℕ) (n : ℕ) (y : NodeKind) (after : List ℕ) (r : Entered) : Type 0 where
   pub counts : r .count ≡ n + 1
-  pub written : n < mostRecords → (after ≡ put s n y) × (r .place ≡ n)
+  pub written : n < mostRecords → (after ≡ noted (put s n y) n y) × (r .place ≡ n)
   pub full : mostRecords ≤ n → after ≡ s
 
 -- the twiddles of a sparse term

@@ -1,4 +1,5 @@
-// periodic.rs: the nodes of periodic columns, built in a store of 4,096 records. A count above 4,096 says that the list is too long.
+// periodic.rs: the nodes of periodic columns, built in a store of 4,096 records, with their index behind them. A count above 4,096 says that the list
+// is too long.
 use builder::Entered;
 use builder::Outcome;
 use dag::NodeKind;
@@ -10,8 +11,10 @@ ghost use Prim.Native.Nat.{ℕ, _+_, _*_, _-_, _<_, _≤_};
 ghost use lib.ListN.{length, getD, take};
 ghost use Rattle.field.specs.Field.{p, felt, quad, Below};
 ghost use Rattle.field.specs.Generators.{generator, half};
-ghost use Rattle.dag.specs.Nodes.{mostRecords};
+ghost use Rattle.dag.specs.Nodes.{mostRecords, nodes};
 ghost use Rattle.dag.specs.WellFormed.{Fine};
+ghost use Rattle.index.specs.Index.{NodeIndex};
+ghost use Rattle.builder.specs.Contracts.{Request, resolved};
 ghost use Rattle.columns.specs.Prepare.{allBelow, padded};
 ghost use Rattle.columns.specs.Contracts as Asked;
 ghost use Rattle.periodic.specs.Builder as Builder;
@@ -21,13 +24,31 @@ ghost use Rattle.periodic.specs.Running as Said;
 // The key number of ZK.
 const ZK: u64 = 3096224743817216;
 
+// The words of a store's records; those of its index follow.
+pub const RECORD_WORDS: usize = 12288;
+
+// Notes that record y is at place n.
+fn note(list: &mut [u64], n: usize, y: NodeKind)
+    requires { ⌜ (length (now list) ≡ Said.storeWords) × (n < mostRecords) ⌝ }
+    ensures { λ _. ⌜ now (list .exit) ≡ Said.noted (now (list .entry)) n y ⌝ }
+{
+    index::note(
+        &mut list[RECORD_WORDS..],
+        n,
+        dag::tag_of(y),
+        dag::first_of(y),
+        dag::second_of(y),
+    );
+}
+
 // Appends a new record where the list is not full.
 fn append(list: &mut [u64], n: usize, y: NodeKind) -> Entered
-    requires { ⌜ (3 * mostRecords ≤ length (now list)) × (n ≤ mostRecords) ⌝ }
+    requires { ⌜ (length (now list) ≡ Said.storeWords) × (n ≤ mostRecords) ⌝ }
     ensures { λ r. ⌜ Said.Appended (now (list .entry)) n y (now (list .exit)) r ⌝ }
 {
     if n < dag::MOST_RECORDS {
         dag::put_node(list, n, y);
+        note(list, n, y);
         return Entered {
             place: n,
             count: n + 1,
@@ -39,6 +60,14 @@ fn append(list: &mut [u64], n: usize, y: NodeKind) -> Entered
     }
 }
 
+// The place of a request's result, or the new record that it needs.
+fn resolve(list: &[u64], n: usize, x: NodeKind) -> Outcome
+    requires { ⌜ Request (now list) n x × NodeIndex (nodes (now list) n) (Said.links (now list)) × (3 * mostRecords ≤ length (now list)) ⌝ }
+    ensures { λ r. ⌜ r ≡ resolved (nodes (now (list .entry)) n) n x ⌝ }
+{
+    builder::resolve(list, n, &list[RECORD_WORDS..], x)
+}
+
 // One request.
 fn enter(list: &mut [u64], n: usize, x: NodeKind) -> Entered
     requires { ⌜ Said.Ready (now list) n × (n ≤ mostRecords → Fine Below n x) ⌝ }
@@ -47,7 +76,7 @@ fn enter(list: &mut [u64], n: usize, x: NodeKind) -> Entered
     if dag::MOST_RECORDS < n {
         return Entered { place: 0, count: n };
     }
-    let result = builder::resolve(list, n, x);
+    let result = resolve(list, n, x);
     match result {
         Outcome::Place(i) => Entered { place: i, count: n },
         Outcome::Node(y) => append(list, n, y),

@@ -18,10 +18,10 @@ use Rattle.basis.proofs.add_classes.Statement.{statement}
 use Rattle.basis.proofs.add_classes.Tie as tie
 
 abbrev Inv-loop : tie.InvT-loop
-Inv-loop list₀ n prefix suffix col values d start sum₀ k₀ list sum k = (k ≤ length values) × Said.Entering list₀ n (Builder.turns (λ k sum. Periodic.addTurn quad p felt generator half col prefix suffix (getD values k 0) sum) k start) list sum × Said.Ready list (sum .count) × Basis.Products (sum .count) col prefix suffix
+Inv-loop list₀ n roots prefix suffix col values d start sum₀ k₀ list sum k = (k ≤ length values) × Said.Entering list₀ n (Builder.turns (λ k sum. Periodic.addTurn quad p felt generator half col prefix suffix (getD values k 0) sum) k start) list sum × Said.Ready list (sum .count) × Basis.Products (sum .count) col roots prefix suffix
 
 abbrev μ-loop : tie.MeasureT-loop
-μ-loop list₀ n prefix suffix col values d start sum₀ k₀ list sum k = length values - k
+μ-loop list₀ n roots prefix suffix col values d start sum₀ k₀ list sum k = length values - k
 
 loop-holds : tie.Need-loop-holds Inv-loop μ-loop
 loop-holds c = (omega arith, enter-none _ _ _ _ (c .before .before .before .before .before .pre .2), c .before .before .before .before .before .pre .0, c .before .before .before .before .before .pre .1)

@@ -50,7 +50,7 @@ basis-sum-requires c κs =
     let listed = listing-like _ _ _ _ _ _ _ _ _ (same-refl _) whole (c .before .before .before .before .before .chain .ensures) in
     let later = products-later (c .before .before .before .before .before .chain .ensures .ran .longer) (products-later (c .before .before .before .before .before .before .before .before .before .before .before .before .constant .ensures .ran .longer) (c .before .before .before .before .before .before .before .before .before .before .before .before .before .before .before .before .before .before .pre .1)) in (
       listed-ready _ _ _ _ _ _ _ (entered-ready _ _ _ _ _ (c .before .before .before .before .before .before .before .before .before .before .before .before .before .before .before .before .before .before .pre .0) (c .before .before .before .before .before .before .before .before .before .before .before .before .constant .ensures)) (c .before .before .before .before .before .chain .ensures),
-      record { prefix-long = c .before .before .before .before .before .before .before .before .before .before .before .before .before .before .before .before .before .before .pre .1 .prefix-long; suffix-long = length-take-le _ _ (omega (arith, c .before .before .before .before .before .before .before .before .before .before .before .before .before .before .before .before .before .before .pre .2 .short)); prefix-inside = later .prefix-inside; suffix-inside = listed .inside },
+      record { rows = c .before .before .before .before .before .before .before .before .before .before .before .before .before .before .before .before .before .before .pre .1 .rows; short = c .before .before .before .before .before .before .before .before .before .before .before .before .before .before .before .before .before .before .pre .1 .short; prefix-long = c .before .before .before .before .before .before .before .before .before .before .before .before .before .before .before .before .before .before .pre .1 .prefix-long; suffix-long = length-take-le _ _ (omega (arith, c .before .before .before .before .before .before .before .before .before .before .before .before .before .before .before .before .before .before .pre .2 .short)); prefix-inside = later .prefix-inside; suffix-inside = listed .inside },
       c .before .before .before .before .before .before .before .before .before .before .before .before .before .before .before .before .before .before .pre .2,
     )
 

@@ -1,38 +1,45 @@
 -- The invariant: the places after k turns.
 use Prim.Native.Nat.{_-_, _<_, _≤_}
 use mathlib.Core.List.{[]}
-use mathlib.Core.Path.{_≡_, refl}
+use mathlib.Core.Path.{_≡_, refl, ap}
 use native.Mathlib.Omega.{arith}
 use lib.ListN.{length}
-use Rattle.field.specs.Field.{p, quad}
+use Rattle.field.specs.Field.{p, quad, felt}
+use Rattle.field.specs.Generators.{generator, half}
 use Rattle.periodic.specs.Builder as Builder
 use Rattle.periodic.specs.Periodic as Periodic
-use Rattle.periodic.specs.Running as Said
+use Rattle.periodic.specs.Running as Run
 use Rattle.periodic.specs.RunLaws.{entered-ready, inside-later}
-use Rattle.periodic.specs.ListLaws.{list-none, list-next, list-all, set-length}
-use Rattle.field.specs.Field.{felt}
-use Rattle.field.specs.Generators.{generator, half}
-use Rattle.periodic.specs.ListLaws.{none-inside}
+use Rattle.periodic.specs.ListLaws.{list-none, list-next, list-all, set-length, none-inside}
+use Rattle.periodic.specs.SparseLaws.{entering-same}
+use Rattle.basis.specs.Contracts as Said
+use Rattle.basis.specs.BasisLaws.{factor-at}
 use Rattle.basis.proofs.basis_factors.Statement.{statement}
 use Rattle.basis.proofs.basis_factors.Tie as tie
 
 abbrev Inv-loop : tie.InvT-loop
-Inv-loop list₀ n point col places₀ count₀ k₀ list places count k = (k ≤ length col) × (length places ≡ length places₀) × Said.Listing list₀ count₀ (Builder.turns (λ k fs. Builder.also fs (Periodic.factor quad p felt generator half col point k)) k []) list count places k × Said.Ready list count × Said.Inside count point
+Inv-loop list₀ n point roots col places₀ count₀ k₀ list places count k = (k ≤ length col) × (length places ≡ length places₀) × Run.Listing list₀ count₀ (Builder.turns (λ k fs. Builder.also fs (Periodic.factor quad p felt generator half col point k)) k []) list count places k × Run.Ready list count × Run.Inside count point
 
 abbrev μ-loop : tie.MeasureT-loop
-μ-loop list₀ n point col places₀ count₀ k₀ list places count k = length col - k
+μ-loop list₀ n point roots col places₀ count₀ k₀ list places count k = length col - k
 
 loop-holds : tie.Need-loop-holds Inv-loop μ-loop
 loop-holds c = (omega arith, refl, list-none _ _ _ _ _ _ refl (none-inside _), c .before .before .before .pre .0, c .before .before .before .pre .1)
 
+mul-basis-factor : tie.Need-mul-basis-factor Inv-loop μ-loop
+mul-basis-factor c = omega arith
+
+element-copy-out-basis-factor : tie.Need-element-copy-out-basis-factor Inv-loop μ-loop
+element-copy-out-basis-factor c = omega (arith, c .before .before .before .before .before .before .pre .4)
+
 basis-factor-requires : tie.Need-basis-factor-requires Inv-loop μ-loop
-basis-factor-requires c κs = (c .before .before .loop .inv .3, c .before .before .loop .inv .4)
+basis-factor-requires c κs = (c .before .before .before .loop .inv .3, c .before .before .before .loop .inv .4, c .before .before .before .before .before .before .before .pre .3 .low _ (c .before .before .loop-test .taken))
 
 mul-places : tie.Need-mul-places Inv-loop μ-loop
-mul-places c = omega (arith, c .before .before .before .before .before .before .before .before .before .pre .2)
+mul-places c = omega (arith, c .before .before .before .before .before .before .before .before .before .before .pre .2)
 
 slice-write-places : tie.Need-slice-write-places Inv-loop μ-loop
-slice-write-places c = omega (arith, c .before .before .before .before .before .before .before .before .before .pre .2)
+slice-write-places c = omega (arith, c .before .before .before .before .before .before .before .before .before .before .pre .2)
 
 add-k : tie.Need-add-k Inv-loop μ-loop
 add-k c = omega arith
@@ -42,8 +49,9 @@ loop-less c = omega arith
 
 loop-again : tie.Need-loop-again Inv-loop μ-loop
 loop-again c =
-    let h : c .before .before .before .before .before .loop .k < length (c .before .before .before .before .before .loop .places) = omega (arith, c .before .before .before .before .before .before .before .before .before .pre .2) in
-    (omega arith, set-length (c .before .before .before .before .before .loop .places) _ _ _ (c .before .before .before .before .before .loop .inv .1), list-next _ _ _ _ _ _ _ _ _ _ _ h (c .before .before .before .before .before .loop .inv .2) (c .before .before .basis-factor .ensures), entered-ready _ _ _ _ _ (c .before .before .before .before .before .loop .inv .3) (c .before .before .basis-factor .ensures), inside-later (c .before .before .basis-factor .ensures .ran .longer) (c .before .before .before .before .before .loop .inv .4))
+    let h : c .before .before .before .before .before .before .loop .k < length (c .before .before .before .before .before .before .loop .places) = omega (arith, c .before .before .before .before .before .before .before .before .before .before .pre .2) in
+    let entered = entering-same _ _ _ _ _ _ (factor-at _ _ _ _ (c .before .before .before .before .before .before .before .before .before .before .pre .3) (c .before .before .before .before .before .loop-test .taken)) (c .before .before .basis-factor .ensures) in
+    (omega arith, set-length (c .before .before .before .before .before .before .loop .places) _ _ _ (c .before .before .before .before .before .before .loop .inv .1), list-next _ _ _ _ _ _ _ _ _ _ _ h (c .before .before .before .before .before .before .loop .inv .2) entered, entered-ready _ _ _ _ _ (c .before .before .before .before .before .before .loop .inv .3) (c .before .before .basis-factor .ensures), inside-later (c .before .before .basis-factor .ensures .ran .longer) (c .before .before .before .before .before .before .loop .inv .4))
 
 same-length : tie.Need-same-length Inv-loop μ-loop
 same-length c = c .before .loop .inv .2 .ran .kept
@@ -62,6 +70,8 @@ basis-factors-spec =
     Inv-loop
     μ-loop
     loop-holds
+    mul-basis-factor
+    element-copy-out-basis-factor
     basis-factor-requires
     mul-places
     slice-write-places

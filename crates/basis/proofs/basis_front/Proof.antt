@@ -39,7 +39,7 @@ slice-aggregate-chain c = search needs
 
 chain-requires : tie.Need-chain-requires
 chain-requires c κs =
-    let long = length-take-le (length (c .before .before .before .before .before .before .before .before .before .before .before .before .before .before .before .before .args .col .now)) (c .before .before .before .before .before .before .before .before .before .before .before .basis-factors .last .1 .1 .1 .1 .0) (omega (arith, c .before .before .before .before .before .before .before .before .before .before .before .before .before .before .before .before .pre .2 .short)) in
+    let long = length-take-le (length (c .before .before .before .before .before .before .before .before .before .before .before .before .before .before .before .before .args .col .now)) (c .before .before .before .before .before .before .before .before .before .before .before .basis-factors .last .1 .1 .1 .1 .1 .0) (omega (arith, c .before .before .before .before .before .before .before .before .before .before .before .before .before .before .before .before .pre .2 .short)) in
     (entered-ready _ _ _ _ _ (listed-ready _ _ _ _ _ _ _ (c .before .before .before .before .before .before .before .before .before .before .before .before .before .before .before .before .pre .0) (c .before .before .before .before .before .before .before .before .before .before .before .basis-factors .ensures)) (c .before .before .before .before .constant .ensures), c .before .before .before .before .constant .ensures .inside, all-later (c .before .before .before .before .constant .ensures .ran .longer) (c .before .before .before .before .before .before .before .before .before .before .before .basis-factors .ensures .inside), omega arith, omega (arith, c .before .before .before .before .before .before .before .before .before .before .before .before .before .before .before .before .pre .2 .short, c .before .before .before .before .before .before .before .before .before .before .before .before .before .before .before .before .pre .2 .some))
 
 array-share-prefix-prefix : tie.Need-array-share-prefix-prefix
@@ -54,6 +54,8 @@ basis-back-requires c κs =
     let listed = listing-like _ _ _ _ _ _ _ _ _ (same-refl _) whole (c .before .before .before .before .before .chain .ensures) in (
       listed-ready _ _ _ _ _ _ _ (entered-ready _ _ _ _ _ (listed-ready _ _ _ _ _ _ _ (c .before .before .before .before .before .before .before .before .before .before .before .before .before .before .before .before .before .before .before .before .before .before .pre .0) (c .before .before .before .before .before .before .before .before .before .before .before .before .before .before .before .before .before .basis-factors .ensures)) (c .before .before .before .before .before .before .before .before .before .before .constant .ensures)) (c .before .before .before .before .before .chain .ensures),
       record {
+        rows = c .before .before .before .before .before .before .before .before .before .before .before .before .before .before .before .before .before .before .before .before .before .before .pre .3;
+        short = c .before .before .before .before .before .before .before .before .before .before .before .before .before .before .before .before .before .before .before .before .before .before .pre .2 .short;
         prefix-long = length-take-le _ _ (omega (arith, c .before .before .before .before .before .before .before .before .before .before .before .before .before .before .before .before .before .before .before .before .before .before .pre .2 .short));
         suffix-long = length-take-le _ _ (omega (arith, c .before .before .before .before .before .before .before .before .before .before .before .before .before .before .before .before .before .before .before .before .before .before .pre .2 .short));
         prefix-inside = listed .inside;

@@ -17,10 +17,10 @@ use Rattle.basis.proofs.class_sum.Statement.{statement}
 use Rattle.basis.proofs.class_sum.Tie as tie
 
 abbrev Inv-loop : tie.InvT-loop
-Inv-loop list₀ n prefix suffix col v acc₀ j₀ list acc j = (j ≤ length col) × Said.Entering list₀ (acc₀ .count) (Builder.turns (λ j acc. Periodic.classTurn quad p felt generator half col prefix suffix v j acc) j (acc₀ .place)) list acc × Said.Ready list (acc .count) × Basis.Products (acc .count) col prefix suffix
+Inv-loop list₀ n roots prefix suffix col v acc₀ j₀ list acc j = (j ≤ length col) × Said.Entering list₀ (acc₀ .count) (Builder.turns (λ j acc. Periodic.classTurn quad p felt generator half col prefix suffix v j acc) j (acc₀ .place)) list acc × Said.Ready list (acc .count) × Basis.Products (acc .count) col roots prefix suffix
 
 abbrev μ-loop : tie.MeasureT-loop
-μ-loop list₀ n prefix suffix col v acc₀ j₀ list acc j = length col - j
+μ-loop list₀ n roots prefix suffix col v acc₀ j₀ list acc j = length col - j
 
 constant-requires : tie.Need-constant-requires Inv-loop μ-loop
 constant-requires c κs = (c .before .before .before .before .before .pre .0, lit< tt)

@@ -1,58 +1,66 @@
-use Rattle.builder.specs.Holds.{holds-nothing, turn-fine, turn-request, turn-short, turn-holds}
-use Rattle.builder.specs.OutcomeLaws.{list-fine}
-use Rattle.dag.specs.NodeLaws.{at-nodes}
-use lib.ListN.{length-set}
-use native.Mathlib.Nat.{le-antisymm}
-use Rattle.builder.specs.Holds as Held
-use Rattle.builder.specs.Steps as Steps
-use Rattle.dag.specs.Nodes as Nodes
-use Rattle.field.specs.Field.{quad}
-use lib.ListN.{length}
-use native.Mathlib.Omega.{arith}
-use mathlib.Core.Path.{_≡_, refl, sym, _∙_}
 use Prim.Native.Nat.{_≤_, _-_}
+use mathlib.Core.Path.{_≡_, refl, sym, _∙_}
+use native.Mathlib.Nat.{le-antisymm}
+use native.Mathlib.Omega.{arith}
+use lib.ListN.{length, length-set}
+use Rattle.field.specs.Field.{quad}
+use Rattle.dag.specs.Nodes as Nodes
+use Rattle.dag.specs.NodeLaws.{at-nodes}
+use Rattle.index.specs.Index.{NodeIndex}
+use Rattle.builder.specs.Steps as Steps
+use Rattle.builder.specs.OutcomeLaws.{list-fine}
+use Rattle.builder.specs.Holds as Held
+use Rattle.builder.specs.Holds.{holds-nothing, turn-fine, turn-request, turn-short, turn-holds}
 use Rattle.builder.proofs.replay.Statement.{statement}
 use Rattle.builder.proofs.replay.Tie as tie
 
 abbrev Inv-loop : tie.InvT-loop
-Inv-loop list n result₀ map₀ count₀ i₀ result map count i = (i ≤ n) × (length result ≡ length result₀) × (length map ≡ length map₀) × Held.Holds (Steps.replay quad (Nodes.nodes list n) i) i result map count
+Inv-loop list n result₀ map₀ links₀ count₀ i₀ result map links count i = (i ≤ n) × (length result ≡ length result₀) × (length map ≡ length map₀) × Held.Holds (Steps.replay quad (Nodes.nodes list n) i) i result map count × (length links ≡ length links₀) × NodeIndex (Nodes.nodes result count) links
 
 abbrev μ-loop : tie.MeasureT-loop
-μ-loop list n result₀ map₀ count₀ i₀ result map count i = n - i
+μ-loop list n result₀ map₀ links₀ count₀ i₀ result map links count i = n - i
+
+clear-requires : tie.Need-clear-requires Inv-loop μ-loop
+clear-requires c κs = (c .before .before .before .before .before .pre .3)
 
 loop-holds : tie.Need-loop-holds Inv-loop μ-loop
-unfolding Steps.replay
-loop-holds c = (omega arith, refl, refl, holds-nothing _ _)
+unfolding Steps.replay Nodes.nodes
+loop-holds c = (omega arith, refl, refl, holds-nothing _ _, refl, (c .before .before .clear .ensures))
 
 node-at-requires : tie.Need-node-at-requires Inv-loop μ-loop
-node-at-requires c κs = omega (arith, c .before .before .before .before .before .before .pre .0 .room, c .before .loop-test .taken)
+node-at-requires c κs = omega (arith, (c .before .before .before .before .before .before .before .before .before .before .before .pre .0 .room), (c .before .loop-test .taken))
 
 renamed-requires : tie.Need-renamed-requires Inv-loop μ-loop
-renamed-requires c κs = turn-fine (Nodes.nodes (c .before .before .before .before .before .before .before .args .list .now) (c .before .before .before .before .before .before .before .args .n)) (list-fine (c .before .before .before .before .before .before .before .args .list .now) (c .before .before .before .before .before .before .before .args .n) (c .before .before .before .before .before .before .before .pre .0)) (c .before .before .before .loop .i) _ _ (omega (arith, c .before .before .before .before .before .before .before .pre .2, c .before .before .before .loop .inv .2, c .before .before .loop-test .taken)) (c .node-at .ensures ∙ sym (at-nodes _ _ _ (c .before .before .loop-test .taken)))
+renamed-requires c κs = turn-fine (Nodes.nodes (c .before .before .before .before .before .before .before .before .before .before .before .before .args .list .now) (c .before .before .before .before .before .before .before .before .before .before .before .before .args .n)) (list-fine (c .before .before .before .before .before .before .before .before .before .before .before .before .args .list .now) (c .before .before .before .before .before .before .before .before .before .before .before .before .args .n) (c .before .before .before .before .before .before .before .before .before .before .before .before .pre .0)) (c .before .before .before .loop .i) _ _ (omega (arith, (c .before .before .before .before .before .before .before .before .before .before .before .before .pre .2), (c .before .before .before .loop .inv .2), (c .before .before .loop-test .taken))) ((c .node-at .ensures) ∙ sym (at-nodes _ _ _ (c .before .before .loop-test .taken)))
 
 push-requires : tie.Need-push-requires Inv-loop μ-loop
-push-requires c κs = (rw (c .before .renamed .ensures) (turn-request (Nodes.nodes (c .before .before .before .before .before .before .before .before .before .args .list .now) (c .before .before .before .before .before .before .before .before .before .args .n)) (list-fine (c .before .before .before .before .before .before .before .before .before .args .list .now) (c .before .before .before .before .before .before .before .before .before .args .n) (c .before .before .before .before .before .before .before .before .before .pre .0)) (c .before .before .before .before .before .loop .i) (c .before .before .before .before .before .loop .result) (c .before .before .before .before .before .loop .map) (c .before .before .before .before .before .loop .count) (c .before .before .before .before .before .loop .inv .3) _ (c .before .before .node-at .ensures ∙ sym (at-nodes _ _ _ (c .before .before .before .before .loop-test .taken)))), let h = turn-short (Nodes.nodes (c .before .before .before .before .before .before .before .before .before .args .list .now) (c .before .before .before .before .before .before .before .before .before .args .n)) (list-fine (c .before .before .before .before .before .before .before .before .before .args .list .now) (c .before .before .before .before .before .before .before .before .before .args .n) (c .before .before .before .before .before .before .before .before .before .pre .0)) (c .before .before .before .before .before .loop .i) (c .before .before .before .before .before .loop .result) (c .before .before .before .before .before .loop .map) (c .before .before .before .before .before .loop .count) (c .before .before .before .before .before .loop .inv .3) in omega (arith, h, c .before .before .before .before .before .before .before .before .before .pre .1, c .before .before .before .before .before .loop .inv .1, c .before .before .before .before .loop-test .taken))
+push-requires c κs =
+    let h = turn-short (Nodes.nodes (c .before .before .before .before .before .before .before .before .before .before .before .before .before .before .before .args .list .now) (c .before .before .before .before .before .before .before .before .before .before .before .before .before .before .before .args .n)) (list-fine (c .before .before .before .before .before .before .before .before .before .before .before .before .before .before .before .args .list .now) (c .before .before .before .before .before .before .before .before .before .before .before .before .before .before .before .args .n) (c .before .before .before .before .before .before .before .before .before .before .before .before .before .before .before .pre .0)) (c .before .before .before .before .before .before .loop .i) (c .before .before .before .before .before .before .loop .result) (c .before .before .before .before .before .before .loop .map) (c .before .before .before .before .before .before .loop .count) (c .before .before .before .before .before .before .loop .inv .3) in
+    (rw (c .before .before .renamed .ensures) (turn-request (Nodes.nodes (c .before .before .before .before .before .before .before .before .before .before .before .before .before .before .before .args .list .now) (c .before .before .before .before .before .before .before .before .before .before .before .before .before .before .before .args .n)) (list-fine (c .before .before .before .before .before .before .before .before .before .before .before .before .before .before .before .args .list .now) (c .before .before .before .before .before .before .before .before .before .before .before .before .before .before .before .args .n) (c .before .before .before .before .before .before .before .before .before .before .before .before .before .before .before .pre .0)) (c .before .before .before .before .before .before .loop .i) (c .before .before .before .before .before .before .loop .result) (c .before .before .before .before .before .before .loop .map) (c .before .before .before .before .before .before .loop .count) (c .before .before .before .before .before .before .loop .inv .3) _ ((c .before .before .before .node-at .ensures) ∙ sym (at-nodes _ _ _ (c .before .before .before .before .before .loop-test .taken)))), record { room = omega (arith, h, (c .before .before .before .before .before .before .before .before .before .before .before .before .before .before .before .pre .1), (c .before .before .before .before .before .before .loop .inv .1), (c .before .before .before .before .before .loop-test .taken)); index = (c .before .before .before .before .before .before .loop .inv .5); link-room = rw ((c .before .before .before .before .before .before .loop .inv .4), (c .before .before .before .before .before .before .before .before .before .clear .kept .0)) (omega (arith, h, (c .before .before .before .before .before .before .before .before .before .before .before .before .before .before .before .pre .4), (c .before .before .before .before .before .loop-test .taken))) })
 
 mul-map : tie.Need-mul-map Inv-loop μ-loop
-mul-map c = omega (arith, c .before .before .before .before .before .before .before .before .before .before .before .before .good .1 .1 .1 .0 .1, c .before .before .before .before .before .before .before .before .before .before .before .before .pre .2, c .before .before .before .before .before .before .before .loop-test .taken)
+mul-map c = omega (arith, (c .before .before .before .before .before .before .before .before .before .before .before .before .before .before .before .before .before .before .before .before .good .1 .1 .1 .0 .1), (c .before .before .before .before .before .before .before .before .before .before .before .before .before .before .before .before .before .before .before .before .pre .2), (c .before .before .before .before .before .before .before .before .before .before .loop-test .taken))
 
 slice-write-map : tie.Need-slice-write-map Inv-loop μ-loop
-slice-write-map c = omega (arith, c .before .before .before .before .before .before .before .before .before .before .before .before .pre .2, c .before .before .before .before .before .before .before .loop-test .taken, c .before .before .before .before .before .before .before .before .loop .inv .2)
+slice-write-map c = omega (arith, (c .before .before .before .before .before .before .before .before .before .before .before .before .before .before .before .before .before .before .before .before .pre .2), (c .before .before .before .before .before .before .before .before .before .before .loop-test .taken), (c .before .before .before .before .before .before .before .before .before .before .before .loop .inv .2))
 
 add-i : tie.Need-add-i Inv-loop μ-loop
-add-i c = omega (arith, c .before .before .before .before .before .before .before .before .before .before .before .before .good .1 .1 .1 .0 .0, c .before .before .before .before .before .before .before .before .before .before .before .before .pre .2, c .before .before .before .before .before .before .before .loop-test .taken)
+add-i c = omega (arith, (c .before .before .before .before .before .before .before .before .before .before .before .before .before .before .before .before .before .before .before .before .good .1 .1 .1 .0 .0), (c .before .before .before .before .before .before .before .before .before .before .before .before .before .before .before .before .before .before .before .before .pre .2), (c .before .before .before .before .before .before .before .before .before .before .loop-test .taken))
 
 loop-less : tie.Need-loop-less Inv-loop μ-loop
-loop-less c = omega (arith, c .before .before .before .before .before .before .before .loop-test .taken)
+loop-less c = omega (arith, (c .before .before .before .before .before .before .before .before .before .before .loop-test .taken))
 
 loop-again : tie.Need-loop-again Inv-loop μ-loop
-loop-again c = (omega (arith, c .before .before .before .before .before .before .before .loop-test .taken), c .before .before .push .ensures .kept ∙ c .before .before .before .before .before .before .before .before .loop .inv .1, simp length-set (c .before .before .before .before .before .before .before .before .loop .inv .2), turn-holds (Nodes.nodes (c .before .before .before .before .before .before .before .before .before .before .before .before .args .list .now) (c .before .before .before .before .before .before .before .before .before .before .before .before .args .n)) (list-fine (c .before .before .before .before .before .before .before .before .before .before .before .before .args .list .now) (c .before .before .before .before .before .before .before .before .before .before .before .before .args .n) (c .before .before .before .before .before .before .before .before .before .before .before .before .pre .0)) (c .before .before .before .before .before .before .before .before .loop .i) (c .before .before .before .before .before .before .before .before .loop .result) (c .before .before .before .before .before .before .before .before .loop .map) (c .before .before .before .before .before .before .before .before .loop .count) (c .before .before .before .before .before .before .before .before .loop .inv .3) _ _ _ (c .before .before .before .before .before .node-at .ensures ∙ sym (at-nodes _ _ _ (c .before .before .before .before .before .before .before .loop-test .taken))) (rw (c .before .before .before .before .renamed .ensures) at (c .before .before .push .ensures)) (omega (arith, c .before .before .before .before .before .before .before .before .before .before .before .before .pre .2, c .before .before .before .before .before .before .before .loop-test .taken, c .before .before .before .before .before .before .before .before .loop .inv .2)))
+loop-again c = (omega (arith, (c .before .before .before .before .before .before .before .before .before .before .loop-test .taken)), (c .before .before .before .before .push .ensures .pushed .kept) ∙ (c .before .before .before .before .before .before .before .before .before .before .before .loop .inv .1), simp length-set (c .before .before .before .before .before .before .before .before .before .before .before .loop .inv .2), turn-holds (Nodes.nodes (c .before .before .before .before .before .before .before .before .before .before .before .before .before .before .before .before .before .before .before .before .args .list .now) (c .before .before .before .before .before .before .before .before .before .before .before .before .before .before .before .before .before .before .before .before .args .n)) (list-fine (c .before .before .before .before .before .before .before .before .before .before .before .before .before .before .before .before .before .before .before .before .args .list .now) (c .before .before .before .before .before .before .before .before .before .before .before .before .before .before .before .before .before .before .before .before .args .n) (c .before .before .before .before .before .before .before .before .before .before .before .before .before .before .before .before .before .before .before .before .pre .0)) (c .before .before .before .before .before .before .before .before .before .before .before .loop .i) (c .before .before .before .before .before .before .before .before .before .before .before .loop .result) (c .before .before .before .before .before .before .before .before .before .before .before .loop .map) (c .before .before .before .before .before .before .before .before .before .before .before .loop .count) (c .before .before .before .before .before .before .before .before .before .before .before .loop .inv .3) _ _ _ ((c .before .before .before .before .before .before .before .before .node-at .ensures) ∙ sym (at-nodes _ _ _ (c .before .before .before .before .before .before .before .before .before .before .loop-test .taken))) (rw (c .before .before .before .before .before .before .before .renamed .ensures) at (c .before .before .before .before .push .ensures .pushed)) (omega (arith, (c .before .before .before .before .before .before .before .before .before .before .before .before .before .before .before .before .before .before .before .before .pre .2), (c .before .before .before .before .before .before .before .before .before .before .loop-test .taken), (c .before .before .before .before .before .before .before .before .before .before .before .loop .inv .2))), (c .before .before .before .before .push .kept .1 .1 .0) ∙ (c .before .before .before .before .before .before .before .before .before .before .before .loop .inv .4), (c .before .before .before .before .push .ensures .index))
 
 same-length : tie.Need-same-length Inv-loop μ-loop
-same-length c = c .before .loop .inv .1
+same-length c = (c .before .loop .inv .1)
 
 same-length-2 : tie.Need-same-length-2 Inv-loop μ-loop
-same-length-2 c = c .before .loop .inv .2
+same-length-2 c = (c .before .loop .inv .2)
+
+same-length-3 : tie.Need-same-length-3 Inv-loop μ-loop
+same-length-3 c = (c .before .loop .inv .4) ∙ (c .before .before .before .before .clear .kept .0)
 
 returns : tie.Need-returns Inv-loop μ-loop
 returns c = rw (le-antisymm (c .before .loop .inv .0) (c .loop-test .left)) at (c .before .loop .inv .3)
@@ -63,6 +71,7 @@ replay-spec =
     (tie.spec
     Inv-loop
     μ-loop
+    clear-requires
     loop-holds
     node-at-requires
     renamed-requires
@@ -74,4 +83,5 @@ replay-spec =
     loop-again
     same-length
     same-length-2
+    same-length-3
     returns)

@@ -4,9 +4,10 @@ use native.Mathlib.Nat.{le-antisymm}
 use native.Mathlib.Omega.{arith}
 use lib.ListN.{length}
 use borrow.Author.Needs.{needs}
+use Rattle.field.specs.Field.{p}
 use Rattle.dag.specs.Nodes as Nodes
 use Rattle.index.specs.Index as Index
-use Rattle.index.specs.NodeIndexLaws.{sound-part}
+use Rattle.index.specs.NodeIndexLaws.{index-next}
 use Rattle.index.proofs.index_list.Statement.{statement}
 use Rattle.index.proofs.index_list.Tie as tie
 
@@ -23,17 +24,50 @@ loop-holds : tie.Need-loop-holds Inv-loop μ-loop
 unfolding Nodes.nodes
 loop-holds c = (omega arith, refl, (c .before .before .clear .ensures))
 
+mul-note : tie.Need-mul-note Inv-loop μ-loop
+mul-note c = omega (arith, (c .before .loop-test .taken), (c .before .before .before .before .before .before .before .before .before .pre .0 .room))
+
+mul-note-2 : tie.Need-mul-note-2 Inv-loop μ-loop
+mul-note-2 c = omega (arith, (c .before .loop-test .taken), (c .before .before .before .before .before .before .before .before .before .pre .0 .room))
+
+shared-slice-read-note : tie.Need-shared-slice-read-note Inv-loop μ-loop
+shared-slice-read-note c = omega (arith, (c .before .before .loop-test .taken), (c .before .before .before .before .before .before .before .before .before .before .pre .0 .room))
+
+mul-note-3 : tie.Need-mul-note-3 Inv-loop μ-loop
+mul-note-3 c = omega (arith, (c .before .before .loop-test .taken), (c .before .before .before .before .before .before .before .before .before .before .pre .0 .room))
+
+add-note : tie.Need-add-note Inv-loop μ-loop
+add-note c = omega (arith, (c .before .before .loop-test .taken), (c .before .before .before .before .before .before .before .before .before .before .pre .0 .room))
+
+mul-note-4 : tie.Need-mul-note-4 Inv-loop μ-loop
+mul-note-4 c = omega (arith, (c .before .before .loop-test .taken), (c .before .before .before .before .before .before .before .before .before .before .pre .0 .room))
+
+shared-slice-read-note-2 : tie.Need-shared-slice-read-note-2 Inv-loop μ-loop
+shared-slice-read-note-2 c = omega (arith, (c .before .before .before .loop-test .taken), (c .before .before .before .before .before .before .before .before .before .before .before .pre .0 .room))
+
+mul-note-5 : tie.Need-mul-note-5 Inv-loop μ-loop
+mul-note-5 c = omega (arith, (c .before .before .before .loop-test .taken), (c .before .before .before .before .before .before .before .before .before .before .before .pre .0 .room))
+
+add-note-2 : tie.Need-add-note-2 Inv-loop μ-loop
+add-note-2 c = omega (arith, (c .before .before .before .loop-test .taken), (c .before .before .before .before .before .before .before .before .before .before .before .pre .0 .room))
+
+mul-note-6 : tie.Need-mul-note-6 Inv-loop μ-loop
+mul-note-6 c = omega (arith, (c .before .before .before .loop-test .taken), (c .before .before .before .before .before .before .before .before .before .before .before .pre .0 .room))
+
+shared-slice-read-note-3 : tie.Need-shared-slice-read-note-3 Inv-loop μ-loop
+shared-slice-read-note-3 c = omega (arith, (c .before .before .before .before .loop-test .taken), (c .before .before .before .before .before .before .before .before .before .before .before .before .pre .0 .room))
+
 note-requires : tie.Need-note-requires Inv-loop μ-loop
-note-requires c κs = (sound-part _ _ _ _ (omega (arith, (c .before .loop-test .taken))) (c .before .before .before .before .before .before .before .before .before .pre .0), (c .before .before .loop .inv .2), rw ((c .before .before .loop .inv .1), (c .before .before .before .before .before .clear .kept .0)) (omega (arith, (c .before .before .before .before .before .before .before .before .before .pre .2), (c .before .loop-test .taken))))
+note-requires c κs = ((c .before .before .before .before .before .loop .inv .2 .usable), rw ((c .before .before .before .before .before .loop .inv .1), (c .before .before .before .before .before .before .before .before .clear .kept .0)) (omega (arith, (c .before .before .before .before .before .before .before .before .before .before .before .before .pre .2), (c .before .before .before .before .loop-test .taken))))
 
 add-i : tie.Need-add-i Inv-loop μ-loop
 add-i c = search needs
 
 loop-less : tie.Need-loop-less Inv-loop μ-loop
-loop-less c = omega (arith, (c .before .before .before .before .loop-test .taken))
+loop-less c = omega (arith, (c .before .before .before .before .before .before .before .loop-test .taken))
 
 loop-again : tie.Need-loop-again Inv-loop μ-loop
-loop-again c = (omega (arith, (c .before .before .before .before .loop-test .taken)), (c .before .before .note .kept .1 .1 .0) ∙ (c .before .before .before .before .before .loop .inv .1), (c .before .before .note .ensures))
+loop-again c = (omega (arith, (c .before .before .before .before .before .before .before .loop-test .taken)), (c .before .before .note .kept .0) ∙ (c .before .before .before .before .before .before .before .before .loop .inv .1), index-next p _ _ _ _ _ (c .before .before .before .before .before .before .before .before .before .before .before .before .before .before .before .pre .0) (c .before .before .before .before .before .before .before .loop-test .taken) (rw ((c .before .before .before .before .before .before .before .before .loop .inv .1), (c .before .before .before .before .before .before .before .before .before .before .before .clear .kept .0)) (c .before .before .before .before .before .before .before .before .before .before .before .before .before .before .before .pre .2)) (c .before .before .before .before .before .before .before .before .loop .inv .2) (c .before .before .note .ensures))
 
 same-length : tie.Need-same-length Inv-loop μ-loop
 same-length c = (c .before .loop .inv .1) ∙ (c .before .before .before .before .clear .kept .0)
@@ -49,6 +83,17 @@ index-list-spec =
     μ-loop
     clear-requires
     loop-holds
+    mul-note
+    mul-note-2
+    shared-slice-read-note
+    mul-note-3
+    add-note
+    mul-note-4
+    shared-slice-read-note-2
+    mul-note-5
+    add-note-2
+    mul-note-6
+    shared-slice-read-note-3
     note-requires
     add-i
     loop-less

@@ -1,72 +1,19 @@
-use Rattle.periodic.specs.ListLaws.{set-length}
--- The invariant: the first i words of both stores are the same.
-use Prim.Native.Nat.{_-_, _<_, _≤_}
-use mathlib.Core.Path.{_≡_, refl, _∙_}
-use native.Mathlib.Nat.{le-antisymm}
-use native.Mathlib.Omega.{arith}
-use lib.ListN.{length, take}
-use Rattle.lower.specs.CallLaws.{fill-word, filled-told}
+use Rattle.lower.specs.CallLaws.{filled-told}
+use borrow.Author.Needs.{needs}
 use Rattle.lower.proofs.fill_from.Statement.{statement}
 use Rattle.lower.proofs.fill_from.Tie as tie
 
-abbrev Inv-loop : tie.InvT-loop
-Inv-loop from m to₀ i₀ to i = (i ≤ m) × (length to ≡ length to₀) × (take i to ≡ take i «from»)
+copy-requires : tie.Need-copy-requires
+copy-requires c κs = search needs
 
-abbrev μ-loop : tie.MeasureT-loop
-μ-loop from m to₀ i₀ to i = m - i
+blank-from-requires : tie.Need-blank-from-requires
+blank-from-requires c κs = search needs
 
-loop-holds : tie.Need-loop-holds Inv-loop μ-loop
-loop-holds c = (omega arith, refl, refl)
+same-length : tie.Need-same-length
+same-length c = search needs
 
-mul-to : tie.Need-mul-to Inv-loop μ-loop
-mul-to c = omega (arith, c .before .before .before .before .pre .0)
-
-shared-slice-read-to : tie.Need-shared-slice-read-to Inv-loop μ-loop
-shared-slice-read-to c = omega (arith, c .before .before .before .before .before .pre .0)
-
-mul-to-2 : tie.Need-mul-to-2 Inv-loop μ-loop
-mul-to-2 c = omega (arith, c .before .before .before .before .before .pre .0)
-
-slice-write-to : tie.Need-slice-write-to Inv-loop μ-loop
-slice-write-to c = omega (arith, c .before .before .before .before .before .pre .1)
-
-add-i : tie.Need-add-i Inv-loop μ-loop
-add-i c = omega (arith, c .before .before .before .before .before .pre .0)
-
-loop-less : tie.Need-loop-less Inv-loop μ-loop
-loop-less c = omega arith
-
-loop-again : tie.Need-loop-again Inv-loop μ-loop
-loop-again c =
-    let h : c .before .before .loop .i < length (c .before .before .before .before .before .args .from .now) = omega (arith, c .before .before .before .before .before .pre .0) in
-    let k : c .before .before .loop .i < length (c .before .before .loop .to) = omega (arith, c .before .before .before .before .before .pre .1) in
-    (omega arith, set-length (c .before .before .loop .to) _ _ _ (c .before .before .loop .inv .1), fill-word (c .before .before .before .before .before .args .from .now) (c .before .before .loop .to) (c .before .before .loop .i) h k (c .before .before .loop .inv .2))
-
-blank-from-requires : tie.Need-blank-from-requires Inv-loop μ-loop
-blank-from-requires c κs = omega (arith, c .before .before .before .before .before .pre .1)
-
-same-length : tie.Need-same-length Inv-loop μ-loop
-same-length c = c .before .before .blank-from .kept .0 ∙ c .before .before .before .before .before .loop .inv .1
-
-returns : tie.Need-returns Inv-loop μ-loop
-returns c =
-    let e = rw (le-antisymm (c .before .before .before .before .before .loop .inv .0) (c .before .before .before .before .loop-test .left)) at (c .before .before .before .before .before .loop .inv .2) in
-    filled-told (c .before .before .before .before .before .before .before .before .args .from .now) (c .before .before .before .before .before .loop .to) _ (c .before .before .before .before .before .before .before .before .args .m) _ (c .before .before .before .before .before .before .before .before .pre .0) e (c .before .before .before .before .before .loop .inv .1) (c .before .before .blank-from .ensures)
+returns : tie.Need-returns
+returns c = filled-told (c .before .before .before .before .before .before .before .before .before .before .args .from .now) _ _ (c .before .before .before .before .before .before .before .before .before .before .args .m) _ (c .before .before .before .before .before .before .before .before .before .before .pre .0) (c .before .before .before .before .before .before .copy .ensures) (c .before .before .before .before .before .before .copy .kept .1 .1 .0) (c .before .before .blank-from .ensures)
 
 pub fill-from-spec : {M : Type 1} → statement M
-fill-from-spec =
-    tie.close
-    (tie.spec
-    Inv-loop
-    μ-loop
-    loop-holds
-    mul-to
-    shared-slice-read-to
-    mul-to-2
-    slice-write-to
-    add-i
-    loop-less
-    loop-again
-    blank-from-requires
-    same-length
-    returns)
+fill-from-spec = tie.close (tie.spec copy-requires blank-from-requires same-length returns)

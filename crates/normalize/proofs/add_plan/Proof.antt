@@ -16,7 +16,7 @@ factor-plan-requires : tie.Need-factor-plan-requires
 factor-plan-requires c κs = search needs
 
 returns : tie.Need-returns
-returns c = add-factored (nodes (c .before .before .before .before .before .before .args .list .now) (c .before .before .before .before .before .before .args .n)) (read (c .before .before .before .before .before .before .args .fan .now)) (c .before .before .before .before .before .before .args .i) _ _ _ (c .before .before .before .common-factor .ensures) (told (c .before .before .is-shared .ensures) (c .before .if1 .taken)) _ (c .factor-plan .ensures)
+returns c = add-factored (nodes (c .before .before .before .before .before .before .before .args .list .now) (c .before .before .before .before .before .before .before .args .n)) (read (c .before .before .before .before .before .before .before .args .fan .now)) (c .before .before .before .before .before .before .before .args .i) _ _ _ (c .before .before .before .common-factor .ensures) (told (c .before .before .is-shared .ensures) (c .before .if1 .taken)) _ (c .factor-plan .ensures)
 
 either-rotation-requires : tie.Need-either-rotation-requires
 either-rotation-requires c κs = search needs
@@ -25,7 +25,7 @@ rotation-plan-requires : tie.Need-rotation-plan-requires
 rotation-plan-requires c κs = search needs
 
 returns-2 : tie.Need-returns-2
-returns-2 c = add-rotated (nodes (c .before .before .before .before .before .before .before .args .list .now) (c .before .before .before .before .before .before .before .args .n)) (read (c .before .before .before .before .before .before .before .args .fan .now)) (c .before .before .before .before .before .before .before .args .i) _ _ _ (c .before .before .before .before .common-factor .ensures) (told (c .before .before .before .is-shared .ensures) (c .before .before .if1 .left)) _ (c .before .either-rotation .ensures) _ (c .rotation-plan .ensures)
+returns-2 c = add-rotated (nodes (c .before .before .before .before .before .before .before .before .args .list .now) (c .before .before .before .before .before .before .before .before .args .n)) (read (c .before .before .before .before .before .before .before .before .args .fan .now)) (c .before .before .before .before .before .before .before .before .args .i) _ _ _ (c .before .before .before .before .common-factor .ensures) (told (c .before .before .before .is-shared .ensures) (c .before .before .if1 .left)) _ (c .before .either-rotation .ensures) _ (c .rotation-plan .ensures)
 
 pub add-plan-spec : {M : Type 1} → statement M
 add-plan-spec =

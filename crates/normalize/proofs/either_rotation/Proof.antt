@@ -15,14 +15,14 @@ is-onto-requires c κs = search needs
 
 returns : tie.Need-returns
 unfolding Rounds.eitherRotation
-returns c = c .before .before .existing-rotation .ensures ∙ first-found _ _ (ap Asked.isOnto (sym (c .before .before .existing-rotation .ensures)) ∙ (told (c .before .is-onto .ensures) (c .if1 .taken)))
+returns c = (c .before .before .existing-rotation .ensures) ∙ first-found _ _ (ap Asked.isOnto (sym (c .before .before .existing-rotation .ensures)) ∙ (told (c .before .is-onto .ensures) (c .if1 .taken)))
 
 existing-rotation-requires-2 : tie.Need-existing-rotation-requires-2
 existing-rotation-requires-2 c κs = search needs
 
 returns-2 : tie.Need-returns-2
 unfolding Rounds.eitherRotation
-returns-2 c = c .existing-rotation2 .ensures ∙ then-other _ _ (ap Asked.isOnto (sym (c .before .before .before .existing-rotation .ensures)) ∙ (told (c .before .before .is-onto .ensures) (c .before .if1 .left)))
+returns-2 c = (c .existing-rotation2 .ensures) ∙ then-other _ _ (ap Asked.isOnto (sym (c .before .before .before .existing-rotation .ensures)) ∙ (told (c .before .before .is-onto .ensures) (c .before .if1 .left)))
 
 pub either-rotation-spec : {M : Type 1} → statement M
 either-rotation-spec =

@@ -19,7 +19,7 @@ rotates-requires : tie.Need-rotates-requires
 rotates-requires c κs = search needs
 
 returns : tie.Need-returns
-returns c = no-rotation (c .before .before .before .before .before .before .args .list .now) (c .before .before .before .before .before .before .args .n) (c .before .before .before .before .before .before .args .inner) (c .before .before .before .before .before .before .args .other) (c .before .before .before .before .before .before .pre .0) (c .before .before .before .before .before .before .args .fan .now) _ (c .before .before .before .node-at .ensures) (Asked.operation (c .before .before .before .before .before .before .args .op)) (c .before .before .before .before .before .before .args .i) (told (c .before .rotates .ensures) (not-true _ (c .if1 .taken)))
+returns c = no-rotation (c .before .before .before .before .before .before .before .args .list .now) (c .before .before .before .before .before .before .before .args .n) (c .before .before .before .before .before .before .before .args .inner) (c .before .before .before .before .before .before .before .args .other) (c .before .before .before .before .before .before .before .pre .0) (c .before .before .before .before .before .before .before .args .fan .now) _ (c .before .before .before .node-at .ensures) (Asked.operation (c .before .before .before .before .before .before .before .args .op)) (c .before .before .before .before .before .before .before .args .i) (told (c .before .rotates .ensures) (not-true _ (c .if1 .taken)))
 
 first-of-requires : tie.Need-first-of-requires
 first-of-requires c κs = search needs
@@ -37,7 +37,7 @@ is-onto-requires : tie.Need-is-onto-requires
 is-onto-requires c κs = search needs
 
 returns-2 : tie.Need-returns-2
-returns-2 c = rotation-first (c .before .before .before .before .before .before .before .before .before .before .before .before .args .list .now) (c .before .before .before .before .before .before .before .before .before .before .before .before .args .n) (c .before .before .before .before .before .before .before .before .before .before .before .before .args .inner) (c .before .before .before .before .before .before .before .before .before .before .before .before .args .other) (c .before .before .before .before .before .before .before .before .before .before .before .before .pre .0) (c .before .before .before .before .before .before .before .before .before .before .before .before .args .fan .now) _ (c .before .before .before .before .before .before .before .before .before .node-at .ensures) (Asked.operation (c .before .before .before .before .before .before .before .before .before .before .before .before .args .op)) (c .before .before .before .before .before .before .before .before .before .before .before .before .args .i) (told (c .before .before .before .before .before .before .before .rotates .ensures) (not-false _ (c .before .before .before .before .before .before .if1 .left))) _ _ (c .before .before .before .before .before .first-of .ensures) (c .before .before .before .before .second-of .ensures) _ (c .before .before .before .canonical .ensures) _ (c .before .before .onto-before .ensures) (told (c .before .is-onto .ensures) (c .if2 .taken))
+returns-2 c = rotation-first (c .before .before .before .before .before .before .before .before .before .before .before .before .before .args .list .now) (c .before .before .before .before .before .before .before .before .before .before .before .before .before .args .n) (c .before .before .before .before .before .before .before .before .before .before .before .before .before .args .inner) (c .before .before .before .before .before .before .before .before .before .before .before .before .before .args .other) (c .before .before .before .before .before .before .before .before .before .before .before .before .before .pre .0) (c .before .before .before .before .before .before .before .before .before .before .before .before .before .args .fan .now) _ (c .before .before .before .before .before .before .before .before .before .node-at .ensures) (Asked.operation (c .before .before .before .before .before .before .before .before .before .before .before .before .before .args .op)) (c .before .before .before .before .before .before .before .before .before .before .before .before .before .args .i) (told (c .before .before .before .before .before .before .before .rotates .ensures) (not-false _ (c .before .before .before .before .before .before .if1 .left))) _ _ (c .before .before .before .before .before .first-of .ensures) (c .before .before .before .before .second-of .ensures) _ (c .before .before .before .canonical .ensures) _ (c .before .before .onto-before .ensures) (told (c .before .is-onto .ensures) (c .if2 .taken))
 
 canonical-requires-2 : tie.Need-canonical-requires-2
 canonical-requires-2 c κs = search needs
@@ -46,7 +46,7 @@ onto-before-requires-2 : tie.Need-onto-before-requires-2
 onto-before-requires-2 c κs = search needs
 
 returns-3 : tie.Need-returns-3
-returns-3 c = rotation-other (c .before .before .before .before .before .before .before .before .before .before .before .before .before .before .args .list .now) (c .before .before .before .before .before .before .before .before .before .before .before .before .before .before .args .n) (c .before .before .before .before .before .before .before .before .before .before .before .before .before .before .args .inner) (c .before .before .before .before .before .before .before .before .before .before .before .before .before .before .args .other) (c .before .before .before .before .before .before .before .before .before .before .before .before .before .before .pre .0) (c .before .before .before .before .before .before .before .before .before .before .before .before .before .before .args .fan .now) _ (c .before .before .before .before .before .before .before .before .before .before .before .node-at .ensures) (Asked.operation (c .before .before .before .before .before .before .before .before .before .before .before .before .before .before .args .op)) (c .before .before .before .before .before .before .before .before .before .before .before .before .before .before .args .i) (told (c .before .before .before .before .before .before .before .before .before .rotates .ensures) (not-false _ (c .before .before .before .before .before .before .before .before .if1 .left))) _ _ (c .before .before .before .before .before .before .before .first-of .ensures) (c .before .before .before .before .before .before .second-of .ensures) _ (c .before .before .before .before .before .canonical .ensures) _ (c .before .before .before .before .onto-before .ensures) (told (c .before .before .before .is-onto .ensures) (c .before .before .if2 .left)) _ (c .before .canonical2 .ensures) _ (c .onto-before2 .ensures)
+returns-3 c = rotation-other (c .before .before .before .before .before .before .before .before .before .before .before .before .before .before .before .args .list .now) (c .before .before .before .before .before .before .before .before .before .before .before .before .before .before .before .args .n) (c .before .before .before .before .before .before .before .before .before .before .before .before .before .before .before .args .inner) (c .before .before .before .before .before .before .before .before .before .before .before .before .before .before .before .args .other) (c .before .before .before .before .before .before .before .before .before .before .before .before .before .before .before .pre .0) (c .before .before .before .before .before .before .before .before .before .before .before .before .before .before .before .args .fan .now) _ (c .before .before .before .before .before .before .before .before .before .before .before .node-at .ensures) (Asked.operation (c .before .before .before .before .before .before .before .before .before .before .before .before .before .before .before .args .op)) (c .before .before .before .before .before .before .before .before .before .before .before .before .before .before .before .args .i) (told (c .before .before .before .before .before .before .before .before .before .rotates .ensures) (not-false _ (c .before .before .before .before .before .before .before .before .if1 .left))) _ _ (c .before .before .before .before .before .before .before .first-of .ensures) (c .before .before .before .before .before .before .second-of .ensures) _ (c .before .before .before .before .before .canonical .ensures) _ (c .before .before .before .before .onto-before .ensures) (told (c .before .before .before .is-onto .ensures) (c .before .before .if2 .left)) _ (c .before .canonical2 .ensures) _ (c .onto-before2 .ensures)
 
 pub existing-rotation-spec : {M : Type 1} → statement M
 existing-rotation-spec =

@@ -1,5 +1,5 @@
-use Rattle.normalize.specs.CallLaws.{running-begins, copied-list, finished}
 use mathlib.Core.Path.{_∙_}
+use Rattle.normalize.specs.CallLaws.{running-begins, copied-list, finished}
 use borrow.Author.Needs.{needs}
 use Rattle.normalize.proofs.normalize_ready.Statement.{statement}
 use Rattle.normalize.proofs.normalize_ready.Tie as tie
@@ -10,8 +10,8 @@ mul-copy-words c = search needs
 copy-words-requires : tie.Need-copy-words-requires
 copy-words-requires c κs = search needs
 
-normalize-rounds-requires : tie.Need-normalize-rounds-requires
-normalize-rounds-requires c κs = (rw (c .before .before .before .before .copy-words .kept .1 .1 .0) (c .before .before .before .before .before .before .before .before .before .pre), running-begins (c .before .before .before .before .before .before .before .before .before .args .list .now) (c .before .before .before .before .before .before .before .before .before .args .n) (c .before .before .before .before .before .before .before .before .before .args .root) (c .before .before .before .before .before .before .before .before .before .args .result .now) _ (c .before .before .before .before .before .before .before .before .before .pre .sound) (c .before .before .before .before .before .before .before .before .before .pre .inside) (c .before .before .before .before .copy-words .ensures ∙ copied-list (c .before .before .before .before .before .before .before .before .before .args .list .now) (c .before .before .before .before .before .before .before .before .before .args .result .now) (c .before .before .before .before .before .before .before .before .before .args .n) (c .before .before .before .before .before .before .before .before .before .pre .sound)))
+rounds-of-requires : tie.Need-rounds-of-requires
+rounds-of-requires c κs = (rw (c .before .before .before .before .copy-words .kept .1 .1 .0) (c .before .before .before .before .before .before .before .before .before .pre), running-begins (c .before .before .before .before .before .before .before .before .before .args .list .now) (c .before .before .before .before .before .before .before .before .before .args .n) (c .before .before .before .before .before .before .before .before .before .args .root) (c .before .before .before .before .before .before .before .before .before .args .result .now) _ (c .before .before .before .before .before .before .before .before .before .pre .sound) (c .before .before .before .before .before .before .before .before .before .pre .inside) ((c .before .before .before .before .copy-words .ensures) ∙ copied-list (c .before .before .before .before .before .before .before .before .before .args .list .now) (c .before .before .before .before .before .before .before .before .before .args .result .now) (c .before .before .before .before .before .before .before .before .before .args .n) (c .before .before .before .before .before .before .before .before .before .pre .sound)))
 
 mul-blank-from : tie.Need-mul-blank-from
 mul-blank-from c = search needs
@@ -29,7 +29,7 @@ same-length-2 : tie.Need-same-length-2
 same-length-2 c = search needs
 
 returns : tie.Need-returns
-returns c = finished (c .before .before .before .before .before .before .before .before .before .before .before .before .before .before .before .before .before .before .before .before .before .before .before .args .list .now) (c .before .before .before .before .before .before .before .before .before .before .before .before .before .before .before .before .before .before .before .before .before .before .before .args .n) (c .before .before .before .before .before .before .before .before .before .before .before .before .before .before .before .before .before .before .before .before .before .before .before .args .root) (c .before .before .before .before .before .before .before .before .before .before .before .before .before .before .before .before .before .before .before .before .before .before .before .args .result .now) (c .before .before .before .before .before .before .before .before .before .before .before .before .before .before .before .before .before .before .before .before .before .before .before .args .work .now) _ _ (c .before .before .before .before .before .before .before .before .before .before .before .before .before .normalize-rounds .ensures) (c .before .before .before .before .before .before .before .before .before .before .before .before .before .normalize-rounds .kept .1 .1 .1 .0 ∙ c .before .before .before .before .before .before .before .before .before .before .before .before .before .before .before .before .before .before .copy-words .kept .1 .1 .0) _ (c .before .before .before .before .before .before .before .before .before .before .before .before .before .normalize-rounds .last .1 .1 .1 .1 .0) _ (c .before .before .before .before .before .before .blank-from .ensures) (c .before .before .before .before .before .before .before .before .before .before .before .before .before .normalize-rounds .kept .1 .1 .1 .1 .0) (c .before .before .blank-from2 .ensures)
+returns c = finished (c .before .before .before .before .before .before .before .before .before .before .before .before .before .before .before .before .before .before .before .before .before .before .before .args .list .now) (c .before .before .before .before .before .before .before .before .before .before .before .before .before .before .before .before .before .before .before .before .before .before .before .args .n) (c .before .before .before .before .before .before .before .before .before .before .before .before .before .before .before .before .before .before .before .before .before .before .before .args .root) (c .before .before .before .before .before .before .before .before .before .before .before .before .before .before .before .before .before .before .before .before .before .before .before .args .result .now) (c .before .before .before .before .before .before .before .before .before .before .before .before .before .before .before .before .before .before .before .before .before .before .before .args .work .now) _ _ (c .before .before .before .before .before .before .before .before .before .before .before .before .before .rounds-of .ensures) ((c .before .before .before .before .before .before .before .before .before .before .before .before .before .rounds-of .kept .1 .1 .1 .0) ∙ (c .before .before .before .before .before .before .before .before .before .before .before .before .before .before .before .before .before .before .copy-words .kept .1 .1 .0)) _ (c .before .before .before .before .before .before .before .before .before .before .before .before .before .rounds-of .last .1 .1 .1 .1 .0) _ (c .before .before .before .before .before .before .blank-from .ensures) (c .before .before .before .before .before .before .before .before .before .before .before .before .before .rounds-of .kept .1 .1 .1 .1 .0) (c .before .before .blank-from2 .ensures)
 
 pub normalize-ready-spec : {M : Type 1} → statement M
 normalize-ready-spec =
@@ -37,7 +37,7 @@ normalize-ready-spec =
     (tie.spec
     mul-copy-words
     copy-words-requires
-    normalize-rounds-requires
+    rounds-of-requires
     mul-blank-from
     blank-from-requires
     blank-from-requires-2

@@ -1,40 +1,53 @@
-use Rattle.normalize.specs.CallLaws.{Running, running-ready, running-on, fewer, ended}
-use lib.ListN.{length}
-use borrow.Author.Tests.{not-true, not-false}
-use native.Mathlib.Omega.{arith}
 use mathlib.Core.Path.{_≡_, refl, _∙_}
+use native.Mathlib.Omega.{arith}
+use borrow.Author.Tests.{not-true, not-false}
+use lib.ListN.{length}
+use Rattle.normalize.specs.OnceLaws.{scratch-fewer}
+use Rattle.normalize.specs.CallLaws.{Running, running-ready, running-on, fewer, ended}
 use Rattle.normalize.proofs.normalize_rounds.Statement.{statement}
 use Rattle.normalize.proofs.normalize_rounds.Tie as tie
 
 abbrev Inv-loop : tie.InvT-loop
-Inv-loop list n root result₀ work₀ count₀ place₀ rounds₀ result work count place rounds = (length result ≡ length result₀) × (length work ≡ length work₀) × Running list n root result count place rounds
+Inv-loop list n root result₀ work₀ fan₀ map₀ own₀ links₀ count₀ place₀ rounds₀ result work fan map own links count place rounds = (length result ≡ length result₀) × (length work ≡ length work₀) × Running list n root result count place rounds × (length fan ≡ length fan₀) × (length map ≡ length map₀) × (length own ≡ length own₀) × (length links ≡ length links₀)
 
 abbrev μ-loop : tie.MeasureT-loop
-μ-loop list n root result₀ work₀ count₀ place₀ rounds₀ result work count place rounds = count
+μ-loop list n root result₀ work₀ fan₀ map₀ own₀ links₀ count₀ place₀ rounds₀ result work fan map own links count place rounds = count
 
 loop-holds : tie.Need-loop-holds Inv-loop μ-loop
-loop-holds c = (refl, refl, c .before .before .before .pre .1)
+loop-holds c = (refl, refl, (c .before .before .before .before .before .before .before .pre .1), refl, refl, refl, refl)
 
 normalize-once-requires : tie.Need-normalize-once-requires Inv-loop μ-loop
-normalize-once-requires c κs = (running-ready (c .before .before .before .before .before .before .args .list .now) (c .before .before .before .before .before .before .args .n) (c .before .before .before .before .before .before .args .root) (c .before .before .loop .result) (c .before .before .loop .count) (c .before .before .loop .place) (c .before .before .loop .rounds) (c .before .before .loop .inv .2) _ (c .before .before .before .before .before .before .pre .0 .few) (omega (arith, c .before .before .before .before .before .before .pre .0 .work-room, c .before .before .loop .inv .1)), let a = c .before .before .loop .inv .2 .lost in omega (arith, a, c .before .before .before .before .before .before .pre .0 .result-room, c .before .before .loop .inv .0))
+normalize-once-requires c κs = let a = (c .before .before .before .before .before .before .loop .inv .2 .lost) in (running-ready (c .before .before .before .before .before .before .before .before .before .before .before .before .before .before .args .list .now) (c .before .before .before .before .before .before .before .before .before .before .before .before .before .before .args .n) (c .before .before .before .before .before .before .before .before .before .before .before .before .before .before .args .root) (c .before .before .before .before .before .before .loop .result) (c .before .before .before .before .before .before .loop .count) (c .before .before .before .before .before .before .loop .place) (c .before .before .before .before .before .before .loop .rounds) (c .before .before .before .before .before .before .loop .inv .2) _ (c .before .before .before .before .before .before .before .before .before .before .before .before .before .before .pre .0 .few) (omega (arith, (c .before .before .before .before .before .before .before .before .before .before .before .before .before .before .pre .0 .work-room), (c .before .before .before .before .before .before .loop .inv .1))), omega (arith, a, (c .before .before .before .before .before .before .before .before .before .before .before .before .before .before .pre .0 .result-room), (c .before .before .before .before .before .before .loop .inv .0)), scratch-fewer (c .before .before .before .before .before .before .before .before .before .before .before .before .before .before .args .n) (c .before .before .before .before .before .before .loop .count) (c .before .before .before .before .before .before .before .before .before .before .before .before .before .before .pre .2) (omega arith) (c .before .before .before .before .before .before .loop .inv .3) (c .before .before .before .before .before .before .loop .inv .4) (c .before .before .before .before .before .before .loop .inv .5) (c .before .before .before .before .before .before .loop .inv .6))
 
 same-length : tie.Need-same-length Inv-loop μ-loop
-same-length c = c .before .before .before .before .before .before .normalize-once .kept .0 ∙ c .before .before .before .before .before .before .before .before .before .loop .inv .0
+same-length c = (c .before .before .before .before .before .before .before .before .before .before .before .before .before .before .normalize-once .kept .0) ∙ (c .before .before .before .before .before .before .before .before .before .before .before .before .before .before .before .before .before .before .before .before .before .loop .inv .0)
 
 same-length-2 : tie.Need-same-length-2 Inv-loop μ-loop
-same-length-2 c = c .before .before .before .before .before .before .normalize-once .kept .1 .1 .1 .0 ∙ c .before .before .before .before .before .before .before .before .before .loop .inv .1
+same-length-2 c = (c .before .before .before .before .before .before .before .before .before .before .before .before .before .before .normalize-once .kept .1 .1 .1 .0) ∙ (c .before .before .before .before .before .before .before .before .before .before .before .before .before .before .before .before .before .before .before .before .before .loop .inv .1)
+
+same-length-3 : tie.Need-same-length-3 Inv-loop μ-loop
+same-length-3 c = (c .before .before .before .before .before .before .before .before .before .before .before .before .before .before .normalize-once .kept .1 .1 .1 .1 .0) ∙ (c .before .before .before .before .before .before .before .before .before .before .before .before .before .before .before .before .before .before .before .before .before .loop .inv .3)
+
+same-length-4 : tie.Need-same-length-4 Inv-loop μ-loop
+same-length-4 c = (c .before .before .before .before .before .before .before .before .before .before .before .before .before .before .normalize-once .kept .1 .1 .1 .1 .1 .0) ∙ (c .before .before .before .before .before .before .before .before .before .before .before .before .before .before .before .before .before .before .before .before .before .loop .inv .4)
+
+same-length-5 : tie.Need-same-length-5 Inv-loop μ-loop
+same-length-5 c = (c .before .before .before .before .before .before .before .before .before .before .before .before .before .before .normalize-once .kept .1 .1 .1 .1 .1 .1 .0) ∙ (c .before .before .before .before .before .before .before .before .before .before .before .before .before .before .before .before .before .before .before .before .before .loop .inv .5)
+
+same-length-6 : tie.Need-same-length-6 Inv-loop μ-loop
+same-length-6 c = (c .before .before .before .before .before .before .before .before .before .before .before .before .before .before .normalize-once .kept .1 .1 .1 .1 .1 .1 .1 .0) ∙ (c .before .before .before .before .before .before .before .before .before .before .before .before .before .before .before .before .before .before .before .before .before .loop .inv .6)
 
 returns : tie.Need-returns Inv-loop μ-loop
-returns c = ended (c .before .before .before .before .before .before .before .before .before .before .before .before .before .args .list .now) (c .before .before .before .before .before .before .before .before .before .before .before .before .before .args .n) (c .before .before .before .before .before .before .before .before .before .before .before .before .before .args .root) (c .before .before .before .before .before .before .before .before .before .loop .result) (c .before .before .before .before .before .before .before .before .before .loop .count) (c .before .before .before .before .before .before .before .before .before .loop .place) (c .before .before .before .before .before .before .before .before .before .loop .rounds) (c .before .before .before .before .before .before .before .before .before .loop .inv .2) _ _ (c .before .before .before .before .before .before .normalize-once .ensures) (not-true _ (c .if1 .taken))
+returns c = ended (c .before .before .before .before .before .before .before .before .before .before .before .before .before .before .before .before .before .before .before .before .before .before .before .before .before .before .before .before .before .args .list .now) (c .before .before .before .before .before .before .before .before .before .before .before .before .before .before .before .before .before .before .before .before .before .before .before .before .before .before .before .before .before .args .n) (c .before .before .before .before .before .before .before .before .before .before .before .before .before .before .before .before .before .before .before .before .before .before .before .before .before .before .before .before .before .args .root) (c .before .before .before .before .before .before .before .before .before .before .before .before .before .before .before .before .before .before .before .before .before .loop .result) (c .before .before .before .before .before .before .before .before .before .before .before .before .before .before .before .before .before .before .before .before .before .loop .count) (c .before .before .before .before .before .before .before .before .before .before .before .before .before .before .before .before .before .before .before .before .before .loop .place) (c .before .before .before .before .before .before .before .before .before .before .before .before .before .before .before .before .before .before .before .before .before .loop .rounds) (c .before .before .before .before .before .before .before .before .before .before .before .before .before .before .before .before .before .before .before .before .before .loop .inv .2) _ _ (c .before .before .before .before .before .before .before .before .before .before .before .before .before .before .normalize-once .ensures) (not-true _ (c .if1 .taken))
 
 add-rounds : tie.Need-add-rounds Inv-loop μ-loop
-add-rounds c = let a = c .before .before .before .before .before .before .before .before .before .loop .inv .2 .lost in omega (arith, a, c .before .before .before .before .before .before .before .before .before .before .before .before .before .pre .0 .few)
+add-rounds c = let a = (c .before .before .before .before .before .before .before .before .before .before .before .before .before .before .before .before .before .before .before .before .before .loop .inv .2 .lost) in omega (arith, a, (c .before .before .before .before .before .before .before .before .before .before .before .before .before .before .before .before .before .before .before .before .before .before .before .before .before .before .before .before .before .pre .0 .few))
 
 loop-less : tie.Need-loop-less Inv-loop μ-loop
-loop-less c = fewer (c .before .before .before .before .before .before .before .before .before .before .before .before .before .args .list .now) (c .before .before .before .before .before .before .before .before .before .before .before .before .before .args .n) (c .before .before .before .before .before .before .before .before .before .before .before .before .before .args .root) (c .before .before .before .before .before .before .before .before .before .loop .result) (c .before .before .before .before .before .before .before .before .before .loop .count) (c .before .before .before .before .before .before .before .before .before .loop .place) (c .before .before .before .before .before .before .before .before .before .loop .rounds) (c .before .before .before .before .before .before .before .before .before .loop .inv .2) _ _ (c .before .before .before .before .before .before .normalize-once .ensures) (not-false _ (c .if1 .left))
+loop-less c = fewer (c .before .before .before .before .before .before .before .before .before .before .before .before .before .before .before .before .before .before .before .before .before .before .before .before .before .before .before .before .before .args .list .now) (c .before .before .before .before .before .before .before .before .before .before .before .before .before .before .before .before .before .before .before .before .before .before .before .before .before .before .before .before .before .args .n) (c .before .before .before .before .before .before .before .before .before .before .before .before .before .before .before .before .before .before .before .before .before .before .before .before .before .before .before .before .before .args .root) (c .before .before .before .before .before .before .before .before .before .before .before .before .before .before .before .before .before .before .before .before .before .loop .result) (c .before .before .before .before .before .before .before .before .before .before .before .before .before .before .before .before .before .before .before .before .before .loop .count) (c .before .before .before .before .before .before .before .before .before .before .before .before .before .before .before .before .before .before .before .before .before .loop .place) (c .before .before .before .before .before .before .before .before .before .before .before .before .before .before .before .before .before .before .before .before .before .loop .rounds) (c .before .before .before .before .before .before .before .before .before .before .before .before .before .before .before .before .before .before .before .before .before .loop .inv .2) _ _ (c .before .before .before .before .before .before .before .before .before .before .before .before .before .before .normalize-once .ensures) (not-false _ (c .if1 .left))
 
 loop-again : tie.Need-loop-again Inv-loop μ-loop
-loop-again c = (c .before .before .before .before .before .before .normalize-once .kept .0 ∙ c .before .before .before .before .before .before .before .before .before .loop .inv .0, c .before .before .before .before .before .before .normalize-once .kept .1 .1 .1 .0 ∙ c .before .before .before .before .before .before .before .before .before .loop .inv .1, running-on (c .before .before .before .before .before .before .before .before .before .before .before .before .before .args .list .now) (c .before .before .before .before .before .before .before .before .before .before .before .before .before .args .n) (c .before .before .before .before .before .before .before .before .before .before .before .before .before .args .root) (c .before .before .before .before .before .before .before .before .before .loop .result) (c .before .before .before .before .before .before .before .before .before .loop .count) (c .before .before .before .before .before .before .before .before .before .loop .place) (c .before .before .before .before .before .before .before .before .before .loop .rounds) (c .before .before .before .before .before .before .before .before .before .loop .inv .2) _ _ (c .before .before .before .before .before .before .normalize-once .ensures) (not-false _ (c .if1 .left)))
+loop-again c = ((c .before .before .before .before .before .before .before .before .before .before .before .before .before .before .normalize-once .kept .0) ∙ (c .before .before .before .before .before .before .before .before .before .before .before .before .before .before .before .before .before .before .before .before .before .loop .inv .0), (c .before .before .before .before .before .before .before .before .before .before .before .before .before .before .normalize-once .kept .1 .1 .1 .0) ∙ (c .before .before .before .before .before .before .before .before .before .before .before .before .before .before .before .before .before .before .before .before .before .loop .inv .1), running-on (c .before .before .before .before .before .before .before .before .before .before .before .before .before .before .before .before .before .before .before .before .before .before .before .before .before .before .before .before .before .args .list .now) (c .before .before .before .before .before .before .before .before .before .before .before .before .before .before .before .before .before .before .before .before .before .before .before .before .before .before .before .before .before .args .n) (c .before .before .before .before .before .before .before .before .before .before .before .before .before .before .before .before .before .before .before .before .before .before .before .before .before .before .before .before .before .args .root) (c .before .before .before .before .before .before .before .before .before .before .before .before .before .before .before .before .before .before .before .before .before .loop .result) (c .before .before .before .before .before .before .before .before .before .before .before .before .before .before .before .before .before .before .before .before .before .loop .count) (c .before .before .before .before .before .before .before .before .before .before .before .before .before .before .before .before .before .before .before .before .before .loop .place) (c .before .before .before .before .before .before .before .before .before .before .before .before .before .before .before .before .before .before .before .before .before .loop .rounds) (c .before .before .before .before .before .before .before .before .before .before .before .before .before .before .before .before .before .before .before .before .before .loop .inv .2) _ _ (c .before .before .before .before .before .before .before .before .before .before .before .before .before .before .normalize-once .ensures) (not-false _ (c .if1 .left)), (c .before .before .before .before .before .before .before .before .before .before .before .before .before .before .normalize-once .kept .1 .1 .1 .1 .0) ∙ (c .before .before .before .before .before .before .before .before .before .before .before .before .before .before .before .before .before .before .before .before .before .loop .inv .3), (c .before .before .before .before .before .before .before .before .before .before .before .before .before .before .normalize-once .kept .1 .1 .1 .1 .1 .0) ∙ (c .before .before .before .before .before .before .before .before .before .before .before .before .before .before .before .before .before .before .before .before .before .loop .inv .4), (c .before .before .before .before .before .before .before .before .before .before .before .before .before .before .normalize-once .kept .1 .1 .1 .1 .1 .1 .0) ∙ (c .before .before .before .before .before .before .before .before .before .before .before .before .before .before .before .before .before .before .before .before .before .loop .inv .5), (c .before .before .before .before .before .before .before .before .before .before .before .before .before .before .normalize-once .kept .1 .1 .1 .1 .1 .1 .1 .0) ∙ (c .before .before .before .before .before .before .before .before .before .before .before .before .before .before .before .before .before .before .before .before .before .loop .inv .6))
 
 pub normalize-rounds-spec : {M : Type 1} → statement M
 normalize-rounds-spec =
@@ -46,6 +59,10 @@ normalize-rounds-spec =
     normalize-once-requires
     same-length
     same-length-2
+    same-length-3
+    same-length-4
+    same-length-5
+    same-length-6
     returns
     add-rounds
     loop-less

@@ -1,3 +1,5 @@
+use Rattle.index.specs.Index.{NodeIndex}
+use Rattle.dag.specs.Nodes as Nodes
 use Rattle.normalize.specs.TurnLaws as Turn
 use Rattle.dag.specs.NodeLaws.{at-nodes}
 use lib.ListN.{length, length-set}
@@ -9,22 +11,28 @@ use Rattle.normalize.proofs.round.Statement.{statement}
 use Rattle.normalize.proofs.round.Tie as tie
 
 abbrev Inv-loop : tie.InvT-loop
-Inv-loop list n fan work₀ map₀ count₀ fired₀ i₀ work map count fired i = (i ≤ n) × (length work ≡ length work₀) × (length map ≡ length map₀) × Turn.RoundHeld list n fan i work map count fired
+Inv-loop list n own fan work₀ links₀ map₀ count₀ fired₀ i₀ work links map count fired i = (i ≤ n) × (length work ≡ length work₀) × (length map ≡ length map₀) × Turn.RoundHeld list n fan i work map count fired × (length links ≡ length links₀) × NodeIndex (Nodes.nodes work count) links
 
 abbrev μ-loop : tie.MeasureT-loop
-μ-loop list n fan work₀ map₀ count₀ fired₀ i₀ work map count fired i = n - i
+μ-loop list n own fan work₀ links₀ map₀ count₀ fired₀ i₀ work links map count fired i = n - i
+
+clear-requires : tie.Need-clear-requires Inv-loop μ-loop
+clear-requires c κs = (c .before .before .before .before .before .before .before .pre .2)
 
 loop-holds : tie.Need-loop-holds Inv-loop μ-loop
-loop-holds c = (omega arith, refl, refl, Turn.round-begins _ _ _ _ _)
+unfolding Nodes.nodes
+loop-holds c = (omega arith, refl, refl, Turn.round-begins _ _ _ _ _, refl, (c .before .before .clear .ensures))
 
 node-at-requires : tie.Need-node-at-requires Inv-loop μ-loop
-node-at-requires c κs = omega (arith, c .before .before .before .before .before .before .pre .sound .room, c .loop-test .taken)
+node-at-requires c κs = omega (arith, (c .before .before .before .before .before .before .before .before .before .before .before .before .pre .0 .sound .room), (c .loop-test .taken))
 
 plan-of-requires : tie.Need-plan-of-requires Inv-loop μ-loop
-plan-of-requires c κs = Turn.turn-planning (c .before .before .before .before .before .before .before .args .list .now) (c .before .before .before .before .before .before .before .args .n) (c .before .before .before .before .before .before .before .args .fan .now) (c .before .before .before .before .before .before .before .args .work .now) (c .before .before .before .before .before .before .before .args .map .now) (c .before .before .before .before .before .before .before .pre) (c .before .before .loop .i) (c .before .before .loop .work) (c .before .before .loop .map) (c .before .before .loop .count) (c .before .before .loop .fired) (c .before .before .loop .inv .1) (c .before .before .loop .inv .2) (c .before .before .loop .inv .3) (c .before .loop-test .taken) _ (c .node-at .ensures ∙ sym (at-nodes _ _ _ (c .before .loop-test .taken)))
+plan-of-requires c κs = (Turn.turn-planning (c .before .before .before .before .before .before .before .before .before .before .before .before .before .args .list .now) (c .before .before .before .before .before .before .before .before .before .before .before .before .before .args .n) (c .before .before .before .before .before .before .before .before .before .before .before .before .before .args .fan .now) (c .before .before .before .before .before .before .before .before .before .before .before .before .before .args .work .now) (c .before .before .before .before .before .before .before .before .before .before .before .before .before .args .map .now) (c .before .before .before .before .before .before .before .before .before .before .before .before .before .pre .0) (c .before .before .loop .i) (c .before .before .loop .work) (c .before .before .loop .map) (c .before .before .loop .count) (c .before .before .loop .fired) (c .before .before .loop .inv .1) (c .before .before .loop .inv .2) (c .before .before .loop .inv .3) (c .before .loop-test .taken) _ ((c .node-at .ensures) ∙ sym (at-nodes _ _ _ (c .before .loop-test .taken))), (c .before .before .before .before .before .before .before .before .before .before .before .before .before .pre .1))
 
 enter-planned-requires : tie.Need-enter-planned-requires Inv-loop μ-loop
-enter-planned-requires c κs = (c .before .before .before .before .before .loop .i, Turn.turn-entering (c .before .before .before .before .before .before .before .before .before .before .args .list .now) (c .before .before .before .before .before .before .before .before .before .before .args .n) (c .before .before .before .before .before .before .before .before .before .before .args .fan .now) (c .before .before .before .before .before .before .before .before .before .before .args .work .now) (c .before .before .before .before .before .before .before .before .before .before .args .map .now) (c .before .before .before .before .before .before .before .before .before .before .pre) (c .before .before .before .before .before .loop .i) (c .before .before .before .before .before .loop .work) (c .before .before .before .before .before .loop .map) (c .before .before .before .before .before .loop .count) (c .before .before .before .before .before .loop .fired) (c .before .before .before .before .before .loop .inv .1) (c .before .before .before .before .before .loop .inv .2) (c .before .before .before .before .before .loop .inv .3) (c .before .before .before .before .loop-test .taken) _ (c .before .before .before .node-at .ensures ∙ sym (at-nodes _ _ _ (c .before .before .before .before .loop-test .taken))) _ (c .before .before .plan-of .ensures))
+enter-planned-requires c κs =
+    let h = Turn.round-count (c .before .before .before .before .before .before .before .before .before .before .before .before .before .before .before .before .before .args .list .now) (c .before .before .before .before .before .before .before .before .before .before .before .before .before .before .before .before .before .args .n) (c .before .before .before .before .before .before .before .before .before .before .before .before .before .before .before .before .before .args .fan .now) (c .before .before .before .before .before .before .before .before .before .before .before .before .before .before .before .before .before .args .work .now) (c .before .before .before .before .before .before .before .before .before .before .before .before .before .before .before .before .before .args .map .now) (c .before .before .before .before .before .before .before .before .before .before .before .before .before .before .before .before .before .pre .0) (c .before .before .before .before .before .before .loop .i) (c .before .before .before .before .before .before .loop .work) (c .before .before .before .before .before .before .loop .map) (c .before .before .before .before .before .before .loop .count) (c .before .before .before .before .before .before .loop .fired) (c .before .before .before .before .before .before .loop .inv .1) (c .before .before .before .before .before .before .loop .inv .2) (c .before .before .before .before .before .before .loop .inv .3) in
+    (((c .before .before .before .before .before .before .loop .i), Turn.turn-entering (c .before .before .before .before .before .before .before .before .before .before .before .before .before .before .before .before .before .args .list .now) (c .before .before .before .before .before .before .before .before .before .before .before .before .before .before .before .before .before .args .n) (c .before .before .before .before .before .before .before .before .before .before .before .before .before .before .before .before .before .args .fan .now) (c .before .before .before .before .before .before .before .before .before .before .before .before .before .before .before .before .before .args .work .now) (c .before .before .before .before .before .before .before .before .before .before .before .before .before .before .before .before .before .args .map .now) (c .before .before .before .before .before .before .before .before .before .before .before .before .before .before .before .before .before .pre .0) (c .before .before .before .before .before .before .loop .i) (c .before .before .before .before .before .before .loop .work) (c .before .before .before .before .before .before .loop .map) (c .before .before .before .before .before .before .loop .count) (c .before .before .before .before .before .before .loop .fired) (c .before .before .before .before .before .before .loop .inv .1) (c .before .before .before .before .before .before .loop .inv .2) (c .before .before .before .before .before .before .loop .inv .3) (c .before .before .before .before .before .loop-test .taken) _ ((c .before .before .before .before .node-at .ensures) ∙ sym (at-nodes _ _ _ (c .before .before .before .before .before .loop-test .taken))) _ (c .before .before .before .plan-of .ensures)), record { index = (c .before .before .before .before .before .before .loop .inv .5); room = rw ((c .before .before .before .before .before .before .loop .inv .4), (c .before .before .before .before .before .before .before .before .before .clear .kept .0)) (omega (arith, h, (c .before .before .before .before .before .before .before .before .before .before .before .before .before .before .before .before .before .pre .3), (c .before .before .before .before .before .loop-test .taken))) })
 
 fires-requires : tie.Need-fires-requires Inv-loop μ-loop
 fires-requires c κs = tt
@@ -33,25 +41,28 @@ either-requires : tie.Need-either-requires Inv-loop μ-loop
 either-requires c κs = tt
 
 mul-map : tie.Need-mul-map Inv-loop μ-loop
-mul-map c = omega (arith, c .before .before .before .before .before .before .before .before .before .before .before .before .before .before .before .pre .few, c .before .before .before .before .before .before .before .before .before .loop-test .taken)
+mul-map c = omega (arith, (c .before .before .before .before .before .before .before .before .before .before .before .before .before .before .before .before .before .before .before .before .before .before .before .before .pre .0 .few), (c .before .before .before .before .before .before .before .before .before .before .before .before .loop-test .taken))
 
 slice-write-map : tie.Need-slice-write-map Inv-loop μ-loop
-slice-write-map c = omega (arith, c .before .before .before .before .before .before .before .before .before .before .before .before .before .before .before .pre .map-fits, c .before .before .before .before .before .before .before .before .before .loop-test .taken, c .before .before .before .before .before .before .before .before .before .before .loop .inv .2)
+slice-write-map c = omega (arith, (c .before .before .before .before .before .before .before .before .before .before .before .before .before .before .before .before .before .before .before .before .before .before .before .before .pre .0 .map-fits), (c .before .before .before .before .before .before .before .before .before .before .before .before .loop-test .taken), (c .before .before .before .before .before .before .before .before .before .before .before .before .before .loop .inv .2))
 
 add-i : tie.Need-add-i Inv-loop μ-loop
-add-i c = omega (arith, c .before .before .before .before .before .before .before .before .before .before .before .before .before .before .before .pre .few, c .before .before .before .before .before .before .before .before .before .loop-test .taken)
+add-i c = omega (arith, (c .before .before .before .before .before .before .before .before .before .before .before .before .before .before .before .before .before .before .before .before .before .before .before .before .pre .0 .few), (c .before .before .before .before .before .before .before .before .before .before .before .before .loop-test .taken))
 
 loop-less : tie.Need-loop-less Inv-loop μ-loop
-loop-less c = omega (arith, c .before .before .before .before .before .before .before .before .before .loop-test .taken)
+loop-less c = omega (arith, (c .before .before .before .before .before .before .before .before .before .before .before .before .loop-test .taken))
 
 loop-again : tie.Need-loop-again Inv-loop μ-loop
-loop-again c = (omega (arith, c .before .before .before .before .before .before .before .before .before .loop-test .taken), c .before .before .before .before .enter-planned .kept .0 ∙ c .before .before .before .before .before .before .before .before .before .before .loop .inv .1, simp length-set (c .before .before .before .before .before .before .before .before .before .before .loop .inv .2), Turn.turn-held (c .before .before .before .before .before .before .before .before .before .before .before .before .before .before .before .args .list .now) (c .before .before .before .before .before .before .before .before .before .before .before .before .before .before .before .args .n) (c .before .before .before .before .before .before .before .before .before .before .before .before .before .before .before .args .fan .now) (c .before .before .before .before .before .before .before .before .before .before .before .before .before .before .before .args .work .now) (c .before .before .before .before .before .before .before .before .before .before .before .before .before .before .before .args .map .now) (c .before .before .before .before .before .before .before .before .before .before .before .before .before .before .before .pre) (c .before .before .before .before .before .before .before .before .before .before .loop .i) (c .before .before .before .before .before .before .before .before .before .before .loop .work) (c .before .before .before .before .before .before .before .before .before .before .loop .map) (c .before .before .before .before .before .before .before .before .before .before .loop .count) (c .before .before .before .before .before .before .before .before .before .before .loop .fired) (c .before .before .before .before .before .before .before .before .before .before .loop .inv .1) (c .before .before .before .before .before .before .before .before .before .before .loop .inv .2) (c .before .before .before .before .before .before .before .before .before .before .loop .inv .3) (c .before .before .before .before .before .before .before .before .before .loop-test .taken) _ (c .before .before .before .before .before .before .before .before .node-at .ensures ∙ sym (at-nodes _ _ _ (c .before .before .before .before .before .before .before .before .before .loop-test .taken))) _ (c .before .before .before .before .before .before .before .plan-of .ensures) _ _ _ (c .before .before .before .before .enter-planned .ensures) (rw (c .before .fires .ensures) at (c .either .ensures)))
+loop-again c = (omega (arith, (c .before .before .before .before .before .before .before .before .before .before .before .before .loop-test .taken)), (c .before .before .before .before .before .before .enter-planned .kept .0) ∙ (c .before .before .before .before .before .before .before .before .before .before .before .before .before .loop .inv .1), simp length-set (c .before .before .before .before .before .before .before .before .before .before .before .before .before .loop .inv .2), Turn.turn-held (c .before .before .before .before .before .before .before .before .before .before .before .before .before .before .before .before .before .before .before .before .before .before .before .before .args .list .now) (c .before .before .before .before .before .before .before .before .before .before .before .before .before .before .before .before .before .before .before .before .before .before .before .before .args .n) (c .before .before .before .before .before .before .before .before .before .before .before .before .before .before .before .before .before .before .before .before .before .before .before .before .args .fan .now) (c .before .before .before .before .before .before .before .before .before .before .before .before .before .before .before .before .before .before .before .before .before .before .before .before .args .work .now) (c .before .before .before .before .before .before .before .before .before .before .before .before .before .before .before .before .before .before .before .before .before .before .before .before .args .map .now) (c .before .before .before .before .before .before .before .before .before .before .before .before .before .before .before .before .before .before .before .before .before .before .before .before .pre .0) (c .before .before .before .before .before .before .before .before .before .before .before .before .before .loop .i) (c .before .before .before .before .before .before .before .before .before .before .before .before .before .loop .work) (c .before .before .before .before .before .before .before .before .before .before .before .before .before .loop .map) (c .before .before .before .before .before .before .before .before .before .before .before .before .before .loop .count) (c .before .before .before .before .before .before .before .before .before .before .before .before .before .loop .fired) (c .before .before .before .before .before .before .before .before .before .before .before .before .before .loop .inv .1) (c .before .before .before .before .before .before .before .before .before .before .before .before .before .loop .inv .2) (c .before .before .before .before .before .before .before .before .before .before .before .before .before .loop .inv .3) (c .before .before .before .before .before .before .before .before .before .before .before .before .loop-test .taken) _ ((c .before .before .before .before .before .before .before .before .before .before .before .node-at .ensures) ∙ sym (at-nodes _ _ _ (c .before .before .before .before .before .before .before .before .before .before .before .before .loop-test .taken))) _ (c .before .before .before .before .before .before .before .before .before .before .plan-of .ensures) _ _ _ (c .before .before .before .before .before .before .enter-planned .ensures .0) (rw (c .before .fires .ensures) at (c .either .ensures)), (c .before .before .before .before .before .before .enter-planned .kept .1 .1 .0) ∙ (c .before .before .before .before .before .before .before .before .before .before .before .before .before .loop .inv .4), (c .before .before .before .before .before .before .enter-planned .ensures .1))
 
 same-length : tie.Need-same-length Inv-loop μ-loop
-same-length c = c .before .loop .inv .1
+same-length c = (c .before .loop .inv .1)
 
 same-length-2 : tie.Need-same-length-2 Inv-loop μ-loop
-same-length-2 c = c .before .loop .inv .2
+same-length-2 c = (c .before .loop .inv .4) ∙ (c .before .before .before .before .clear .kept .0)
+
+same-length-3 : tie.Need-same-length-3 Inv-loop μ-loop
+same-length-3 c = (c .before .loop .inv .2)
 
 returns : tie.Need-returns Inv-loop μ-loop
 returns c = rw (le-antisymm (c .before .loop .inv .0) (c .loop-test .left)) at (c .before .loop .inv .3)
@@ -62,6 +73,7 @@ round-spec =
     (tie.spec
     Inv-loop
     μ-loop
+    clear-requires
     loop-holds
     node-at-requires
     plan-of-requires
@@ -75,4 +87,5 @@ round-spec =
     loop-again
     same-length
     same-length-2
+    same-length-3
     returns)

@@ -1,5 +1,6 @@
+use mathlib.Core.Path.{refl, _∙_, ap}
 use native.Mathlib.Omega.{arith}
-use mathlib.Core.Path.{refl}
+use Rattle.periodic.specs.Running.{noted}
 use borrow.Author.Needs.{needs}
 use Rattle.periodic.proofs.append.Statement.{statement}
 use Rattle.periodic.proofs.append.Tie as tie
@@ -7,20 +8,25 @@ use Rattle.periodic.proofs.append.Tie as tie
 put-node-requires : tie.Need-put-node-requires
 put-node-requires c κs = search needs
 
-add-t8 : tie.Need-add-t8
-add-t8 c = search needs
+note-requires : tie.Need-note-requires
+note-requires c κs = search needs
+
+add-t10 : tie.Need-add-t10
+add-t10 c = search needs
 
 same-length : tie.Need-same-length
 same-length c = search needs
 
 returns : tie.Need-returns
-returns c = record { counts = refl; written = λ _. (c .before .before .put-node .ensures, refl); full = λ h. absurd (omega arith) }
+returns c = record { counts = refl; written = λ _. (c .before .before .note .ensures ∙ ap (λ s. noted s (c .before .before .before .before .before .before .before .before .before .before .args .n) (c .before .before .before .before .before .before .before .before .before .before .args .y)) (c .before .before .before .before .before .before .put-node .ensures), refl); full = λ h. absurd (omega (arith, c .before .before .before .before .before .before .before .before .if1 .taken)) }
 
-add-t9 : tie.Need-add-t9
-add-t9 c = search needs
+add-t11 : tie.Need-add-t11
+add-t11 c = search needs
 
 returns-2 : tie.Need-returns-2
 returns-2 c = record { counts = refl; written = λ h. absurd (omega arith); full = λ _. refl }
 
 pub append-spec : {M : Type 1} → statement M
-append-spec = tie.close (tie.spec put-node-requires add-t8 same-length returns add-t9 returns-2)
+append-spec =
+    tie.close
+    (tie.spec put-node-requires note-requires add-t10 same-length returns add-t11 returns-2)

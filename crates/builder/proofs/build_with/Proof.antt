@@ -1,0 +1,45 @@
+use Rattle.builder.specs.BuildLaws.{finished}
+use borrow.Author.Needs.{needs}
+use Rattle.builder.proofs.build_with.Statement.{statement}
+use Rattle.builder.proofs.build_with.Tie as tie
+
+replay-requires : tie.Need-replay-requires
+replay-requires c κs = search needs
+
+mul-blank-from : tie.Need-mul-blank-from
+mul-blank-from c = search needs
+
+blank-from-requires : tie.Need-blank-from-requires
+blank-from-requires c κs = search needs
+
+blank-from-requires-2 : tie.Need-blank-from-requires-2
+blank-from-requires-2 c κs = search needs
+
+mapped-requires : tie.Need-mapped-requires
+mapped-requires c κs = search needs
+
+same-length : tie.Need-same-length
+same-length c = search needs
+
+same-length-2 : tie.Need-same-length-2
+same-length-2 c = search needs
+
+same-length-3 : tie.Need-same-length-3
+same-length-3 c = search needs
+
+returns : tie.Need-returns
+returns c = finished (c .before .before .before .before .before .before .before .before .before .before .before .before .before .before .before .before .before .before .before .before .before .before .before .before .args .list .now) (c .before .before .before .before .before .before .before .before .before .before .before .before .before .before .before .before .before .before .before .before .before .before .before .before .args .n) (c .before .before .before .before .before .before .before .before .before .before .before .before .before .before .before .before .before .before .before .before .before .before .before .before .args .root) (c .before .before .before .before .before .before .before .before .before .before .before .before .before .before .before .before .before .before .before .before .before .before .before .before .args .result .now) (c .before .before .before .before .before .before .before .before .before .before .before .before .before .before .before .before .before .before .before .before .before .before .before .before .args .map .now) (c .before .before .before .before .before .before .before .before .before .before .before .before .before .before .before .before .before .before .before .before .before .before .before .before .pre .0 .sound) (c .before .before .before .before .before .before .before .before .before .before .before .before .before .before .before .before .before .before .before .before .before .before .before .before .pre .0 .inside) _ _ _ (c .before .before .before .before .before .before .before .before .before .before .before .before .before .before .before .before .replay .ensures) (c .before .before .before .before .before .before .before .before .before .before .before .before .before .before .before .before .replay .kept .1 .1 .0) (c .before .before .before .before .before .before .before .before .before .before .before .before .before .before .before .before .replay .kept .1 .1 .1 .0) (c .before .before .before .before .before .before .before .before .before .before .before .before .before .before .before .before .before .before .before .before .before .before .before .before .pre .0 .map-room) _ _ _ (c .before .before .before .before .before .before .before .before .blank-from .ensures) (c .before .before .before .before .blank-from2 .ensures) (c .mapped .ensures)
+
+pub build-with-spec : {M : Type 1} → statement M
+build-with-spec =
+    tie.close
+    (tie.spec
+    replay-requires
+    mul-blank-from
+    blank-from-requires
+    blank-from-requires-2
+    mapped-requires
+    same-length
+    same-length-2
+    same-length-3
+    returns)

@@ -1,0 +1,37 @@
+use Rattle.builder.specs.RequestLaws.{resolved-place, resolved-found}
+use borrow.Author.Needs.{needs}
+use Rattle.builder.proofs.resolve_searching.Statement.{statement}
+use Rattle.builder.proofs.resolve_searching.Tie as tie
+
+request-outcome-requires : tie.Need-request-outcome-requires
+request-outcome-requires c κs = search needs
+
+enum-known-first : tie.Need-enum-known-first
+enum-known-first c = search needs
+
+enum-known-first-2 : tie.Need-enum-known-first-2
+enum-known-first-2 c = search needs
+
+lookup-requires : tie.Need-lookup-requires
+lookup-requires c κs = search needs
+
+found-or-new-requires : tie.Need-found-or-new-requires
+found-or-new-requires c κs = search needs
+
+returns : tie.Need-returns
+returns c = resolved-place _ _ _ _ _ (c .before .before .before .request-outcome .ensures) (c .before .first .given .1)
+
+returns-2 : tie.Need-returns-2
+returns-2 c = resolved-found _ _ _ _ _ _ _ (c .before .before .before .before .before .request-outcome .ensures) (c .before .before .before .first2 .given .1) (c .before .lookup .ensures) (c .found-or-new .ensures)
+
+pub resolve-searching-spec : {M : Type 1} → statement M
+resolve-searching-spec =
+    tie.close
+    (tie.spec
+    request-outcome-requires
+    enum-known-first
+    enum-known-first-2
+    lookup-requires
+    found-or-new-requires
+    returns
+    returns-2)

@@ -1,0 +1,61 @@
+-- The invariant: the places before i are filled, and power is the next entry.
+use Prim.Native.Nat.{_-_, _≤_, _<_}
+use mathlib.Core.Path.{_≡_, refl}
+use native.Mathlib.Nat.{lt-of-lt-of-le}
+use native.Mathlib.Omega.{arith}
+use lib.Dec.{lit<}
+use Rattle.ring.specs.Power.{pow}
+use Rattle.field.specs.Field.{p, felt}
+use Rattle.columns.specs.Prepare as Prepare
+use Rattle.columns.specs.ArrayLaws.{fill-next, fill-all}
+use Rattle.coefficients.specs.Arrays as Arrays
+use Rattle.coefficients.specs.TermLaws.{pow-start, pow-next}
+use Rattle.coefficients.proofs.powers.Statement.{statement}
+use Rattle.coefficients.proofs.powers.Tie as tie
+
+abbrev Inv-loop : tie.InvT-loop
+Inv-loop base n row₀ power₀ i₀ row power i = (i ≤ n) × (row ≡ Prepare.padded 0 128 (Prepare.upTo (pow felt base) i)) × (power ≡ pow felt base i) × (power < p)
+
+abbrev μ-loop : tie.MeasureT-loop
+μ-loop base n row₀ power₀ i₀ row power i = n - i
+
+loop-holds : tie.Need-loop-holds Inv-loop μ-loop
+unfolding Prepare.padded Prepare.upTo
+loop-holds c = (omega arith, refl, pow-start _, lit< tt)
+
+mul-row : tie.Need-mul-row Inv-loop μ-loop
+mul-row c = omega arith
+
+array-write-row : tie.Need-array-write-row Inv-loop μ-loop
+array-write-row c = omega arith
+
+mul-requires : tie.Need-mul-requires Inv-loop μ-loop
+mul-requires c κs = (c .before .before .pre .0, c .before .loop .inv .3)
+
+add-i : tie.Need-add-i Inv-loop μ-loop
+add-i c = omega arith
+
+loop-less : tie.Need-loop-less Inv-loop μ-loop
+loop-less c = omega arith
+
+loop-again : tie.Need-loop-again Inv-loop μ-loop
+loop-again c = (omega arith, fill-next _ _ _ _ _ _ (lt-of-lt-of-le (c .before .loop-test .taken) (c .before .before .before .pre .1)) (c .before .before .loop .inv .1) (c .before .before .loop .inv .2), pow-next _ _ _ _ (c .before .before .loop .inv .2) (c .mul .ensures .0), c .mul .ensures .1)
+
+returns : tie.Need-returns Inv-loop μ-loop
+unfolding Arrays.powers
+returns c = fill-all _ _ _ _ _ _ _ (c .before .loop .inv .1) (c .before .loop .inv .0) (c .loop-test .left) refl
+
+pub powers-spec : {M : Type 1} → statement M
+powers-spec =
+    tie.close
+    (tie.spec
+    Inv-loop
+    μ-loop
+    loop-holds
+    mul-row
+    array-write-row
+    mul-requires
+    add-i
+    loop-less
+    loop-again
+    returns)

@@ -1,0 +1,26 @@
+use mathlib.Core.Path.{_∙_, ap}
+use lib.ListN.{length}
+use Rattle.field.specs.Field.{felt}
+use Rattle.field.specs.Generators.{generator}
+use Rattle.coefficients.specs.Terms as Terms
+use Rattle.coefficients.specs.Arrays as Arrays
+use borrow.Author.Needs.{needs}
+use Rattle.coefficients.proofs.roots.Statement.{statement}
+use Rattle.coefficients.proofs.roots.Tie as tie
+
+log-length-requires : tie.Need-log-length-requires
+log-length-requires c κs = search needs
+
+two-adic-generator-requires : tie.Need-two-adic-generator-requires
+two-adic-generator-requires c κs = search needs
+
+powers-requires : tie.Need-powers-requires
+powers-requires c κs = search needs
+
+returns : tie.Need-returns
+unfolding Arrays.powers Arrays.roots Terms.root
+returns c = c .powers .ensures ∙ ap (λ w. Arrays.powers felt w (length (c .before .before .before .before .args .col .now))) (c .before .two-adic-generator .ensures .0 ∙ ap generator (c .before .before .log-length .ensures .0))
+
+pub roots-spec : {M : Type 1} → statement M
+roots-spec =
+    tie.close (tie.spec log-length-requires two-adic-generator-requires powers-requires returns)

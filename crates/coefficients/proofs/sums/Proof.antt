@@ -1,0 +1,65 @@
+-- The invariant: the table has n rows of s words.
+use Prim.Native.Nat.{_/_}
+use native.Mathlib.Omega.{arith}
+use borrow.Author.Needs.{needs}
+use lib.ListN.{length}
+use Rattle.field.specs.Field.{felt}
+use Rattle.coefficients.specs.Arrays as Arrays
+use Rattle.coefficients.specs.Split as Split
+use Rattle.coefficients.specs.SplitLaws.{reached-start, reached-next, reached-end, reached-fits, low-powers, rows-fit}
+use Rattle.coefficients.proofs.sums.Statement.{statement}
+use Rattle.coefficients.proofs.sums.Tie as tie
+
+abbrev Inv-loop : tie.InvT-loop
+Inv-loop col factors table₀ s₀ n₀ table s n = Split.Reached col s n table
+
+abbrev μ-loop : tie.MeasureT-loop
+μ-loop col factors table₀ s₀ n₀ table s n = s
+
+root-inverse-requires : tie.Need-root-inverse-requires Inv-loop μ-loop
+root-inverse-requires c κs = c .before .pre .some
+
+powers-requires : tie.Need-powers-requires Inv-loop μ-loop
+powers-requires c κs = (c .root-inverse .ensures .1, c .before .before .pre .short)
+
+copied-requires : tie.Need-copied-requires Inv-loop μ-loop
+copied-requires c κs = c .before .before .before .pre .short
+
+loop-holds : tie.Need-loop-holds Inv-loop μ-loop
+loop-holds c = rw (c .copied .ensures) (reached-start _ (c .before .before .before .before .pre))
+
+halved-requires : tie.Need-halved-requires Inv-loop μ-loop
+halved-requires c κs =
+    let start = c .before .before .before .before .before .before .before .before .pre in
+    (c .before .before .before .loop .inv .low, low-powers _ start _ _ (c .before .before .before .before .before .powers .ensures), omega (arith, c .before .before .loop-test .taken), reached-fits _ start _ _ _ (c .before .before .before .loop .inv))
+
+mul-n : tie.Need-mul-n Inv-loop μ-loop
+mul-n c =
+    let start = c .before .before .before .before .before .before .before .before .before .pre in
+    let fits = reached-fits _ start _ _ _ (c .before .before .before .before .loop .inv) in
+    omega (arith, rows-fit (c .before .before .before .before .loop .s / 2) _ (omega (arith, c .before .before .before .loop-test .taken)) fits)
+
+loop-less : tie.Need-loop-less Inv-loop μ-loop
+loop-less c = omega (arith, c .before .before .before .loop-test .taken)
+
+loop-again : tie.Need-loop-again Inv-loop μ-loop
+loop-again c = reached-next _ (c .before .before .before .before .before .before .before .before .before .pre) _ _ _ _ _ _ (c .before .before .before .loop-test .taken) (c .before .before .before .before .before .before .before .root-inverse .ensures .0) (c .before .before .before .before .before .before .powers .ensures) (c .before .before .before .before .loop .inv) (c .halved .ensures)
+
+returns : tie.Need-returns Inv-loop μ-loop
+returns c = reached-end _ (c .before .before .before .before .before .before .pre) _ _ _ (c .loop-test .left) (c .before .loop .inv)
+
+pub sums-spec : {M : Type 1} → statement M
+sums-spec =
+    tie.close
+    (tie.spec
+    Inv-loop
+    μ-loop
+    root-inverse-requires
+    powers-requires
+    copied-requires
+    loop-holds
+    halved-requires
+    mul-n
+    loop-less
+    loop-again
+    returns)

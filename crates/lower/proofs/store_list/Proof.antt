@@ -1,0 +1,42 @@
+use mathlib.Core.Path.{_∙_}
+use Rattle.lower.specs.CallLaws.{stored}
+use borrow.Author.Needs.{needs}
+use Rattle.lower.proofs.store_list.Statement.{statement}
+use Rattle.lower.proofs.store_list.Tie as tie
+
+mul-copy : tie.Need-mul-copy
+mul-copy c = search needs
+
+copy-requires : tie.Need-copy-requires
+copy-requires c κs = search needs
+
+sub-index-list : tie.Need-sub-index-list
+sub-index-list c = search needs
+
+part-index-list-start : tie.Need-part-index-list-start
+part-index-list-start c = search needs
+
+part-index-list-end : tie.Need-part-index-list-end
+part-index-list-end c = search needs
+
+index-list-requires : tie.Need-index-list-requires
+index-list-requires c κs = search needs
+
+same-length : tie.Need-same-length
+same-length c = search needs
+
+returns : tie.Need-returns
+returns c = stored _ _ (c .before .before .before .before .before .before .before .before .before .before .pre .1) _ _ (c .before .before .before .before .before .before .copy .ensures) (c .before .before .before .before .before .before .copy .kept .1 .1 .0 ∙ c .before .before .before .before .before .before .before .before .before .before .pre .2) (c .before .before .index-list .ensures) (c .before .before .index-list .kept .1 .1 .0)
+
+pub store-list-spec : {M : Type 1} → statement M
+store-list-spec =
+    tie.close
+    (tie.spec
+    mul-copy
+    copy-requires
+    sub-index-list
+    part-index-list-start
+    part-index-list-end
+    index-list-requires
+    same-length
+    returns)
