@@ -7,12 +7,11 @@ use field::QuadFelt;
 ghost use mathlib.Core.Path.{_≡_};
 ghost use Prim.Native.Nat.{_+_, _*_, _-_, _^_, _<_, _≤_};
 ghost use lib.ListN.{length, set};
-ghost use Rattle.field.specs.Field.{p, quad};
+ghost use Rattle.field.specs.Field.{p};
 ghost use Rattle.dag.specs.Nodes as Nodes;
 ghost use Rattle.dag.specs.Refusals.{_then_};
 ghost use Rattle.dag.specs.Check.{listCheck};
 ghost use Rattle.index.specs.Index as Index;
-ghost use Rattle.meaning.specs.Values as Values;
 ghost use Rattle.evaluate.specs.Entries.{Lent};
 ghost use Rattle.evaluate.specs.Entries as Entries;
 ghost use Rattle.evaluate.specs.KeyIndex as KeyIndex;
@@ -31,9 +30,10 @@ pub enum Evaluated {
     Refused(Refusal),
 }
 
-// The sizes of the stores that lists and assignments of up to so many are evaluated in.
+// The records and entries that small stores hold.
 const SMALL: usize = 64;
 
+// Those that middle stores hold.
 const MIDDLE: usize = 512;
 
 // A record's value; none for an input whose key has no entry.
@@ -110,9 +110,9 @@ pub fn entries_check(entries: &[u64], width: usize, m: usize) -> Checked
     first_bad_entry(entries, width, m)
 }
 
-// The larger of two counts.
+// A count that two counts do not pass: the larger.
 fn larger(a: usize, b: usize) -> usize
-    ensures { λ r. ⌜ (a ≤ r) × (b ≤ r) × (r ≤ a + b) ⌝ }
+    ensures { λ r. ⌜ (a ≤ r) × (b ≤ r) ⌝ }
 {
     if a < b { b } else { a }
 }
