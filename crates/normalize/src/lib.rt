@@ -455,11 +455,7 @@ fn enter_planned(
             work,
             count,
             links,
-            like(
-                x,
-                dag::mapped(map, existing),
-                dag::mapped(map, remaining),
-            ),
+            like(x, dag::mapped(map, existing), dag::mapped(map, remaining)),
         ),
         Plan::Plain => builder::push(work, count, links, dag::renamed(map, x)),
     }

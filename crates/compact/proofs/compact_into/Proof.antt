@@ -8,12 +8,6 @@ use Rattle.compact.specs.Written.{written}
 use borrow.Author.Needs.{needs}
 use Rattle.compact.proofs.compact_into.Statement.{statement}
 use Rattle.compact.proofs.compact_into.Tie as tie
-use Rattle.compact.proofs.compact_into.Reads as reads
-use Rattle.compact.proofs.compact_into.Lts as lts
-use Rattle.compact.proofs.mark_reachable.Reads as mark-reachable-reads
-use Rattle.compact.proofs.number_marked.Reads as number-marked-reads
-use Rattle.compact.proofs.write_marked.Reads as write-marked-reads
-use Rattle.dag.proofs.mapped.Reads as mapped-reads
 
 slice-aggregate-mark-reachable : tie.Need-slice-aggregate-mark-reachable
 slice-aggregate-mark-reachable c = search needs

@@ -3,10 +3,6 @@ use Rattle.compact.specs.CallLaws.{kept-count}
 use borrow.Author.Needs.{needs}
 use Rattle.compact.proofs.reachable_count.Statement.{statement}
 use Rattle.compact.proofs.reachable_count.Tie as tie
-use Rattle.compact.proofs.reachable_count.Reads as reads
-use Rattle.compact.proofs.reachable_count.Lts as lts
-use Rattle.compact.proofs.mark_reachable.Reads as mark-reachable-reads
-use Rattle.compact.proofs.number_marked.Reads as number-marked-reads
 
 slice-aggregate-mark-reachable : tie.Need-slice-aggregate-mark-reachable
 slice-aggregate-mark-reachable c = search needs

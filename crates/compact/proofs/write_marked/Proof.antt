@@ -9,12 +9,6 @@ use Rattle.compact.specs.LoopLaws.{record-fine, place-room, write-kept, 
 use Rattle.compact.specs.Written.{written, written-nil}
 use Rattle.compact.proofs.write_marked.Statement.{statement}
 use Rattle.compact.proofs.write_marked.Tie as tie
-use Rattle.compact.proofs.write_marked.Reads as reads
-use Rattle.compact.proofs.write_marked.Lts as lts
-use Rattle.dag.proofs.mapped.Reads as mapped-reads
-use Rattle.dag.proofs.node_at.Reads as node-at-reads
-use Rattle.dag.proofs.put_node.Reads as put-node-reads
-use Rattle.dag.proofs.renamed.Reads as renamed-reads
 
 abbrev Inv-loop : tie.InvT-loop
 Inv-loop list n reachable remap result₀ next₀ result next = (next ≤ n) × (length result ≡ length result₀) × (result ≡ written result₀ (kept (nodes list n) reachable next))
