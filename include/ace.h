@@ -26,7 +26,7 @@
  * source behind those above are not read. A result, map, place or work store need hold nothing.
  *
  * The calls allocate nothing and keep nothing: they may run side by side on stores of their own.
- * They take about half a megabyte of stack at most, by measurement.
+ * They take about 300 kilobytes of stack at most, by measurement (ace_normalize of 4,096 records).
  *
  * answer[0] is 0 where the call accepts; its values start at answer[1], and words that no value
  * takes are 0. Otherwise answer[0] is the refusal's number, answer[1] the record, entry or column
