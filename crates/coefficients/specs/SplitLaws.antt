@@ -1,24 +1,24 @@
 -- The laws of sums over every s-th entry.
 use Prim.Native.Nat.{ℕ, zero, suc, _+_, _*_, _-_, _/_, _^_, _≤_, _<_}
 use mathlib.Core.Bool.{Bool, true, false, cond}
-use mathlib.Core.List.{List, [], _∷_}
+use mathlib.Core.List.{List}
 use mathlib.Core.Logic.{_⊎_, inl, inr}
 use mathlib.Core.Path.{_≡_, refl, sym, _∙_, ap, ap₂, subst}
 use native.Mathlib.Nat.{add-assoc, mul-comm, one-mul, mul-le-mul-right, le-mul-of-pos-right, two-pow-succ}
 use native.Mathlib.Numerals.{add-one}
 use native.Mathlib.Omega.{arith}
-use borrow.Author.Tests.{lt-ltb, le-ltb, ltb-true, ltb-false, leb-true, leb-false, eqb-true, eqb-false}
-use lib.Dec.{eqb, ltb, leb, lit<}
+use borrow.Author.Tests.{lt-ltb, le-ltb, ltb-true, eqb-true, eqb-false}
+use lib.Dec.{eqb, ltb, lit<}
 use lib.ListN.{getD, length, set, replicate, length-set, length-replicate}
 use lib.Pow.{pow-pos}
 use lib.Seq.{getD-set-same, getD-set-other}
 use Rattle.ring.specs.Ring.{Ops, Laws}
 use Rattle.ring.specs.Identities.{mul-one, left-comm}
-use Rattle.ring.specs.Power.{pow, pow-zero, pow-suc, pow-add, pow-mul, low-pow, one-pow}
+use Rattle.ring.specs.Power.{pow, pow-zero, pow-add, pow-mul, low-pow, one-pow}
 use Rattle.ring.specs.Sums.{sum, sum-zero, sum-suc, sum-cong, sum-scale, low-sum}
 use Rattle.field.specs.Field.{p, felt, felt-laws}
 use Rattle.field.specs.Generators.{generator, half, generator-order}
-use Rattle.dag.specs.Cases.{below-suc, cond-elim}
+use Rattle.dag.specs.Cases.{le-or-lt, below-suc, cond-elim}
 use Rattle.columns.specs.Columns.{logLength}
 use Rattle.columns.specs.Contracts.{Column}
 use Rattle.columns.specs.LogLaws.{log-le, power-is}
@@ -28,13 +28,6 @@ use Rattle.columns.specs.ClassLaws.{below-at}
 use Rattle.coefficients.specs.Terms.{root, rootInverse, sizeInverse, dense}
 use Rattle.coefficients.specs.Arrays.{powers, copied}
 use Rattle.coefficients.specs.Split.{part, Level, round, joined, Halved, Low, RowDone, Reached}
-
-le-or-lt : (n m : ℕ) → (n ≤ m) ⊎ (m < n)
-le-or-lt n m = go (leb n m) refl
-  where
-    go : (t : Bool) → leb n m ≡ t → (n ≤ m) ⊎ (m < n)
-    go true e = inl (leb-true n m e)
-    go false e = inr (leb-false n m e)
 
 -- the even terms and the odd terms
 module _ {o : Ops ℕ} (L : Laws o) where

@@ -1,11 +1,11 @@
 -- A store filled with blanks from a place on, one word a turn.
-use Prim.Native.Nat.{ℕ, suc, _+_, _-_, _≤_, _<_}
+use Prim.Native.Nat.{ℕ, zero, suc, _+_, _-_, _≤_, _<_}
 use mathlib.Core.List.{List, [], _∷_, _++_, append-nil, append-assoc}
 use mathlib.Core.Path.{_≡_, refl, sym, _∙_, ap}
 use native.Mathlib.Nat.{sub-self}
 use native.Mathlib.Numerals.{add-one}
 use native.Mathlib.Omega.{arith}
-use lib.ListN.{length, take, drop, set, replicate, length-append, length-replicate, take-append-drop, replicate-append-replicate, drop-of-length-le}
+use lib.ListN.{getD, length, take, drop, set, replicate, length-append, length-replicate, take-append-drop, replicate-append-replicate, drop-of-length-le}
 use lib.Seq.{drop-cons, set-at, length-take-le}
 
 module _ (s : List ℕ) (from v : ℕ) where
@@ -36,3 +36,9 @@ module _ (s : List ℕ) (from v : ℕ) where
   blank-all i h k =
       let e : i ≡ length s = omega arith in
       rw (drop-of-length-le s {i = i} k, append-nil, e)
+
+-- a store of zeros
+pub all-zero : (n i : ℕ) → getD (replicate n zero) i zero ≡ zero
+all-zero zero i = refl
+all-zero (suc n) zero = refl
+all-zero (suc n) (suc i) = all-zero n i

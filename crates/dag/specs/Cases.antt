@@ -1,9 +1,11 @@
 -- What tests tell, and the places below a bound.
-use Prim.Native.Nat.{ℕ, suc, _<_}
+use Prim.Native.Nat.{ℕ, suc, _≤_, _<_}
 use mathlib.Core.Bool.{Bool, true, false, cond, _&&_, _||_, true≢false}
 use mathlib.Core.Path.{_≡_, refl, sym, _∙_}
 use mathlib.Core.Logic.{_⊎_, inl, inr, _↔_}
 use native.Mathlib.Nat.{le-suc-iff, suc-inj}
+use borrow.Author.Tests.{leb-true, leb-false}
+use lib.Dec.{leb}
 
 -- a choice has what both its answers have
 pub cond-elim {ℓ} : {A : Type 0} (P : A → Type ℓ) (t : Bool) (x y : A) → (t ≡ true → P x) → (t ≡ false → P y) → P (cond t x y)
@@ -44,3 +46,11 @@ below-suc-elim P n before last i h = go (below-suc i n h)
     go : (i < n) ⊎ (i ≡ n) → P i
     go (inl k) = before i k
     go (inr e) = rw e last
+
+-- n is at most m, or above it
+pub le-or-lt : (n m : ℕ) → (n ≤ m) ⊎ (m < n)
+le-or-lt n m = go (leb n m) refl
+  where
+    go : (t : Bool) → leb n m ≡ t → (n ≤ m) ⊎ (m < n)
+    go true e = inl (leb-true n m e)
+    go false e = inr (leb-false n m e)

@@ -1,28 +1,36 @@
 -- Laws of key numbers.
 use Prim.Native.Nat.{ℕ, zero, suc, _+_, _*_, _/_, _%_, _^_, _<_, _≤_}
-use native.Mathlib.Nat.{le-of-suc-le-suc, not-suc-le-zero}
-use mathlib.Core.List.{List, [], _∷_, map}
+use mathlib.Core.List.{List, [], _∷_}
 use mathlib.Core.Bool.{Bool, true, _&&_}
-use mathlib.Core.Path.{_≡_, refl, _∙_}
+use mathlib.Core.Path.{_≡_, refl, sym, _∙_}
 use native.Mathlib.Omega.{arith}
-use borrow.Author.Tests.{lt-ltb, ltb-true, leb-true}
-use lib.Dec.{leb, ltb}
+use borrow.Author.Tests.{lt-ltb, le-ltb, ltb-true, leb-true, ne-eqb}
+use lib.Dec.{leb, ltb, eqb}
 use Rattle.dag.specs.Cases.{and-true}
-use lib.ListN.{getD, length, List·getD-map}
+use lib.ListN.{getD}
 use Rattle.dag.specs.Keys.{fieldCounts, keyNumber, isKey}
-
--- inside a list the default isn't read
-pub getD-inside : {A : Type 0} (l : List A) (i : ℕ) (d e : A) → i < length l → getD l i d ≡ getD l i e
-getD-inside [] i d e h = absurd (not-suc-le-zero h)
-getD-inside (x ∷ l) zero d e h = refl
-getD-inside (x ∷ l) (suc i) d e h = getD-inside l i d e (le-of-suc-le-suc h)
 
 -- what lies below a variant stays under 2^16 for each field
 abbrev pub limit : ℕ → ℕ
 limit n = 2 ^ (16 * n)
 
-pub limits-at : (v : ℕ) → v < 22 → getD (map limit fieldCounts) v 0 ≡ limit (getD fieldCounts v 0)
-limits-at v h = getD-inside (map limit fieldCounts) v 0 (limit 0) h ∙ List·getD-map limit fieldCounts v 0
+-- a number that c fields hold, by their count
+module _ (c n : ℕ) where
+  pub no-field : c ≡ 0 → eqb n 0 ≡ ltb n (limit c)
+  no-field e = rw e (go n)
+    where
+      go : (n : ℕ) → eqb n 0 ≡ ltb n 1
+      go zero = refl
+      go (suc n) = ne-eqb (suc n) 0 (omega arith) ∙ sym (le-ltb (suc n) 1 (omega arith))
+
+  pub one-field : c ≡ 1 → ltb n 65536 ≡ ltb n (limit c)
+  one-field e = rw e refl
+
+  pub two-fields : c ≡ 2 → ltb n 4294967296 ≡ ltb n (limit c)
+  two-fields e = rw e refl
+
+  pub all-fields : (c ≡ 0 → ⊥) → (c ≡ 1 → ⊥) → (c ≡ 2 → ⊥) → c ≤ 3 → n < 2 ^ 48 → true ≡ ltb n (limit c)
+  all-fields a b d h k = let e : c ≡ 3 = omega arith in rw e (sym (lt-ltb n 281474976710656 k))
 
 -- no entry of a table is above k, tested entry by entry
 every-most : ℕ → List ℕ → Bool
@@ -35,7 +43,7 @@ most-at k [] e i = omega arith
 most-at k (x ∷ l) e zero = leb-true x k (and-true (leb x k) (every-most k l) e .0)
 most-at k (x ∷ l) e (suc i) = most-at k l (and-true (leb x k) (every-most k l) e .1) i
 
-three-fields : (v : ℕ) → getD fieldCounts v 0 ≤ 3
+pub three-fields : (v : ℕ) → getD fieldCounts v 0 ≤ 3
 unfolding every-most
 three-fields v = most-at 3 fieldCounts refl v
 

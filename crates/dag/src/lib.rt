@@ -1,7 +1,8 @@
 // The constraint DAG's records: key numbers, `NodeKind` and its three words, refusals, the list check and the lookup.
 use field::QuadFelt;
 ghost use mathlib.Core.Path.{_≡_};
-ghost use Prim.Native.Nat.{ℕ, _+_, _*_, _-_, _<_, _≤_};
+ghost use Prim.Native.Nat.{ℕ, _+_, _*_, _-_, _^_, _<_, _≤_};
+ghost use lib.Dec.{ltb};
 ghost use mathlib.Core.List.{_++_};
 ghost use lib.ListN.{length, getD, take, replicate};
 ghost use Rattle.field.specs.Field.{p};
@@ -64,31 +65,27 @@ pub enum Found {
     Missing,
 }
 
-// What the number below a variant's 2^48 stays under: 2^16 for each of its fields, in the order of `InputKey`.
-const FIELD_LIMITS: [u64; 22] = [
-    65536,
-    1,
-    1,
-    65536,
-    4294967296,
-    4294967296,
-    281474976710656,
-    65536,
-    1,
-    1,
-    1,
-    1,
-    1,
-    1,
-    1,
-    65536,
-    65536,
-    65536,
-    1,
-    1,
-    1,
-    281474976710656,
+// The number of fields of each variant, in the order of `InputKey`.
+const FIELD_COUNTS: [u8; 22] = [
+    1, 0, 0, 1, 2, 2, 3, 1, 0, 0, 0, 0, 0, 0, 0, 1, 1, 1, 0, 0, 0, 3,
 ];
+
+// Whether so many fields of 16 bits hold a number below 2^48.
+fn fields_hold(count: u8, number: u64) -> bool
+    requires { ⌜ (count ≤ 3) × (number < 2 ^ 48) ⌝ }
+    ensures { λ r. ⌜ r ≡ ltb number (2 ^ (16 * «count»)) ⌝ }
+{
+    if count == 0 {
+        return number == 0;
+    }
+    if count == 1 {
+        return number < 65536;
+    }
+    if count == 2 {
+        return number < 4294967296;
+    }
+    true
+}
 
 // Whether a key has this number.
 pub fn is_key(k: u64) -> bool
@@ -98,7 +95,7 @@ pub fn is_key(k: u64) -> bool
     if 22 <= variant {
         return false;
     }
-    k % 281474976710656 < FIELD_LIMITS[variant]
+    fields_hold(FIELD_COUNTS[variant], k % 281474976710656)
 }
 
 // Whether the words of a record with tag t are those of a record.

@@ -1,6 +1,6 @@
 -- The index of entries as they are noted, and the walk along a key's bucket.
 use Prim.Native.Nat.{ℕ, zero, suc, _+_, _-_, _/_, _≤_, _<_}
-use mathlib.Core.Bool.{Bool, true, false}
+use mathlib.Core.Bool.{Bool, true}
 use mathlib.Core.List.{List}
 use mathlib.Core.Path.{_≡_, refl, sym, _∙_, ap}
 use native.Mathlib.Nat.{mul-le-mul-left}
@@ -8,7 +8,7 @@ use native.Mathlib.Numerals.{add-one}
 use native.Mathlib.Omega.{arith}
 use borrow.Author.Tests.{eq-eqb, ne-eqb, eqb-true}
 use lib.Dec.{eqb}
-use lib.ListN.{getD, length, replicate}
+use lib.ListN.{getD, length}
 use Rattle.dag.specs.declared.Found.{Found}
 use Rattle.dag.specs.declared.Found.the-variants.{At, Missing}
 use Rattle.index.specs.Index.{greatest, half, noted, Usable}
@@ -22,11 +22,6 @@ use Rattle.evaluate.specs.KeyIndex.{keyBucket, Keyed}
 pub keyed-none : (width : ℕ) (e links : List ℕ) → Usable links → ((k : ℕ) → getD links k 0 ≡ 0) → Keyed width e 0 links
 keyed-none width e links u z =
     record { usable = u; room = omega arith; indexed = indexed-none (half links) (λ i. keyBucket (half links) (keyAt width e i)) links z }
-
-pub all-zero : (n i : ℕ) → getD (replicate n zero) i zero ≡ zero
-all-zero zero i = refl
-all-zero (suc n) zero = refl
-all-zero (suc n) (suc i) = all-zero n i
 
 -- one entry more
 pub keyed-next : (width : ℕ) (e : List ℕ) (n : ℕ) (links : List ℕ) (k : ℕ) (after : List ℕ) → Keyed width e n links → n < half links

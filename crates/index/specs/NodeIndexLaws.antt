@@ -10,6 +10,7 @@ use native.Mathlib.Omega.{arith}
 use borrow.Author.Tests.{eqb-true}
 use lib.Dec.{eqb}
 use lib.ListN.{getD, length, take, replicate, length-replicate}
+use Rattle.dag.specs.BlankLaws.{all-zero}
 use Rattle.dag.specs.Cases.{and-true, below-suc}
 use Rattle.dag.specs.Nodes.{tag, first, second, at, nodes, recordAt}
 use Rattle.dag.specs.NodeLaws.{at-left, at-last, at-nodes, length-nodes, length-snoc}
@@ -60,11 +61,6 @@ index-none links u after whole =
       room = omega arith;
       indexed = indexed-none (half after) (λ i. nodeBucket (half after) (at [] i)) after (λ i. let z : getD after i 0 ≡ 0 = rw e (all-zero (length links) i) in z);
     }
-  where
-    all-zero : (n i : ℕ) → getD (replicate n zero) i zero ≡ zero
-    all-zero zero i = refl
-    all-zero (suc n) zero = refl
-    all-zero (suc n) (suc i) = all-zero n i
 
 -- one record more
 module _ (l : List NodeKind) (links : List ℕ) (x : NodeKind) (d : NodeIndex l links) (room : length l < half links) where

@@ -14,7 +14,7 @@ use borrow.Rule.Slice.PartMut.{putMid, same-len-mid}
 use lib.Seq.{drop-at, drop-cons, take-suc, take-suc-set, getD-take, length-take-le, take-length}
 use Rattle.field.specs.Field.{p, felt, quad}
 use Rattle.field.specs.Generators.{generator, half}
-use Rattle.dag.specs.Cases.{and-true, or-true, cond-elim}
+use Rattle.dag.specs.Cases.{and-true, or-true, cond-elim, le-or-lt}
 use Rattle.dag.specs.Nodes.{blank, mostRecords, nodes, wordsOf, filled}
 use Rattle.dag.specs.NodeLaws.{length-nodes}
 use Rattle.dag.specs.Refusals.{need, _then_, isRefused, unlessRefused}
@@ -35,7 +35,6 @@ use Rattle.periodic.specs.Builder.{Run}
 use Rattle.periodic.specs.Periodic.{buildPeriodicNodes}
 use Rattle.index.specs.Index.{NodeIndex}
 use Rattle.periodic.specs.Running.{storeWords, links, Holds, Ready, Listing}
-use Rattle.periodic.specs.RunLaws.{le-or-lt}
 use Rattle.periodic.specs.StoreLaws.{Same, same-records, same-sound, links-back}
 use Rattle.lower.specs.Lower.{longestFrom, longest, periodGood, lowerCheck, lowered, roomCheck, wholeCheck, lowerAnswer, lowerResult, lowerPlaces, lowerWork}
 use Rattle.lower.specs.Contracts.{Covered}

@@ -1,5 +1,5 @@
 -- One round on a store: whether it is kept, and what it leaves.
-use Prim.Native.Nat.{ℕ, suc, _+_, _*_, _-_, _^_, _<_, _≤_}
+use Prim.Native.Nat.{ℕ, _+_, _*_, _-_, _^_, _<_, _≤_}
 use mathlib.Core.Bool.{Bool, true, false, _&&_, true≢false}
 use mathlib.Core.List.{List, [], _∷_, _++_, map}
 use mathlib.Core.Path.{_≡_, refl, sym, _∙_, ap, ap₂}
@@ -8,25 +8,25 @@ use native.Mathlib.Omega.{arith}
 use borrow.Author.Tests.{lt-ltb, le-ltb}
 use lib.ListN.{length, getD, take, replicate, length-replicate}
 use lib.Seq.{length-take-le}
-use Rattle.field.specs.Field.{p, quad, quad-laws, Below}
+use Rattle.field.specs.Field.{p, quad, quad-laws}
+use Rattle.dag.specs.BlankLaws.{all-zero}
 use Rattle.dag.specs.Nodes.{nodes}
 use Rattle.dag.specs.NodeLaws.{length-nodes}
 use Rattle.dag.specs.Store.{Sound}
-use Rattle.dag.specs.WellFormed.{WellFormed}
 use Rattle.dag.specs.declared.NodeKind.{NodeKind}
 use Rattle.index.specs.Index.{half, Usable}
 use Rattle.builder.specs.Steps.{Replay, placeOf}
 use Rattle.builder.specs.OutcomeLaws.{list-fine}
 use Rattle.builder.specs.Holds.{read, count-is, place-read}
-use Rattle.compact.specs.Operands.{AllBelow, one-below}
-use Rattle.compact.specs.Compact.{Rooted, compact}
+use Rattle.compact.specs.Operands.{one-below}
+use Rattle.compact.specs.Compact.{compact}
 use Rattle.compact.specs.Asked.{Markable}
 use Rattle.compact.specs.Calls.{compacted, keptOf}
-use Rattle.compact.specs.Written.{written, nodes-written, sound-written, length-written}
+use Rattle.compact.specs.Written.{written, nodes-written, sound-written}
 use Rattle.compact.specs.declared.Kept.{Kept}
 use Rattle.normalize.specs.Rounds.{round, fanout, fired, rounded, isKept}
 use Rattle.normalize.specs.Fanouts.{Countable}
-use Rattle.normalize.specs.RoundLaws.{round-replayed, round-length, rounded-well-formed, rounded-inside}
+use Rattle.normalize.specs.RoundLaws.{round-replayed, round-length, rounded-well-formed}
 use Rattle.normalize.specs.TurnLaws.{Rounding, RoundHeld}
 use Rattle.normalize.specs.declared.RoundKept.{RoundKept}
 
@@ -67,17 +67,12 @@ scratch-part n fan places own links c =
     rw (length-take-le n fan (c .fan-long), length-take-le n places (c .places-long), length-take-le (2 * n) own u, length-take-le (4 * n) links w)
     (record { fan-long = omega arith; places-long = omega arith; own-long = omega arith; own-few = omega arith; links-long = omega arith; links-few = omega arith })
 
-zero-at : (k j : ℕ) → _≡_ {A = ℕ} (getD (replicate k 0) j 0) 0
-zero-at ℕ.zero j = refl
-zero-at (suc k) ℕ.zero = refl
-zero-at (suc k) (suc j) = zero-at k j
-
 module _ (s : List ℕ) (n root k f m o l : ℕ) (h : Ready s n root k) (c : Scratch n f m o l) where
   pub countable : (fan cleared : List ℕ) → f ≡ length fan → cleared ≡ take 0 fan ++ replicate (length fan - 0) 0 → Countable s n root cleared
   countable fan cleared e z =
       let q : cleared ≡ replicate (length fan) 0 = rw (sub-zero (length fan)) at z in
       let a = c .fan-long in
-      record { sound = h .sound; inside = h .inside; few = h .few; fits = rw (q, length-replicate {A = ℕ} (length fan) 0) (omega arith); zeros = λ j. rw q (zero-at (length fan) j) }
+      record { sound = h .sound; inside = h .inside; few = h .few; fits = rw (q, length-replicate {A = ℕ} (length fan) 0) (omega arith); zeros = λ j. rw q (all-zero (length fan) j) }
 
   pub roundable : (counted work places : List ℕ) → length counted ≡ f → k ≡ length work → m ≡ length places → Rounding s n counted work places
   roundable counted work places e g d =

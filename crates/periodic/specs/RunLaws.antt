@@ -1,29 +1,19 @@
 -- Computations run one after the other.
-use Prim.Native.Nat.{ℕ, zero, suc, _+_, _*_, _<_, _≤_}
-use mathlib.Core.Bool.{Bool, true, false}
-use mathlib.Core.List.{List, [], _∷_, _++_}
-use mathlib.Core.Logic.{_⊎_, inl, inr, ⊎-elim}
-use mathlib.Core.Path.{_≡_, refl, sym, _∙_, ap, subst}
-use native.Mathlib.Nat.{le-trans, lt-of-lt-of-le, lt-of-le-of-lt}
+use Prim.Native.Nat.{ℕ, _+_, _<_, _≤_}
+use mathlib.Core.List.{List}
+use mathlib.Core.Logic.{_⊎_, inl, inr}
+use mathlib.Core.Path.{_≡_, refl, _∙_, ap, subst}
+use native.Mathlib.Nat.{le-trans, lt-of-lt-of-le}
 use native.Mathlib.Numerals.{add-one}
 use native.Mathlib.Omega.{arith}
-use borrow.Author.Tests.{leb-true, leb-false}
-use lib.Dec.{leb}
-use lib.ListN.{getD, length, take, set, replicate, length-append, length-replicate}
-use lib.Seq.{getD-take, take-suc-set, length-take-le}
+use lib.ListN.{length, replicate, length-append, length-replicate}
+use Rattle.dag.specs.Cases.{le-or-lt}
 use Rattle.dag.specs.Nodes.{mostRecords, nodes}
 use Rattle.dag.specs.declared.NodeKind.{NodeKind}
 use Rattle.dag.specs.declared.NodeKind.the-variants.{Input}
 use Rattle.builder.specs.declared.Entered.{Entered}
-use Rattle.periodic.specs.Builder.{Builder, done, _>>=_, turns, also}
-use Rattle.periodic.specs.Running.{Holds, Ready, Inside, AllInside, Ran, Entering, Listing}
-
-pub le-or-lt : (n m : ℕ) → (n ≤ m) ⊎ (m < n)
-le-or-lt n m = go (leb n m) refl
-  where
-    go : (t : Bool) → leb n m ≡ t → (n ≤ m) ⊎ (m < n)
-    go true e = inl (leb-true n m e)
-    go false e = inr (leb-false n m e)
+use Rattle.periodic.specs.Builder.{Builder, done, _>>=_, turns}
+use Rattle.periodic.specs.Running.{Holds, Ready, Inside, Ran, Entering}
 
 -- a longer list is still too long
 grows : {A : Type 0} (m : Builder A) (l : List NodeKind) → length l ≤ length (m .run l .list)

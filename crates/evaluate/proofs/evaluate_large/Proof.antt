@@ -1,6 +1,6 @@
 -- `evaluate::evaluate_large` meets its contract.
 use native.Mathlib.Omega.{arith}
-use Rattle.evaluate.specs.KeyIndexLaws.{all-zero}
+use Rattle.dag.specs.BlankLaws.{all-zero}
 use borrow.Author.Needs.{needs}
 use Rattle.evaluate.proofs.evaluate_large.Statement.{statement}
 use Rattle.evaluate.proofs.evaluate_large.Tie as tie
