@@ -1,16 +1,22 @@
 -- What the functions of compaction ask of their stores.
 use Prim.Native.Nat.{ℕ, _*_, _≤_, _<_}
-use mathlib.Core.Bool.{Bool}
-use mathlib.Core.List.{List}
+use mathlib.Core.Bool.{Bool, false}
+use mathlib.Core.List.{List, [], _∷_, _++_}
 use mathlib.Core.Path.{_≡_}
-use lib.ListN.{getD, length}
+use lib.ListN.{getD, length, drop, replicate}
 use Rattle.field.specs.Field.{p}
+use Rattle.dag.specs.Nodes.{nodes}
 use Rattle.dag.specs.Store.{Sound}
-use Rattle.compact.specs.Compact.{rank}
+use Rattle.compact.specs.Compact.{rank, ranks}
+use Rattle.compact.specs.Reach.{marked, sweep}
 
 -- a mark for each record of a round's list
 abbrev pub mostMarks : ℕ
 mostMarks = 8192
+
+-- no record is marked yet
+abbrev pub Unmarked : List Bool → Type 0
+Unmarked m = m ≡ replicate mostMarks false
 
 -- n records that pass the list check, a root among them, and k marks for them
 pub record Markable (s : List ℕ) (n root k : ℕ) : Type 0 where
@@ -29,3 +35,12 @@ pub record Writing (s : List ℕ) (n : ℕ) (m : List Bool) (map : List ℕ) (k 
   pub marks : n ≤ length m
   pub remaps : Remaps map m n
   pub room : 3 * rank m n ≤ k
+
+-- the marks of what the root reaches among n records, and its new places
+pub record Numbered (s : List ℕ) (n root : ℕ) (m : List Bool) (map : List ℕ) : Type 0 where
+  pub markable : Markable s n root mostMarks
+  pub marks-are : m ≡ sweep (nodes s n) n (marked (replicate mostMarks false) (root ∷ []))
+  pub marks-fit : n ≤ length m
+  pub behind : List ℕ
+  pub places-are : map ≡ ranks m n ++ drop n behind
+  pub places-fit : n ≤ length map

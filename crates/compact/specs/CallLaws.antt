@@ -6,7 +6,7 @@ use mathlib.Core.Path.{_≡_, _∙_, ap}
 use native.Mathlib.Omega.{arith}
 use borrow.Author.Tests.{leb-true}
 use lib.Dec.{leb}
-use lib.ListN.{getD, length, take, drop, replicate}
+use lib.ListN.{getD, length, take, drop, replicate, length-replicate}
 use Rattle.field.specs.Field.{p}
 use Rattle.dag.specs.Nodes.{mostRecords, nodes, blank}
 use Rattle.dag.specs.NodeLaws.{length-nodes}
@@ -24,7 +24,7 @@ use Rattle.compact.specs.Operands.{one-below}
 use Rattle.compact.specs.ArrayLaws.{Same, sweep-same, rank-same, kept-same, getD-ranks}
 use Rattle.compact.specs.CompactLaws.{compact-length, compact-short}
 use Rattle.compact.specs.Written.{written, length-written, written-filled}
-use Rattle.compact.specs.Asked.{Markable, Writing}
+use Rattle.compact.specs.Asked.{mostMarks, Unmarked, Markable, Numbered, Writing}
 use Rattle.compact.specs.Calls.{compacted, keptOf, compactCheck, compactAnswer, compactResult}
 use Rattle.compact.specs.declared.Kept.{Kept}
 use Rattle.compact.specs.declared.Compacted.the-variants.{Done, Refused}
@@ -63,6 +63,27 @@ module _ (s : List ℕ) (n root k : ℕ) (g : Markable s n root k) (m : List Boo
           remaps = record { fits = hp; places = λ i q. rw f (getD-ranks m (drop n z) n i q) };
           room = rw kept-count h;
         }
+
+-- marks and new places, as they are made
+pub unmarked-long : (k : ℕ) (m : List Bool) → m ≡ replicate k false → length m ≡ k
+unmarked-long k m e = ap length e ∙ length-replicate k false
+
+pub numbered : (s : List ℕ) (n root : ℕ) (m reach : List Bool) (map after : List ℕ) (r : ℕ) → Markable s n root mostMarks → Unmarked m → n ≤ length map
+    → reach ≡ sweep (nodes s n) n (marked m (root ∷ [])) → length reach ≡ length m → r ≡ rank reach n → after ≡ ranks reach n ++ drop n map → length after ≡ length map
+    → (r ≡ length (compacted s n root .list)) × Numbered s n root reach after
+numbered s n root m reach map after r g u fits er el ec ea es =
+    let marks : reach ≡ sweep (nodes s n) n (marked (replicate mostMarks false) (root ∷ [])) = er ∙ ap (λ q. sweep (nodes s n) n (marked q (root ∷ []))) u in
+    let long = unmarked-long mostMarks m u in (
+      ec ∙ kept-count s n root mostMarks g reach marks,
+      record {
+        markable = g;
+        marks-are = marks;
+        marks-fit = omega (arith, long, el, g .fits);
+        behind = map;
+        places-are = ea;
+        places-fit = omega (arith, es);
+      },
+    )
 
 module _ (s : List ℕ) (n root : ℕ) (result : List ℕ) where
   -- where Compact refuses

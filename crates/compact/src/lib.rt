@@ -11,7 +11,7 @@ ghost use Rattle.compact.specs.Reach as Reach;
 ghost use Rattle.compact.specs.Operands.{AllBelow};
 ghost use Rattle.compact.specs.Compact as Places;
 ghost use Rattle.compact.specs.Written.{written};
-ghost use Rattle.compact.specs.Asked.{mostMarks, Markable, Writing};
+ghost use Rattle.compact.specs.Asked.{mostMarks, Unmarked, Markable, Numbered, Writing};
 ghost use Rattle.compact.specs.Calls as Calls;
 
 // How many records are kept, and the root's new place.
@@ -94,37 +94,48 @@ pub fn write_marked(list: &[u64], n: usize, reachable: &[bool], remap: &[u64], r
     }
 }
 
-// How many of the first n records the root reaches, with a store for their new places lent.
-pub fn reachable_count(list: &[u64], n: usize, root: usize, remap: &mut [u64]) -> usize
-    requires { ⌜ Markable (now list) n root mostMarks × (n ≤ length (now remap)) ⌝ }
-    ensures { λ r. ⌜ r ≡ length (Calls.compacted (now (list .entry)) n root .list) ⌝ }
-{
-    let mut reachable = [false; 8192];
-    mark_reachable(list, n, root, &mut reachable);
-    number_marked(&reachable, n, remap)
-}
-
-// Writes what the root reaches, renamed, to the start of the result store, with a store for the new places lent.
-pub fn compact_into(
+// Marks and numbers what the root reaches, new places into a lent store; answers how many records that is.
+pub fn number_reachable(
     list: &[u64],
     n: usize,
     root: usize,
+    reachable: &mut [bool],
     remap: &mut [u64],
+) -> usize
+    requires { ⌜ Markable (now list) n root mostMarks × Unmarked (now reachable) × (n ≤ length (now remap)) ⌝ }
+    ensures { λ r. ⌜ (r ≡ length (Calls.compacted (now (list .entry)) n root .list)) × Numbered (now (list .entry)) n root (now (reachable .exit)) (now (remap .exit)) ⌝ }
+{
+    mark_reachable(list, n, root, reachable);
+    number_marked(reachable, n, remap)
+}
+
+// Writes what was numbered, renamed, to the start of the result store; answers the root's new place.
+pub fn write_numbered(
+    list: &[u64],
+    n: usize,
+    root: usize,
+    reachable: &[bool],
+    remap: &[u64],
     result: &mut [u64],
-) -> Kept
-    requires { ⌜ Markable (now list) n root mostMarks ⌝ }
-    requires { ⌜ n ≤ length (now remap) ⌝ }
-    requires { ⌜ 3 * length (Calls.compacted (now list) n root .list) ≤ length (now result) ⌝ }
+) -> usize
+    requires { ⌜ Numbered (now list) n root (now reachable) (now remap) × (3 * length (Calls.compacted (now list) n root .list) ≤ length (now result)) ⌝ }
+    ensures { λ r. ⌜ (r ≡ Calls.keptOf (Calls.compacted (now (list .entry)) n root) .root) × (now (result .exit) ≡ written (now (result .entry)) (Calls.compacted (now (list .entry)) n root .list)) ⌝ }
+{
+    write_marked(list, n, reachable, remap, result);
+    dag::mapped(remap, root)
+}
+
+// Writes what the root reaches, renamed, to the start of the result store, with a store for the new places lent.
+fn compact_into(list: &[u64], n: usize, root: usize, remap: &mut [u64], result: &mut [u64]) -> Kept
+    requires { ⌜ Markable (now list) n root mostMarks × (n ≤ length (now remap)) × (3 * length (Calls.compacted (now list) n root .list) ≤ length (now result)) ⌝ }
     ensures { λ r. ⌜ r ≡ Calls.keptOf (Calls.compacted (now (list .entry)) n root) ⌝ }
     ensures { λ _. ⌜ now (result .exit) ≡ written (now (result .entry)) (Calls.compacted (now (list .entry)) n root .list) ⌝ }
 {
     let mut reachable = [false; 8192];
-    mark_reachable(list, n, root, &mut reachable);
-    let count = number_marked(&reachable, n, remap);
-    write_marked(list, n, &reachable, remap, result);
+    let count = number_reachable(list, n, root, &mut reachable, remap);
     Kept {
         count,
-        root: dag::mapped(remap, root),
+        root: write_numbered(list, n, root, &reachable, remap, result),
     }
 }
 

@@ -67,7 +67,28 @@ pub enum Found {
 
 // The number of fields of each variant, in the order of `InputKey`.
 const FIELD_COUNTS: [u8; 22] = [
-    1, 0, 0, 1, 2, 2, 3, 1, 0, 0, 0, 0, 0, 0, 0, 1, 1, 1, 0, 0, 0, 3,
+    1,
+    0,
+    0,
+    1,
+    2,
+    2,
+    3,
+    1,
+    0,
+    0,
+    0,
+    0,
+    0,
+    0,
+    0,
+    1,
+    1,
+    1,
+    0,
+    0,
+    0,
+    3,
 ];
 
 // Whether so many fields of 16 bits hold a number below 2^48.

@@ -536,18 +536,19 @@ fn once_in(
         };
     }
     let new_root = dag::mapped(map, root);
-    if n <= compact::reachable_count(work, end.count, new_root, own) {
+    let mut reachable = [false; 8192];
+    let size = compact::number_reachable(work, end.count, new_root, &mut reachable, own);
+    if n <= size {
         return RoundKept {
             kept: false,
             count: n,
             root,
         };
     }
-    let kept = compact::compact_into(work, end.count, new_root, own, result);
     RoundKept {
         kept: true,
-        count: kept.count,
-        root: kept.root,
+        count: size,
+        root: compact::write_numbered(work, end.count, new_root, &reachable, own, result),
     }
 }
 
