@@ -8,7 +8,7 @@ use model::{Call, Case, LIMIT, Record, ZK, overhead, words};
 use super::columns::{column, saving_exactly};
 use super::exhaustive::unit_columns;
 use super::faults::faults;
-use super::lists::{chain, growing, inputs, negations, of_size, unchanged};
+use super::lists::{chain, colliding, growing, inputs, negations, of_size, unchanged};
 use super::make::{column_case, list_case, period, store};
 use super::{Flow, Sink};
 use crate::Rng;
@@ -112,8 +112,15 @@ pub(super) fn rooted(call: Call, rng: &mut Rng, thorough: bool, sink: Sink) -> F
         }
     }
     let limit = LIMIT as usize;
-    let mut long =
-        vec![inputs(1), inputs(LIMIT), unchanged(limit), unchanged(limit - 1), growing(limit)];
+    let mut long = vec![
+        inputs(1),
+        inputs(LIMIT),
+        colliding(40),
+        colliding(LIMIT),
+        unchanged(limit),
+        unchanged(limit - 1),
+        growing(limit),
+    ];
     for depth in [5, 4_000] {
         let list = negations(depth);
         let last = list.len() as u64 - 1;

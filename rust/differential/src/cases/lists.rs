@@ -292,6 +292,20 @@ pub fn unchanged(n: usize) -> Vec<Record> {
     list
 }
 
+/// n inputs whose keys all have one hash in crates/index, each a second time in the other order.
+pub(super) fn colliding(n: u64) -> Vec<Record> {
+    const LOW: u32 = 1_013_904_243;
+    const HIGH: u32 = 965_271_753;
+    // Newton's steps to the inverse of an odd number modulo 2^32.
+    let inverse = (0..5).fold(LOW, |x, _| x.wrapping_mul(2u32.wrapping_sub(LOW.wrapping_mul(x))));
+    let input = |third: u64| {
+        let high = 6 << 16 | third;
+        let low = HIGH.wrapping_mul(high as u32).wrapping_neg().wrapping_mul(inverse);
+        [0, high << 32 | u64::from(low), 0]
+    };
+    (0..n / 2).chain((0..n - n / 2).rev()).map(input).collect()
+}
+
 /// Two inputs and a chain of negations of the first.
 pub(super) fn negations(depth: u64) -> Vec<Record> {
     let mut list: Vec<Record> = vec![[0, 0, 0], [0, 1, 0], [5, 0, 0]];
@@ -318,4 +332,24 @@ pub(super) fn growing(n: usize) -> Vec<Record> {
         }
     }
     list
+}
+
+#[cfg(test)]
+mod tests {
+    use std::collections::BTreeSet;
+
+    use super::*;
+
+    #[test]
+    fn colliding_keys_are_keys_of_one_hash() {
+        let list = colliding(4_096);
+        let keys: BTreeSet<u64> = list.iter().map(|record| record[1]).collect();
+        assert_eq!(keys.len(), 2_048);
+        for key in keys {
+            assert!(model::is_key(key));
+            let (low, high) = (key as u32, (key >> 32) as u32);
+            let hash = low.wrapping_mul(1_013_904_243).wrapping_add(high.wrapping_mul(965_271_753));
+            assert_eq!(hash, 0);
+        }
+    }
 }
