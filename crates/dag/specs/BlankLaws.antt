@@ -1,4 +1,4 @@
--- A store filled with blanks from a place on, one word a turn.
+-- A store filled with blanks from a place on, or copied to from its start, one word a turn.
 use Prim.Native.Nat.{ℕ, zero, suc, _+_, _-_, _≤_, _<_}
 use mathlib.Core.List.{List, [], _∷_, _++_, append-nil, append-assoc}
 use mathlib.Core.Path.{_≡_, refl, sym, _∙_, ap}
@@ -6,7 +6,8 @@ use native.Mathlib.Nat.{sub-self}
 use native.Mathlib.Numerals.{add-one}
 use native.Mathlib.Omega.{arith}
 use lib.ListN.{getD, length, take, drop, set, replicate, length-append, length-replicate, take-append-drop, replicate-append-replicate, drop-of-length-le}
-use lib.Seq.{drop-cons, set-at, length-take-le}
+use lib.Seq.{drop-cons, set-at, take-suc, take-append-seam, length-take-le, append-snoc}
+use Rattle.dag.specs.Store.{copied}
 
 module _ (s : List ℕ) (from v : ℕ) where
   -- s with v from `from` up to i
@@ -42,3 +43,19 @@ pub all-zero : (n i : ℕ) → getD (replicate n zero) i zero ≡ zero
 all-zero zero i = refl
 all-zero (suc n) zero = refl
 all-zero (suc n) (suc i) = all-zero n i
+
+-- words copied from the start of s to the start of d
+module _ (s d : List ℕ) where
+  pub copied-none : d ≡ copied s d 0
+  unfolding copied
+  copied-none = refl
+
+  pub copied-more : (i : ℕ) → i < length s → i < length d → set (copied s d i) i (getD s i 0) ≡ copied s d (i + 1)
+  unfolding copied
+  copied-more i h k =
+      rw (add-one i, drop-cons d i 0 k, take-suc s i 0 h)
+      (set-at (take i s) (getD d i 0) (drop (suc i) d) (getD s i 0) i (length-take-le i s (omega arith)) ∙ sym (append-snoc (take i s) (getD s i 0) (drop (suc i) d)))
+
+  pub copied-front : (i : ℕ) {after : List ℕ} → i ≤ length s → after ≡ copied s d i → take i after ≡ take i s
+  unfolding copied
+  copied-front i h e = let q = take-append-seam (take i s) (drop i d) in ap (take i) e ∙ (rw (length-take-le i s h) at q)

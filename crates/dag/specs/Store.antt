@@ -1,10 +1,10 @@
 -- Stores of records: what a store holds once a record or a list is written into it, and what the tests of a list give.
 use Prim.Native.Nat.{ℕ, zero, suc, _+_, _*_, _≤_}
 use mathlib.Core.Bool.{Bool, cond, _&&_}
-use mathlib.Core.List.{List}
+use mathlib.Core.List.{List, _++_}
 use lib.Dec.{eqb}
 use mathlib.Core.Path.{_≡_}
-use lib.ListN.{getD, length, set}
+use lib.ListN.{getD, length, set, take, drop}
 use Rattle.dag.specs.Nodes.{tag, first, second}
 use Rattle.dag.specs.Check.{recordsCheck}
 use Rattle.dag.specs.declared.NodeKind.{NodeKind}
@@ -15,6 +15,10 @@ use Rattle.dag.specs.declared.Checked.the-variants.{Good}
 -- a store with the record x at place i
 unfoldable pub put : List ℕ → ℕ → NodeKind → List ℕ
 put s i x = set (set (set s (3 * i) (tag x)) (3 * i + 1) (first x)) (3 * i + 2) (second x)
+
+-- a store d with the first i words of s at its start
+unfoldable pub copied : List ℕ → List ℕ → ℕ → List ℕ
+copied s d i = take i s ++ drop i d
 
 -- the record at place i has the words t, a, b
 unfoldable pub wordsAre : List ℕ → ℕ → ℕ → ℕ → ℕ → Bool

@@ -374,6 +374,18 @@ pub fn lookup(list: &[u64], n: usize, x: NodeKind) -> Found
     Found::Missing
 }
 
+// Copies the first m words of a store to the start of another.
+pub fn copy_words(from: &[u64], m: usize, to: &mut [u64])
+    requires { ⌜ (m ≤ length (now from)) × (m ≤ length (now to)) ⌝ }
+    ensures { λ _. ⌜ now (to .exit) ≡ Store.copied (now (from .entry)) (now (to .entry)) m ⌝ }
+{
+    let mut i = 0;
+    while i < m {
+        to[i] = from[i];
+        i += 1;
+    }
+}
+
 // Fills a store with a word from a place on.
 pub fn fill(store: &mut [u64], from: usize, word: u64)
     requires { ⌜ from ≤ length (now store) ⌝ }

@@ -1,17 +1,17 @@
 -- Lower: its tests, what is built past them, and its answer and stores.
 use Prim.Native.Nat.{ℕ, zero, suc, _+_, _*_, _-_, _<_, _≤_}
-use mathlib.Core.Bool.{Bool, true, false, cond, _&&_, _||_}
+use mathlib.Core.Bool.{Bool, true, false, cond, _&&_}
 use mathlib.Core.List.{List, [], _∷_, _++_}
 use mathlib.Core.Logic.{_⊎_, inl, inr}
-use mathlib.Core.Path.{_≡_, refl, sym, _∙_, ap, ap₂, subst}
+use mathlib.Core.Path.{_≡_, refl, sym, _∙_, ap, subst}
 use native.Mathlib.Nat.{le-trans}
 use native.Mathlib.Numerals.{add-one}
 use native.Mathlib.Omega.{arith}
 use borrow.Author.Tests.{le-leb, lt-leb, eq-eqb, ne-eqb, leb-true, leb-false, eqb-true}
 use lib.Dec.{leb, eqb}
-use lib.ListN.{getD, length, take, drop, set, replicate, length-append, length-replicate, drop-of-length-le, List·getD-append}
+use lib.ListN.{getD, length, take, drop, replicate, drop-of-length-le, List·getD-append}
 use borrow.Rule.Slice.PartMut.{putMid, same-len-mid}
-use lib.Seq.{drop-at, drop-cons, take-suc, take-suc-set, getD-take, length-take-le, take-length}
+use lib.Seq.{drop-at, drop-cons, getD-take, length-take-le, take-length}
 use Rattle.field.specs.Field.{p, felt, quad}
 use Rattle.field.specs.Generators.{generator, half}
 use Rattle.dag.specs.Cases.{and-true, or-true, cond-elim, le-or-lt}
@@ -136,11 +136,7 @@ module _ (s : List ℕ) (n : ℕ) (ls es : List ℕ) (period workWords placeWord
 pub blank-whole : (s t : List ℕ) (n : ℕ) → length s ≡ n → t ≡ take 0 s ++ replicate (length s - 0) blank → t ≡ replicate n blank
 blank-whole s t n e q = let k : length s - 0 ≡ n = omega arith in q ∙ ap (λ k. replicate k blank) k
 
--- a store filled from another, word by word
-module _ (a b : List ℕ) (i : ℕ) where
-  pub fill-word : i < length a → i < length b → take i b ≡ take i a → take (i + 1) (set b i (getD a i 0)) ≡ take (i + 1) a
-  fill-word h k e = rw (add-one i, take-suc a i 0 h) (take-suc-set b i (getD a i 0) k ∙ ap (λ l. l ++ (getD a i 0 ∷ [])) e)
-
+-- a store filled from another
 pub filled-told : (a b c : List ℕ) (m n : ℕ) → m ≤ length a → take m b ≡ take m a → length b ≡ n → c ≡ take m b ++ replicate (length b - m) blank → c ≡ filled n (take m a)
 unfolding filled
 filled-told a b c m n h e k q = q ∙ rw (e, k, length-take-le m a h)

@@ -151,24 +151,12 @@ fn lower_check(
     Checked::Good
 }
 
-// Writes the first m words of a store to another.
-fn copy(from: &[u64], m: usize, to: &mut [u64])
-    requires { ⌜ (m ≤ length (now from)) × (m ≤ length (now to)) ⌝ }
-    ensures { λ _. ⌜ take m (now (to .exit)) ≡ take m (now (from .entry)) ⌝ }
-{
-    let mut i = 0;
-    while i < m {
-        to[i] = from[i];
-        i += 1;
-    }
-}
-
 // Writes the first m words of a store to another, blanks behind them.
 fn fill_from(from: &[u64], m: usize, to: &mut [u64])
     requires { ⌜ (m ≤ length (now from)) × (m ≤ length (now to)) ⌝ }
     ensures { λ _. ⌜ now (to .exit) ≡ filled (length (now (to .entry))) (take m (now (from .entry))) ⌝ }
 {
-    copy(from, m, to);
+    dag::copy_words(from, m, to);
     dag::blank_from(to, m);
 }
 
@@ -177,7 +165,7 @@ fn store_list(list: &[u64], n: usize, store: &mut [u64])
     requires { ⌜ Sound p (now list) n × (n ≤ mostRecords) × (length (now store) ≡ Run.storeWords) ⌝ }
     ensures { λ _. ⌜ CallLaws.Stored (now (list .entry)) n (now (store .exit)) ⌝ }
 {
-    copy(list, 3 * n, store);
+    dag::copy_words(list, 3 * n, store);
     index::index_list(list, n, &mut store[periodic::RECORD_WORDS..]);
 }
 

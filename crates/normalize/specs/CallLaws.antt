@@ -1,6 +1,6 @@
 -- Normalise: the rounds in its stores, from the copied list to the answer.
 use Prim.Native.Nat.{ℕ, zero, suc, pred, _+_, _*_, _-_, _<_, _≤_}
-use mathlib.Core.Bool.{Bool, true, false, _&&_, true≢false}
+use mathlib.Core.Bool.{Bool, true, false, _&&_}
 use mathlib.Core.List.{List, [], _∷_, _++_}
 use mathlib.Core.Path.{_≡_, refl, sym, _∙_, ap, ap₂}
 use native.Mathlib.Nat.{sub-zero}
@@ -8,17 +8,16 @@ use native.Mathlib.Numerals.{add-one}
 use native.Mathlib.Omega.{arith}
 use borrow.Author.Tests.{leb-true}
 use lib.Dec.{leb}
-use lib.ListN.{length, getD, take, drop, set, replicate}
-use lib.Seq.{set-at, take-suc, drop-cons, length-take-le, append-snoc}
-use Rattle.field.specs.Field.{p, quad, quad-laws, Below}
+use lib.ListN.{length, getD, take, replicate}
+use Rattle.field.specs.Field.{p, quad, quad-laws}
 use Rattle.dag.specs.Nodes.{blank, nodes, wordsOf, filled}
 use Rattle.dag.specs.NodeLaws.{length-nodes}
-use Rattle.dag.specs.Cases.{and-true, not-both}
+use Rattle.dag.specs.Cases.{and-true}
 use Rattle.dag.specs.Refusals.{need, _then_}
 use Rattle.dag.specs.Check.{listCheck}
 use Rattle.dag.specs.CheckLaws.{then-good, need-good}
 use Rattle.dag.specs.PassLaws.{rooted}
-use Rattle.dag.specs.Store.{Sound}
+use Rattle.dag.specs.Store.{Sound, copied}
 use Rattle.dag.specs.StoreLaws.{take-words}
 use Rattle.dag.specs.declared.NodeKind.{NodeKind}
 use Rattle.dag.specs.declared.Refusal.{Refusal}
@@ -29,9 +28,9 @@ use Rattle.builder.specs.Holds.{filled-list}
 use Rattle.compact.specs.Operands.{one-below}
 use Rattle.compact.specs.Reach.{here}
 use Rattle.compact.specs.Written.{written, nodes-written, sound-written}
-use Rattle.normalize.specs.Rounds.{rounded, isKept, roundsFrom, normalize, Normal}
+use Rattle.normalize.specs.Rounds.{rounded, isKept, roundsFrom, normalize}
 use Rattle.normalize.specs.RoundLaws.{rounded-inside}
-use Rattle.normalize.specs.RepeatLaws.{kept-shorter, given-back, rounds-elim}
+use Rattle.normalize.specs.RepeatLaws.{kept-shorter, given-back}
 use Rattle.normalize.specs.OnceLaws.{Ready, Once}
 use Rattle.normalize.specs.Calls.{normalizeCheck, normalized, normalizeAnswer, normalizeResult, normalizeWork}
 use Rattle.normalize.specs.declared.RoundKept.{RoundKept}
@@ -71,21 +70,6 @@ fuel-enough (suc f) g l roots k h j = go (isKept quad l roots) refl g j (λ d q.
     go true e (suc d) j again =
         let s = kept-shorter quad l roots e in
         rounds-kept f l roots k e ∙ (again d (omega arith) (omega arith) ∙ sym (rounds-kept d l roots k e))
-
--- words copied from the start of s to the start of d
-module _ (s d : List ℕ) where
-  pub copied : ℕ → List ℕ
-  copied i = take i s ++ drop i d
-
-  pub copied-none : d ≡ copied 0
-  unfolding copied
-  copied-none = refl
-
-  pub copied-more : (i : ℕ) → i < length s → i < length d → set (copied i) i (getD s i 0) ≡ copied (i + 1)
-  unfolding copied
-  copied-more i h k =
-      rw (add-one i, drop-cons d i 0 k, take-suc s i 0 h)
-      (set-at (take i s) (getD d i 0) (drop (suc i) d) (getD s i 0) i (length-take-le i s (omega arith)) ∙ sym (append-snoc (take i s) (getD s i 0) (drop (suc i) d)))
 
 -- the whole list copied
 pub copied-list : (s d : List ℕ) (n : ℕ) → Sound p s n → copied s d (3 * n) ≡ written d (nodes s n)

@@ -595,18 +595,6 @@ pub enum NormalizeAnswer {
     Refused(Refusal),
 }
 
-// Copies the first m words of a list to the start of the result store.
-fn copy_words(list: &[u64], m: usize, result: &mut [u64])
-    requires { ⌜ (m ≤ length (now list)) × (m ≤ length (now result)) ⌝ }
-    ensures { λ _. ⌜ now (result .exit) ≡ CallLaws.copied (now (list .entry)) (now (result .entry)) m ⌝ }
-{
-    let mut i = 0;
-    while i < m {
-        result[i] = list[i];
-        i += 1;
-    }
-}
-
 // Rounds on the list in the result store, until one isn't kept, with scratch stores lent.
 fn normalize_rounds(
     list: &[u64],
@@ -741,7 +729,7 @@ fn normalize_ready(
     requires { ⌜ CallLaws.Passed (now list) n root (length (now result)) (length (now work)) ⌝ }
     ensures { λ r. ⌜ CallLaws.Finished (now (list .entry)) n root (now (result .entry)) (now (work .entry)) r (now (result .exit)) (now (work .exit)) ⌝ }
 {
-    copy_words(list, 3 * n, result);
+    dag::copy_words(list, 3 * n, result);
     let end = rounds_of(list, n, root, result, work);
     dag::blank_from(result, 3 * end.count);
     dag::blank_from(work, 0);

@@ -1,14 +1,15 @@
+use Rattle.dag.specs.BlankLaws.{copied-front}
 use mathlib.Core.Path.{_∙_}
 use Rattle.lower.specs.CallLaws.{stored}
 use borrow.Author.Needs.{needs}
 use Rattle.lower.proofs.store_list.Statement.{statement}
 use Rattle.lower.proofs.store_list.Tie as tie
 
-mul-copy : tie.Need-mul-copy
-mul-copy c = search needs
+mul-copy-words : tie.Need-mul-copy-words
+mul-copy-words c = search needs
 
-copy-requires : tie.Need-copy-requires
-copy-requires c κs = search needs
+copy-words-requires : tie.Need-copy-words-requires
+copy-words-requires c κs = search needs
 
 sub-index-list : tie.Need-sub-index-list
 sub-index-list c = search needs
@@ -26,14 +27,14 @@ same-length : tie.Need-same-length
 same-length c = search needs
 
 returns : tie.Need-returns
-returns c = stored _ _ (c .before .before .before .before .before .before .before .before .before .before .pre .1) _ _ (c .before .before .before .before .before .before .copy .ensures) (c .before .before .before .before .before .before .copy .kept .1 .1 .0 ∙ c .before .before .before .before .before .before .before .before .before .before .pre .2) (c .before .before .index-list .ensures) (c .before .before .index-list .kept .1 .1 .0)
+returns c = stored _ _ (c .before .before .before .before .before .before .before .before .before .before .pre .1) _ _ (copied-front _ _ _ (c .before .before .before .before .before .before .before .before .before .before .pre .0 .room) (c .before .before .before .before .before .before .copy-words .ensures)) ((c .before .before .before .before .before .before .copy-words .kept .1 .1 .0) ∙ (c .before .before .before .before .before .before .before .before .before .before .pre .2)) (c .before .before .index-list .ensures) (c .before .before .index-list .kept .1 .1 .0)
 
 pub store-list-spec : {M : Type 1} → statement M
 store-list-spec =
     tie.close
     (tie.spec
-    mul-copy
-    copy-requires
+    mul-copy-words
+    copy-words-requires
     sub-index-list
     part-index-list-start
     part-index-list-end
