@@ -13,6 +13,7 @@ use Rattle.dag.specs.Store.{Sound, put}
 use Rattle.dag.specs.declared.NodeKind.{NodeKind}
 use Rattle.index.specs.Index as Index
 use Rattle.index.specs.IndexLaws.{length-noted}
+use Rattle.index.specs.NodeIndexLaws.{same-bucket}
 use Rattle.builder.specs.Contracts.{Request, resolved, Pushed, Room, Noted}
 use Rattle.builder.specs.RequestLaws.{noted-node}
 use Rattle.builder.specs.declared.Outcome.{Outcome}
@@ -80,7 +81,7 @@ pub noted-told : (s : List ℕ) (n : ℕ) (y : NodeKind) (t a b : ℕ) (ys : Lis
     → putMid (3 * mostRecords) (length s - 3 * mostRecords) s ys ≡ noted s n y
 unfolding noted
 noted-told s n y t a b ys long et ea eb e =
-    links-back s ys long ∙ ap (λ r. take (3 * mostRecords) s ++ r) (e ∙ (ap (λ k. Index.noted k n (Index.bucketOf (Index.half k) (Index.hash t a b))) (links-part s) ∙ rw (et, ea, eb)))
+    links-back s ys long ∙ ap (λ r. take (3 * mostRecords) s ++ r) (e ∙ (ap (λ k. Index.noted k n (Index.bucketOf (Index.half k) (Index.hash t a b))) (links-part s) ∙ ap (Index.noted (links s) n) (same-bucket (Index.half (links s)) et ea eb)))
 
 -- a record that is put leaves the index as it is
 pub put-links : (s : List ℕ) (n : ℕ) (y : NodeKind) → n < mostRecords → links (put s n y) ≡ links s
