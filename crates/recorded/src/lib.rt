@@ -2,13 +2,16 @@
 // The number of cases; for each its numbers, its stores as lent, the answer, and the written stores after the call.
 // A store is a filling word, the number of words given and those words, with the store's length before it where it is lent.
 // Past the stream's end every word is 0.
+ghost use mathlib.Core.Path.{_≡_};
 ghost use Prim.Native.Nat.{_+_, _<_, _≤_};
+ghost use lib.Dec.{eqb};
 ghost use lib.ListN.{length};
 ghost use Rattle.io.specs.Counts.{Counts};
+ghost use Rattle.recorded.specs.Stream as Stream;
 
 // The number of a byte.
 fn wide(b: u8) -> u64
-    ensures { λ r. ⌜ r < 256 ⌝ }
+    ensures { λ r. ⌜ (r ≡ b) × (r < 256) ⌝ }
 {
     b as u64
 }
@@ -16,22 +19,24 @@ fn wide(b: u8) -> u64
 // The four bytes from a place as a number, lowest first.
 fn half(s: &[u8], at: usize) -> u64
     requires { ⌜ at + 4 ≤ length (now s) ⌝ }
-    ensures { λ r. ⌜ r < 4294967296 ⌝ }
+    ensures { λ r. ⌜ (r ≡ Stream.half (now (s .entry)) at) × (r < 4294967296) ⌝ }
 {
     wide(s[at]) + 256 * wide(s[at + 1]) + 65536 * wide(s[at + 2]) + 16777216 * wide(s[at + 3])
 }
 
 // The word at a place.
-pub fn word(s: &[u8], at: usize) -> u64 {
+pub fn word(s: &[u8], at: usize) -> u64
+    ensures { λ r. ⌜ r ≡ Stream.word (now (s .entry)) at ⌝ }
+{
     if s.len() / 8 <= at {
         return 0;
     }
     half(s, 8 * at) + 4294967296 * half(s, 8 * at + 4)
 }
 
-// The place k words behind a place, or a place past the end.
+// The place k words behind a place, at most the stream's length.
 pub fn skip(s: &[u8], at: usize, k: u64) -> usize
-    ensures { λ r. ⌜ r ≤ length (now (s .entry)) ⌝ }
+    ensures { λ r. ⌜ r ≡ Stream.behind (now (s .entry)) at k ⌝ }
 {
     let end = s.len();
     if end <= at {
@@ -69,7 +74,9 @@ fn place(s: &[u8], at: usize, head: u64, k: u64, count: u64) -> usize {
 }
 
 // The word k words behind a place.
-pub fn number(s: &[u8], at: usize, k: u64) -> u64 {
+pub fn number(s: &[u8], at: usize, k: u64) -> u64
+    ensures { λ r. ⌜ r ≡ Stream.word (now (s .entry)) (Stream.behind (now (s .entry)) at k) ⌝ }
+{
     word(s, skip(s, at, k))
 }
 
@@ -85,7 +92,10 @@ pub fn length_of(s: &[u8], at: usize, k: u64, count: u64, room: &[u64]) -> usize
 }
 
 // Word i of a store: the word recorded at `from`, or its filling word where none is.
-fn recorded(s: &[u8], at: usize, from: usize, i: u64) -> u64 {
+fn recorded(s: &[u8], at: usize, from: usize, i: u64) -> u64
+    requires { ⌜ «from» ≡ Stream.behind (now s) at (2 + i) ⌝ }
+    ensures { λ r. ⌜ r ≡ Stream.given (now (s .entry)) at i ⌝ }
+{
     if i < number(s, at, 1) {
         word(s, from)
     } else {
@@ -94,7 +104,9 @@ fn recorded(s: &[u8], at: usize, from: usize, i: u64) -> u64 {
 }
 
 // Lays a recorded store into this one, and answers whether it has that length.
-fn lay(s: &[u8], at: usize, store: &mut [u64]) -> bool {
+fn lay(s: &[u8], at: usize, store: &mut [u64]) -> bool
+    ensures { λ r. ⌜ (r ≡ eqb (Stream.word (now (s .entry)) at) (length (now (store .entry)))) × Stream.Laid (now (s .entry)) (Stream.behind (now (s .entry)) at 1) (length (now (store .exit))) (now (store .exit)) ⌝ }
+{
     let packed = skip(s, at, 1);
     let mut from = skip(s, packed, 2);
     let mut i = 0;
@@ -108,7 +120,9 @@ fn lay(s: &[u8], at: usize, store: &mut [u64]) -> bool {
 }
 
 // Whether a store holds what is recorded of it.
-fn holds(s: &[u8], at: usize, store: &[u64]) -> bool {
+fn holds(s: &[u8], at: usize, store: &[u64]) -> bool
+    ensures { λ r. ⌜ r ≡ Stream.holds (now (s .entry)) at (now (store .entry)) ⌝ }
+{
     let mut from = skip(s, at, 2);
     let mut i = 0;
     while i < store.len() {
@@ -145,8 +159,10 @@ pub fn hold_all(s: &[u8], at: usize, count: u64, a: &[u64], b: &[u64], c: &[u64]
 }
 
 // Whether words are those recorded from a place on.
-pub fn follow(s: &[u8], at: usize, words: &[u64]) -> bool {
-    let mut from = at;
+pub fn follow(s: &[u8], at: usize, words: &[u64]) -> bool
+    ensures { λ r. ⌜ r ≡ Stream.follows (now (s .entry)) at (now (words .entry)) ⌝ }
+{
+    let mut from = skip(s, at, 0);
     let mut i = 0;
     while i < words.len() {
         if words[i] != word(s, from) {

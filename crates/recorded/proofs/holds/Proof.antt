@@ -1,12 +1,15 @@
--- `recorded::holds` is safe and ends: every word is passed once.
+use Prim.Native.Nat.{_+_, _-_, _≤_}
+use mathlib.Core.Path.{_≡_}
+use native.Mathlib.Omega.{arith}
 use borrow.Author.Needs.{needs}
 use lib.ListN.{length}
-use Prim.Native.Nat.{_≤_, _-_}
+use Rattle.recorded.specs.Stream.{behind}
+use Rattle.recorded.specs.StreamLaws.{Held, held-none, held-next, held-not, held-all, walk-store}
 use Rattle.recorded.proofs.holds.Statement.{statement}
 use Rattle.recorded.proofs.holds.Tie as tie
 
 abbrev Inv-loop : tie.InvT-loop
-Inv-loop s at store from₀ i₀ from i = i ≤ length store
+Inv-loop s at store from₀ i₀ from i = (i ≤ length store) × («from» ≡ behind s at (2 + i)) × Held s at store i
 
 abbrev μ-loop : tie.MeasureT-loop
 μ-loop s at store from₀ i₀ from i = length store - i
@@ -15,7 +18,7 @@ skip-requires : tie.Need-skip-requires Inv-loop μ-loop
 skip-requires c κs = search needs
 
 loop-holds : tie.Need-loop-holds Inv-loop μ-loop
-loop-holds c = search needs
+loop-holds c = (omega arith, (c .skip .ensures), held-none (c .before .before .before .args .s .now) (c .before .before .before .args .at) (c .before .before .before .args .store .now))
 
 mul-if1 : tie.Need-mul-if1 Inv-loop μ-loop
 mul-if1 c = search needs
@@ -24,10 +27,10 @@ shared-slice-read-if1 : tie.Need-shared-slice-read-if1 Inv-loop μ-loop
 shared-slice-read-if1 c = search needs
 
 recorded-requires : tie.Need-recorded-requires Inv-loop μ-loop
-recorded-requires c κs = search needs
+recorded-requires c κs = (c .before .before .loop .inv .1)
 
 returns : tie.Need-returns Inv-loop μ-loop
-returns c = search needs
+returns c = held-not (c .before .before .before .before .before .before .before .before .args .s .now) (c .before .before .before .before .before .before .before .before .args .at) (c .before .before .before .before .before .before .before .before .args .store .now) _ _ (c .before .before .before .loop-test .taken) (c .before .recorded .ensures) (c .if1 .taken)
 
 skip-requires-2 : tie.Need-skip-requires-2 Inv-loop μ-loop
 skip-requires-2 c κs = search needs
@@ -39,13 +42,13 @@ loop-less : tie.Need-loop-less Inv-loop μ-loop
 loop-less c = search needs
 
 loop-again : tie.Need-loop-again Inv-loop μ-loop
-loop-again c = search needs
+loop-again c = (omega (arith, (c .before .before .before .before .loop-test .taken)), walk-store (c .before .before .before .before .before .before .before .before .before .args .s .now) (c .before .before .before .before .before .before .before .before .before .args .at) _ _ _ (c .before .before .before .before .before .loop .inv .1) (c .skip2 .ensures), held-next (c .before .before .before .before .before .before .before .before .before .args .s .now) (c .before .before .before .before .before .before .before .before .before .args .at) (c .before .before .before .before .before .before .before .before .before .args .store .now) _ _ (c .before .before .before .before .before .loop .inv .2) (c .before .before .recorded .ensures) (c .before .if1 .left))
 
 number-requires : tie.Need-number-requires Inv-loop μ-loop
 number-requires c κs = search needs
 
 returns-2 : tie.Need-returns-2 Inv-loop μ-loop
-returns-2 c = search needs
+returns-2 c = held-all (c .before .before .before .before .before .before .args .s .now) (c .before .before .before .before .before .before .args .at) (c .before .before .before .before .before .before .args .store .now) _ _ (c .before .before .loop .inv .0) (c .before .loop-test .left) (c .before .before .loop .inv .2) (c .number .ensures)
 
 pub holds-spec : {M : Type 1} → statement M
 holds-spec =

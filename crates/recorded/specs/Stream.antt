@@ -1,0 +1,40 @@
+-- A stream of 64-bit words, lowest byte first, and the stores recorded in it (rust/differential/src/record.rs).
+use Prim.Native.Nat.{ℕ, zero, suc, _+_, _*_, _/_, _<_}
+use mathlib.Core.Bool.{Bool, true, cond, _&&_}
+use mathlib.Core.List.{List}
+use mathlib.Core.Path.{_≡_}
+use lib.Dec.{leb, ltb, eqb}
+use lib.ListN.{getD, length}
+
+-- the four bytes from place i on
+unfoldable pub half : List ℕ → ℕ → ℕ
+half s i = getD s i 0 + 256 * getD s (i + 1) 0 + 65536 * getD s (i + 2) 0 + 16777216 * getD s (i + 3) 0
+
+-- word i; 0 where the stream has no such word
+unfoldable pub word : List ℕ → ℕ → ℕ
+word s i = cond (leb (length s / 8) i) 0 (half s (8 * i) + 4294967296 * half s (8 * i + 4))
+
+-- the place k words behind a place, at most the stream's length
+unfoldable pub behind : List ℕ → ℕ → ℕ → ℕ
+behind s i k = cond (leb (length s) (i + k)) (length s) (i + k)
+
+-- a test holds below n
+unfoldable pub every : (ℕ → Bool) → ℕ → Bool
+every test zero = true
+every test (suc n) = every test n && test n
+
+-- word i of the store recorded at a place: a filling word, the number of words given, and those words
+unfoldable pub given : List ℕ → ℕ → ℕ → ℕ
+given s at i = cond (ltb i (word s (behind s at 1))) (word s (behind s at (2 + i))) (word s at)
+
+-- a store is what is recorded of it
+unfoldable pub holds : List ℕ → ℕ → List ℕ → Bool
+holds s at store = every (λ i. eqb (getD store i 0) (given s at i)) (length store) && leb (word s (behind s at 1)) (length store)
+
+-- words are those recorded from a place on
+unfoldable pub follows : List ℕ → ℕ → List ℕ → Bool
+follows s at words = every (λ i. eqb (getD words i 0) (word s (behind s at i))) (length words)
+
+-- the first n words of a store are those recorded at a place
+abbrev pub Laid : List ℕ → ℕ → ℕ → List ℕ → Type 0
+Laid s at n store = (i : ℕ) → i < n → getD store i 0 ≡ given s at i
