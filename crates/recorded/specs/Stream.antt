@@ -27,9 +27,26 @@ every test (suc n) = every test n && test n
 unfoldable pub given : List ℕ → ℕ → ℕ → ℕ
 given s at i = cond (ltb i (word s (behind s at 1))) (word s (behind s at (2 + i))) (word s at)
 
+-- the place behind the store recorded at a place
+unfoldable pub pastStore : List ℕ → ℕ → ℕ
+pastStore s at = behind s (behind s at 2) (word s (behind s at 1))
+
+-- the place behind k stores, each with so many words before its filling word
+unfoldable pub past : List ℕ → ℕ → ℕ → ℕ → ℕ
+past s at head zero = at
+past s at head (suc k) = pastStore s (behind s (past s at head k) head)
+
+-- the place of store k of so many, or the stream's end
+unfoldable pub storeAt : List ℕ → ℕ → ℕ → ℕ → ℕ → ℕ
+storeAt s at head k count = cond (ltb k count) (past s at head k) (length s)
+
 -- a store is what is recorded of it
 unfoldable pub holds : List ℕ → ℕ → List ℕ → Bool
 holds s at store = every (λ i. eqb (getD store i 0) (given s at i)) (length store) && leb (word s (behind s at 1)) (length store)
+
+-- three stores are what is recorded of so many of them
+unfoldable pub holdAll : List ℕ → ℕ → ℕ → List ℕ → List ℕ → List ℕ → Bool
+holdAll s at count a b c = holds s (storeAt s at 0 0 count) a && holds s (storeAt s at 0 1 count) b && holds s (storeAt s at 0 2 count) c
 
 -- words are those recorded from a place on
 unfoldable pub follows : List ℕ → ℕ → List ℕ → Bool

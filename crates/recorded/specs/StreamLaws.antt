@@ -11,7 +11,7 @@ use borrow.Author.Tests.{leb-true, leb-false, le-leb, lt-leb, eq-eqb, ne-eqb}
 use lib.Dec.{leb, eqb}
 use lib.ListN.{getD, length, set}
 use lib.Seq.{getD-set-same, getD-set-other}
-use Rattle.recorded.specs.Stream.{word, behind, every, given, holds, follows, Laid}
+use Rattle.recorded.specs.Stream.{word, behind, pastStore, past, every, given, holds, follows, Laid}
 
 -- the place behind a place
 module _ (s : List ℕ) (at k : ℕ) where
@@ -50,6 +50,18 @@ walk-next s at k from next e q = q ∙ (ap (λ f. behind s f 1) e ∙ behind-nex
 -- the same behind the two words before a store's own
 pub walk-store : (s : List ℕ) (at i from next : ℕ) → from ≡ behind s at (2 + i) → next ≡ behind s from 1 → next ≡ behind s at (2 + (i + 1))
 walk-store s at i from next e q = let same : 2 + i + 1 ≡ 2 + (i + 1) = omega arith in walk-next s at (2 + i) from next e q ∙ ap (behind s at) same
+
+pub past-none : (s : List ℕ) (at head k : ℕ) → at ≡ past s at head (k - k)
+unfolding past
+past-none s at head k = let e : k - k ≡ 0 = omega arith in rw e
+
+pub past-all : (s : List ℕ) (at head k left : ℕ) → left ≤ 0 → past s at head (k - left) ≡ past s at head k
+past-all s at head k left h = let e : k - left ≡ k = omega arith in rw e
+
+-- one store more, of k with so many left
+pub past-next : (s : List ℕ) (at head k left : ℕ) → 0 < left → left ≤ k → pastStore s (behind s (past s at head (k - left)) head) ≡ past s at head (k - (left - 1))
+unfolding past
+past-next s at head k left h j = let e : k - (left - 1) ≡ suc (k - left) = omega arith in rw e
 
 -- a test below a number
 module _ (test : ℕ → Bool) where
@@ -136,3 +148,14 @@ pub laid-all : (s : List ℕ) (at packed i w : ℕ) (old store : List ℕ) → p
 laid-all s at packed i w old store e h k q d v =
     let whole : i ≡ length old = omega arith in
     (rw (whole, v), λ j r. d j (omega arith) ∙ ap (λ p. given s p j) e)
+
+-- three tests, one after the other
+pub all-first : (a b c : Bool) → a ≡ false → false ≡ (a && b && c)
+all-first a b c e = rw e
+
+pub all-second : (a b c : Bool) → b ≡ false → false ≡ (a && b && c)
+all-second true b c e = rw e
+all-second false b c e = refl
+
+pub all-third : (a b c : Bool) → a ≡ true → b ≡ true → c ≡ (a && b && c)
+all-third a b c e q = rw (e, q)

@@ -3,6 +3,7 @@
 // A store is a filling word, the number of words given and those words, with the store's length before it where it is lent.
 // Past the stream's end every word is 0.
 ghost use mathlib.Core.Path.{_≡_};
+ghost use mathlib.Core.Bool.{_&&_};
 ghost use Prim.Native.Nat.{_+_, _<_, _≤_};
 ghost use lib.Dec.{eqb};
 ghost use lib.ListN.{length};
@@ -49,7 +50,9 @@ pub fn skip(s: &[u8], at: usize, k: u64) -> usize
 }
 
 // The place behind k stores from a place on, each with `head` words before its filling word.
-pub fn past(s: &[u8], at: usize, head: u64, k: u64) -> usize {
+pub fn past(s: &[u8], at: usize, head: u64, k: u64) -> usize
+    ensures { λ r. ⌜ r ≡ Stream.past (now (s .entry)) at head k ⌝ }
+{
     let mut place = at;
     let mut left = k;
     while 0 < left {
@@ -60,12 +63,16 @@ pub fn past(s: &[u8], at: usize, head: u64, k: u64) -> usize {
 }
 
 // The place behind a filling word, the number of words given and those words.
-fn past_words(s: &[u8], at: usize) -> usize {
+fn past_words(s: &[u8], at: usize) -> usize
+    ensures { λ r. ⌜ r ≡ Stream.pastStore (now (s .entry)) at ⌝ }
+{
     skip(s, skip(s, at, 2), number(s, at, 1))
 }
 
 // Of `count` stores from a place on, the place of store k, or one past the end where there is none.
-fn place(s: &[u8], at: usize, head: u64, k: u64, count: u64) -> usize {
+fn place(s: &[u8], at: usize, head: u64, k: u64, count: u64) -> usize
+    ensures { λ r. ⌜ r ≡ Stream.storeAt (now (s .entry)) at head k count ⌝ }
+{
     if k < count {
         past(s, at, head, k)
     } else {
@@ -135,6 +142,19 @@ fn holds(s: &[u8], at: usize, store: &[u64]) -> bool
     number(s, at, 1) <= i as u64
 }
 
+// Whether all three hold.
+pub fn all(a: bool, b: bool, c: bool) -> bool
+    ensures { λ r. ⌜ r ≡ (a && b && c) ⌝ }
+{
+    if !a {
+        return false;
+    }
+    if !b {
+        return false;
+    }
+    c
+}
+
 // Lays the `count` stores recorded from a place on into these, and answers whether each has its length.
 pub fn lay_all(
     s: &[u8],
@@ -147,15 +167,17 @@ pub fn lay_all(
     let first = lay(s, place(s, at, 1, 0, count), a);
     let second = lay(s, place(s, at, 1, 1, count), b);
     let third = lay(s, place(s, at, 1, 2, count), c);
-    first && second && third
+    all(first, second, third)
 }
 
 // Whether these hold what is recorded of the `count` stores from a place on.
-pub fn hold_all(s: &[u8], at: usize, count: u64, a: &[u64], b: &[u64], c: &[u64]) -> bool {
+pub fn hold_all(s: &[u8], at: usize, count: u64, a: &[u64], b: &[u64], c: &[u64]) -> bool
+    ensures { λ r. ⌜ r ≡ Stream.holdAll (now (s .entry)) at count (now (a .entry)) (now (b .entry)) (now (c .entry)) ⌝ }
+{
     let first = holds(s, place(s, at, 0, 0, count), a);
     let second = holds(s, place(s, at, 0, 1, count), b);
     let third = holds(s, place(s, at, 0, 2, count), c);
-    first && second && third
+    all(first, second, third)
 }
 
 // Whether words are those recorded from a place on.

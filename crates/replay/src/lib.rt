@@ -4,6 +4,7 @@ mod calls;
 pub use calls::Call;
 use calls::shape_of;
 use libc::STDOUT_FILENO;
+use recorded::all;
 use recorded::hold_all;
 use recorded::lay_all;
 use recorded::length_of;
@@ -22,11 +23,6 @@ struct Tally {
 struct Case {
     same: bool,
     next: usize,
-}
-
-// Whether all three hold.
-fn all(a: bool, b: bool, c: bool) -> bool {
-    a && b && c
 }
 
 // The case at a place, with the stores that its call reads, a to c, and those that it writes, x to z.

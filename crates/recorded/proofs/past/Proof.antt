@@ -1,16 +1,20 @@
--- `recorded::past` is safe and ends: a store is passed in each round.
+use Prim.Native.Nat.{_-_, _≤_}
+use mathlib.Core.Path.{_≡_, _∙_, ap}
+use native.Mathlib.Omega.{arith}
 use borrow.Author.Needs.{needs}
+use Rattle.recorded.specs.Stream.{behind, pastStore, past}
+use Rattle.recorded.specs.StreamLaws.{past-none, past-next, past-all}
 use Rattle.recorded.proofs.past.Statement.{statement}
 use Rattle.recorded.proofs.past.Tie as tie
 
 abbrev Inv-loop : tie.InvT-loop
-Inv-loop s at head k place₀ left₀ place left = Unit {0}
+Inv-loop s at head k place₀ left₀ place left = (left ≤ k) × (place ≡ past s at head (k - left))
 
 abbrev μ-loop : tie.MeasureT-loop
 μ-loop s at head k place₀ left₀ place left = left
 
 loop-holds : tie.Need-loop-holds Inv-loop μ-loop
-loop-holds c = search needs
+loop-holds c = (omega arith, past-none (c .before .args .s .now) (c .before .args .at) (c .before .args .head) (c .before .args .k))
 
 skip-requires : tie.Need-skip-requires Inv-loop μ-loop
 skip-requires c κs = search needs
@@ -19,16 +23,16 @@ past-words-requires : tie.Need-past-words-requires Inv-loop μ-loop
 past-words-requires c κs = search needs
 
 sub-left : tie.Need-sub-left Inv-loop μ-loop
-sub-left c = search needs
+sub-left c = omega arith
 
 loop-less : tie.Need-loop-less Inv-loop μ-loop
-loop-less c = search needs
+loop-less c = omega arith
 
 loop-again : tie.Need-loop-again Inv-loop μ-loop
-loop-again c = search needs
+loop-again c = (omega arith, (c .past-words .ensures) ∙ (ap (pastStore (c .before .before .before .before .before .args .s .now)) ((c .before .skip .ensures) ∙ ap (λ p. behind (c .before .before .before .before .before .args .s .now) p (c .before .before .before .before .before .args .head)) (c .before .before .before .loop .inv .1)) ∙ past-next (c .before .before .before .before .before .args .s .now) (c .before .before .before .before .before .args .at) (c .before .before .before .before .before .args .head) (c .before .before .before .before .before .args .k) (c .before .before .before .loop .left) (omega arith) (c .before .before .before .loop .inv .0)))
 
 returns : tie.Need-returns Inv-loop μ-loop
-returns c = search needs
+returns c = (c .before .loop .inv .1) ∙ past-all (c .before .before .before .args .s .now) (c .before .before .before .args .at) (c .before .before .before .args .head) (c .before .before .before .args .k) (c .before .loop .left) (omega arith)
 
 pub past-spec : {M : Type 1} → statement M
 past-spec =
