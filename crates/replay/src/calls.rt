@@ -1,6 +1,18 @@
 // The exported calls, each on the numbers and stores of a recorded case.
 use recorded::follow;
 use recorded::number;
+ghost use mathlib.Core.Path.{_≡_};
+ghost use lib.ListN.{length};
+ghost use Rattle.field.specs.Field.{p};
+ghost use Rattle.recorded.specs.Stream as Stream;
+ghost use Rattle.builder.specs.Calls as Building;
+ghost use Rattle.compact.specs.Calls as Compaction;
+ghost use Rattle.normalize.specs.Calls as Normalising;
+ghost use Rattle.evaluate.specs.Calls as Evaluation;
+ghost use Rattle.columns.specs.Prepare as Prepare;
+ghost use Rattle.lower.specs.Lower as Lowering;
+ghost use Rattle.ace.specs.Answers as Answers;
+ghost use Rattle.replay.specs.Cases as Cases;
 
 // A call.
 pub enum Call {
@@ -46,17 +58,23 @@ pub fn shape_of(call: Call) -> Shape {
 }
 
 // Whether an answer is the one recorded.
-fn answers(s: &[u8], said: usize, answer: &[u64; 4]) -> bool {
+fn answers(s: &[u8], said: usize, answer: &[u64; 4]) -> bool
+    ensures { λ r. ⌜ r ≡ Stream.follows (now (s .entry)) said (now (answer .entry)) ⌝ }
+{
     follow(s, said, answer)
 }
 
 // Whether a long answer is the one recorded.
-fn answers_long(s: &[u8], said: usize, answer: &[u64; 18]) -> bool {
+fn answers_long(s: &[u8], said: usize, answer: &[u64; 18]) -> bool
+    ensures { λ r. ⌜ r ≡ Stream.follows (now (s .entry)) said (now (answer .entry)) ⌝ }
+{
     follow(s, said, answer)
 }
 
 // Step on the case at a place: whether its answer is the one recorded at `said`.
-fn step(s: &[u8], at: usize, said: usize, list: &mut [u64]) -> bool {
+fn step(s: &[u8], at: usize, said: usize, list: &mut [u64]) -> bool
+    ensures { λ r. ⌜ r ≡ Stream.follows (now (s .entry)) said (Answers.stepWords (Building.stepAnswer (now (list .entry)) (Cases.number (now (s .entry)) at 0) (Cases.number (now (s .entry)) at 1) (Cases.number (now (s .entry)) at 2) (Cases.number (now (s .entry)) at 3))) ⌝ }
+{
     let mut answer = [0u64; 4];
     let n = number(s, at, 0) as usize;
     ace::ace_step(
