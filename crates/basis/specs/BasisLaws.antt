@@ -1,11 +1,10 @@
 -- The classes of a column in basis, by the tests that the code makes.
-use Prim.Native.Nat.{ℕ, zero, suc, _+_, _-_, _<_, _≤_}
-use mathlib.Core.Bool.{Bool, true, false, cond, not, _&&_}
-use mathlib.Core.List.{List, [], _∷_}
-use mathlib.Core.Path.{_≡_, refl, sym, _∙_, ap, subst}
+use Prim.Native.Nat.{ℕ, _+_, _-_, _<_, _≤_}
+use mathlib.Core.Bool.{true}
+use mathlib.Core.List.{List}
+use mathlib.Core.Path.{_≡_, sym, _∙_, ap, subst}
 use native.Mathlib.Omega.{arith}
 use borrow.Author.Tests.{eq-eqb, ne-eqb}
-use lib.Dec.{eqb}
 use lib.ListN.{getD, length, take, replicate}
 use lib.Seq.{take-at}
 use Rattle.ring.specs.Power.{low-pow}
@@ -17,10 +16,9 @@ use Rattle.columns.specs.ClassLaws.{below-values}
 use Rattle.columns.specs.ArrayLaws.{length-upTo, getD-upTo, getD-filled}
 use Rattle.coefficients.specs.Terms.{root}
 use Rattle.coefficients.specs.Arrays.{roots}
-use Rattle.builder.specs.declared.Entered.{Entered}
-use Rattle.periodic.specs.Builder.{Builder, done, _>>=_, add}
+use Rattle.periodic.specs.Builder.{done, _>>=_, add}
 use Rattle.periodic.specs.Periodic.{backwards, factor, element, classTurn, coefficient, isAdded, isSubtracted, addClass, subClass, addTurn, subTurn}
-use Rattle.periodic.specs.Running.{Inside, AllInside, Entering}
+use Rattle.periodic.specs.Contracts.{Inside, AllInside, Entering}
 use Rattle.periodic.specs.RunLaws.{ran-done}
 use Rattle.periodic.specs.ListLaws.{all-later}
 use Rattle.basis.specs.Contracts as Said

@@ -10,7 +10,7 @@ use Rattle.columns.specs.Columns.{values, offset}
 use Rattle.columns.specs.Prepare.{allBelow}
 use Rattle.coefficients.specs.Terms.{root}
 use Rattle.periodic.specs.Builder.{Builder, _>>=_, constant, sub}
-use Rattle.periodic.specs.Running.{AllInside}
+use Rattle.periodic.specs.Contracts.{AllInside}
 
 -- point − root
 unfoldable pub factor : ℕ → ℕ → Builder ℕ

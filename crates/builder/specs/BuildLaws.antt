@@ -2,15 +2,15 @@
 use Prim.Native.Nat.{ℕ, _+_, _*_, _-_, _<_, _≤_}
 use mathlib.Core.Bool.{_&&_}
 use mathlib.Core.List.{List, _++_}
-use mathlib.Core.Path.{_≡_, refl, sym, _∙_, ap, ap₂}
+use mathlib.Core.Path.{_≡_, _∙_, ap, ap₂}
 use native.Mathlib.Omega.{arith}
 use borrow.Author.Tests.{leb-true}
 use lib.Dec.{leb}
-use lib.ListN.{length, getD, take, replicate, List·getD-append}
+use lib.ListN.{length, take, replicate, List·getD-append}
 use lib.Seq.{getD-take, length-take-le}
-use Rattle.field.specs.Field.{p, quad, quad-laws, Below}
-use Rattle.dag.specs.Nodes.{blank, mostRecords, nodes, wordsOf, filled}
-use Rattle.dag.specs.Cases.{and-true}
+use Rattle.field.specs.Field.{p, quad, quad-laws}
+use Rattle.dag.specs.Nodes.{blank, nodes, wordsOf, filled}
+use Rattle.dag.specs.CaseLaws.{and-true}
 use Rattle.dag.specs.Refusals.{need, _then_}
 use Rattle.dag.specs.Check.{listCheck}
 use Rattle.dag.specs.CheckLaws.{then-good, need-good}
@@ -19,22 +19,15 @@ use Rattle.dag.specs.Store.{Sound}
 use Rattle.dag.specs.declared.Refusal.{Refusal}
 use Rattle.dag.specs.declared.Refusal.the-variants.{StoreTooShort}
 use Rattle.dag.specs.declared.Checked.the-variants.{Good, Refused}
-use Rattle.builder.specs.Steps.{Replay, placeOf, replay}
+use Rattle.builder.specs.Steps.{placeOf, replay}
 use Rattle.builder.specs.ReplayLaws.{replay-replayed}
 use Rattle.builder.specs.OutcomeLaws.{list-fine}
 use Rattle.builder.specs.Calls.{buildCheck, buildAnswer, buildResult, buildMap}
-use Rattle.builder.specs.Holds.{read, Holds, count-is, place-read, filled-list, filled-map}
+use Rattle.builder.specs.HoldLaws.{count-is, place-read, filled-list, filled-map}
+use Rattle.builder.specs.Contracts.{read, Holds, Ready, Finished}
 use Rattle.builder.specs.declared.BuildAnswer.{BuildAnswer}
 use Rattle.builder.specs.declared.BuildAnswer.the-variants.{Done}
 use Rattle.builder.specs.declared.BuildAnswer.the-variants as BuildAnswer'
-
--- what Build asks once its tests have passed
-pub record Ready (s : List ℕ) (n root resultWords mapWords : ℕ) : Type 0 where
-  pub sound : Sound p s n
-  pub result-room : 3 * n ≤ resultWords
-  pub map-room : n ≤ mapWords
-  pub inside : root < n
-  pub most : n ≤ mostRecords
 
 pub ready : (s : List ℕ) (n root resultWords mapWords : ℕ) → buildCheck s n root resultWords mapWords ≡ Good → Ready s n root resultWords mapWords
 unfolding buildCheck
@@ -49,12 +42,6 @@ ready s n root resultWords mapWords e =
       inside = list .inside;
       most = list .list .most;
     }
-
--- the answer and the stores of a replay r
-pub record Finished (r : Replay) (root : ℕ) (result map : List ℕ) (a : BuildAnswer) (after places : List ℕ) : Type 0 where
-  pub answer : a ≡ Done (length (r .list)) (placeOf r root)
-  pub list-is : after ≡ filled (length result) (wordsOf (r .list))
-  pub places-are : places ≡ filled (length map) (r .map)
 
 module _ (s : List ℕ) (n root : ℕ) (result map : List ℕ) (sound : Sound p s n) (inside : root < n) where
   -- the stores after the replay, with blanks behind what was filled

@@ -1,20 +1,17 @@
 -- Step and Build (document 01, 'Each call and when it says no'): the answer, and every word of every lent store, on all inputs.
-use Prim.Native.Nat.{ℕ, suc, _+_, _*_}
-use mathlib.Core.Bool.{Bool, cond, _&&_}
-use mathlib.Core.List.{List, [], _∷_}
+use Prim.Native.Nat.{ℕ, _+_, _*_}
+use mathlib.Core.Bool.{Bool, _&&_, _||_}
+use mathlib.Core.List.{List}
 use lib.Dec.{leb, ltb}
 use lib.ListN.{length}
 use Rattle.field.specs.Field.{p, quad}
 use Rattle.dag.specs.Nodes.{mostRecords, decode, nodes, wordsOf, filled}
 use Rattle.dag.specs.Refusals.{need, _then_, unlessRefused}
 use Rattle.dag.specs.Check.{recordCheck, rootlessCheck, listCheck}
-use Rattle.dag.specs.Store.{put}
+use Rattle.dag.specs.Store.{written}
 use Rattle.dag.specs.declared.Refusal.the-variants.{StoreTooShort, NoRoom}
 use Rattle.dag.specs.declared.Checked.{Checked}
-use Rattle.builder.specs.Steps.{replay, placeOf}
-use Rattle.builder.specs.Contracts.{resolved}
-use Rattle.builder.specs.declared.Outcome.{Outcome}
-use Rattle.builder.specs.declared.Outcome.the-variants.{Place, Node}
+use Rattle.builder.specs.Steps.{Built, step, replay, placeOf}
 use Rattle.builder.specs.declared.StepAnswer.{StepAnswer}
 use Rattle.builder.specs.declared.StepAnswer.the-variants as StepAnswer'
 use Rattle.builder.specs.declared.BuildAnswer.{BuildAnswer}
@@ -28,23 +25,27 @@ stepCheck s n t a b = rootlessCheck p 0 s n then recordCheck p t a b n
 unfoldable pub hasRoom : List ℕ → ℕ → Bool
 hasRoom s n = ltb n mostRecords && leb (3 * (n + 1)) (length s)
 
--- the result's place and the new n, or 7 if a new record is needed and there is no room
-unfoldable pub stepGives : List ℕ → ℕ → Outcome → StepAnswer
-stepGives s n (Place i) = StepAnswer'.Done i n
-stepGives s n (Node y) = cond (hasRoom s n) (StepAnswer'.Done n (n + 1)) (StepAnswer'.Refused NoRoom)
+-- what the request comes to on the list that a store holds
+unfoldable pub stepped : List ℕ → ℕ → ℕ → ℕ → ℕ → Built
+stepped s n t a b = step quad (nodes s n) (decode t a b)
 
--- only the appended record is written
-unfoldable pub stepLeaves : List ℕ → ℕ → Outcome → List ℕ
-stepLeaves s n (Place i) = s
-stepLeaves s n (Node y) = cond (hasRoom s n) (put s n y) s
+-- 7 if a new record is needed and there is no room for it
+unfoldable pub stepRoomCheck : List ℕ → ℕ → Built → Checked
+stepRoomCheck s n b = need (leb (length (b .list)) n || hasRoom s n) NoRoom
 
+unfoldable pub stepWholeCheck : List ℕ → ℕ → ℕ → ℕ → ℕ → Checked
+stepWholeCheck s n t a b = stepCheck s n t a b then stepRoomCheck s n (stepped s n t a b)
+
+-- the result's place and the new n
 unfoldable pub stepAnswer : List ℕ → ℕ → ℕ → ℕ → ℕ → StepAnswer
 stepAnswer s n t a b =
-    unlessRefused (stepCheck s n t a b) StepAnswer'.Refused (stepGives s n (resolved (nodes s n) n (decode t a b)))
+    let r = stepped s n t a b in
+    unlessRefused (stepWholeCheck s n t a b) StepAnswer'.Refused (StepAnswer'.Done (r .place) (length (r .list)))
 
+-- the list with the appended record, if there is one; the words behind it stay
 unfoldable pub stepStore : List ℕ → ℕ → ℕ → ℕ → ℕ → List ℕ
 stepStore s n t a b =
-    unlessRefused (stepCheck s n t a b) (λ r. s) (stepLeaves s n (resolved (nodes s n) n (decode t a b)))
+    unlessRefused (stepWholeCheck s n t a b) (λ r. s) (written s (stepped s n t a b .list))
 
 -- Build's tests: the list check, then the result and map stores
 unfoldable pub buildCheck : List ℕ → ℕ → ℕ → ℕ → ℕ → Checked

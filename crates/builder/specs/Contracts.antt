@@ -1,22 +1,28 @@
 -- What the builder's functions ask and say of their stores.
-use Prim.Native.Nat.{ℕ, _+_, _*_, _<_, _≤_}
+use Prim.Native.Nat.{ℕ, _+_, _*_, _<_, _≤_, _-_}
 use mathlib.Core.Bool.{true}
-use mathlib.Core.List.{List}
+use mathlib.Core.List.{List, [], _∷_, _++_}
 use mathlib.Core.Path.{_≡_}
-use lib.ListN.{length}
+use lib.ListN.{length, getD, take}
 use Rattle.field.specs.Field.{p, quad, Below}
-use Rattle.dag.specs.Store.{Sound}
-use Rattle.dag.specs.Nodes.{nodes}
+use Rattle.dag.specs.Store.{Sound, written}
+use Rattle.dag.specs.Refusals.{unlessRefused}
+use Rattle.dag.specs.Nodes.{nodes, mostRecords, wordsOf, filled}
 use Rattle.dag.specs.Lookup.{lookup}
 use Rattle.dag.specs.WellFormed.{Fine}
 use Rattle.index.specs.Index.{half, NodeIndex}
 use Rattle.dag.specs.declared.NodeKind.{NodeKind}
 use Rattle.dag.specs.declared.Found.{Found}
 use Rattle.dag.specs.declared.Found.the-variants.{At, Missing}
-use Rattle.builder.specs.Steps.{isConstant, element, outcome, step}
+use Rattle.builder.specs.Steps.{isConstant, element, outcome, Built, step, Replay, placeOf}
+use Rattle.builder.specs.Calls.{stepRoomCheck}
 use Rattle.builder.specs.declared.Outcome.{Outcome}
 use Rattle.builder.specs.declared.Outcome.the-variants.{Place, Node}
 use Rattle.builder.specs.declared.Entered.{Entered}
+use Rattle.builder.specs.declared.StepAnswer.{StepAnswer}
+use Rattle.builder.specs.declared.StepAnswer.the-variants as StepAnswer'
+use Rattle.builder.specs.declared.BuildAnswer.{BuildAnswer}
+use Rattle.builder.specs.declared.BuildAnswer.the-variants.{Done}
 
 -- a constant is in lowest form
 abbrev pub ConstantBelow : NodeKind → Type 0
@@ -55,6 +61,16 @@ searched l n (Node y) = foundOrNew l n y
 unfoldable pub resolved : List NodeKind → ℕ → NodeKind → Outcome
 resolved l n x = searched l n (outcome quad l x)
 
+-- a list and a place in it, by what was resolved
+abbrev pub appended : List NodeKind → Outcome → Built
+appended l (Place i) = record { list = l; place = i }
+appended l (Node y) = record { list = l ++ (y ∷ []); place = length l }
+
+-- an answer and a store, by the list and the place that a request comes to
+pub record Stepped (s : List ℕ) (n : ℕ) (b : Built) (r : StepAnswer) (after : List ℕ) : Type 0 where
+  pub answer : r ≡ unlessRefused (stepRoomCheck s n b) StepAnswer'.Refused (StepAnswer'.Done (b .place) (length (b .list)))
+  pub store : after ≡ unlessRefused (stepRoomCheck s n b) (λ _. s) (written s (b .list))
+
 -- a store with one request entered: its list is the step's
 pub record Pushed (s : List ℕ) (n : ℕ) (x : NodeKind) (after : List ℕ) (r : Entered) : Type 0 where
   pub kept : length after ≡ length s
@@ -75,3 +91,26 @@ pub record Room (s : List ℕ) (n : ℕ) (links : List ℕ) : Type 0 where
 pub record Noted (s : List ℕ) (n : ℕ) (x : NodeKind) (after links : List ℕ) (r : Entered) : Type 0 where
   pub pushed : Pushed s n x after r
   pub index : NodeIndex (nodes after (r .count)) links
+
+-- the places that a map store holds
+abbrev pub read : List ℕ → ℕ → ℕ
+read map j = getD map j 0
+
+pub record Holds (r : Replay) (i : ℕ) (result map : List ℕ) (count : ℕ) : Type 0 where
+  pub sound : Sound p result count
+  pub list-is : nodes result count ≡ r .list
+  pub map-is : take i map ≡ r .map
+
+-- what Build asks once its tests have passed
+pub record Ready (s : List ℕ) (n root resultWords mapWords : ℕ) : Type 0 where
+  pub sound : Sound p s n
+  pub result-room : 3 * n ≤ resultWords
+  pub map-room : n ≤ mapWords
+  pub inside : root < n
+  pub most : n ≤ mostRecords
+
+-- the answer and the stores of a replay r
+pub record Finished (r : Replay) (root : ℕ) (result map : List ℕ) (a : BuildAnswer) (after places : List ℕ) : Type 0 where
+  pub answer : a ≡ Done (length (r .list)) (placeOf r root)
+  pub list-is : after ≡ filled (length result) (wordsOf (r .list))
+  pub places-are : places ≡ filled (length map) (r .map)

@@ -1,12 +1,12 @@
 pub mod Steps
-pub mod RuleCases
+pub mod RuleLaws
 pub mod StepLaws
-pub mod StepValues
+pub mod StepValueLaws
 pub mod ReplayLaws
 pub mod Contracts
 pub mod OutcomeLaws
 pub mod RequestLaws
 pub mod Calls
 pub mod CallLaws
-pub mod Holds
+pub mod HoldLaws
 pub mod BuildLaws

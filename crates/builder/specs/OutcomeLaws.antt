@@ -1,12 +1,11 @@
 -- What the builder's code reads off a store is what the steps say of its list.
-use Prim.Native.Nat.{ℕ, _+_, _*_, _<_, _≤_}
-use mathlib.Core.Bool.{true}
+use Prim.Native.Nat.{ℕ, _+_, _<_}
 use mathlib.Core.List.{List}
-use mathlib.Core.Path.{_≡_, refl, sym, _∙_, ap, ap₂}
+use mathlib.Core.Path.{_≡_, sym, _∙_, ap}
 use native.Mathlib.Omega.{arith}
 use lib.ListN.{length}
 use Rattle.field.specs.Field.{p, quad, quad-laws, Below}
-use Rattle.dag.specs.Nodes.{tag, recordAt, nodes, at}
+use Rattle.dag.specs.Nodes.{recordAt, nodes, at}
 use Rattle.dag.specs.NodeLaws.{at-nodes, length-nodes}
 use Rattle.dag.specs.Store.{Sound}
 use Rattle.dag.specs.StoreLaws.{sound-well-formed}

@@ -9,7 +9,7 @@ use Rattle.ring.specs.Ring.{Ops, Laws}
 use Rattle.field.specs.declared.QuadFelt.{QuadFelt}
 use Rattle.dag.specs.Nodes.{at, rename}
 use Rattle.dag.specs.NodeLaws.{length-snoc}
-use Rattle.dag.specs.Cases.{below-suc-elim}
+use Rattle.dag.specs.CaseLaws.{below-suc-elim}
 use Rattle.dag.specs.WellFormed.{Fine, WellFormed}
 use Rattle.dag.specs.WellFormedLaws.{fine-rename, well-formed-nil}
 use Rattle.dag.specs.declared.NodeKind.{NodeKind}
@@ -17,7 +17,7 @@ use Rattle.meaning.specs.Values.{valueOf, value}
 use Rattle.meaning.specs.ValueLaws.{value-at, valueOf-cong, valueOf-rename}
 use Rattle.builder.specs.Steps.{Built, Replay, placeOf, recorded, step, replay}
 use Rattle.builder.specs.StepLaws.{step-grown}
-use Rattle.builder.specs.StepValues.{Worth, step-worth}
+use Rattle.builder.specs.StepValueLaws.{Worth, step-worth}
 
 -- n results: a well-formed list, and n places inside it
 pub record Replayed (Low : QuadFelt → Type 0) (n : ℕ) (r : Replay) : Type 0 where

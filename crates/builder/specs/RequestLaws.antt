@@ -1,5 +1,5 @@
 -- Requests on a store: what each kind asks of its operands, what it comes to, and what entering it leaves.
-use Prim.Native.Nat.{ℕ, suc, _+_, _*_, _<_, _≤_}
+use Prim.Native.Nat.{ℕ, _+_, _*_, _<_}
 use mathlib.Core.List.{List, [], _∷_, _++_}
 use mathlib.Core.Path.{_≡_, refl, sym, _∙_, ap, ap₂, subst}
 use native.Mathlib.Numerals.{add-one}
@@ -7,25 +7,24 @@ use native.Mathlib.Omega.{arith}
 use lib.ListN.{length}
 use Rattle.field.specs.Field.{p, quad, quad-laws, Below}
 use Rattle.field.specs.declared.QuadFelt.{QuadFelt}
-use Rattle.dag.specs.Nodes.{tag, first, second, recordAt, nodes, at}
+use Rattle.dag.specs.Nodes.{tag, first, second, recordAt, nodes}
 use Rattle.dag.specs.NodeLaws.{at-nodes, length-nodes}
 use Rattle.dag.specs.Lookup.{lookup}
-use Rattle.dag.specs.Store.{Sound, put}
+use Rattle.dag.specs.Store.{put}
 use Rattle.dag.specs.StoreLaws.{length-put, nodes-put, sound-put}
-use Rattle.dag.specs.WellFormed.{Fine, WellFormed}
+use Rattle.dag.specs.WellFormed.{Fine}
 use Rattle.dag.specs.declared.NodeKind.{NodeKind}
 use Rattle.dag.specs.declared.NodeKind.the-variants.{Input, Constant, Add, Sub, Mul, Neg}
 use Rattle.dag.specs.declared.Found.{Found}
 use Rattle.dag.specs.declared.Found.the-variants.{At, Missing}
 use Rattle.index.specs.Index.{half, noted, hash, bucketOf, nodeBucket}
 use Rattle.index.specs.NodeIndexLaws.{same-bucket, index-more}
-use Rattle.builder.specs.Steps.{outcome, mulOutcome, negOutcome, addOutcome, subOutcome, interned, intern, enter, step, Built}
+use Rattle.builder.specs.Steps.{outcome, mulOutcome, negOutcome, addOutcome, subOutcome, interned, intern, enter, step}
 use Rattle.builder.specs.StepLaws.{OutcomeFine, outcome-fine, Grown, step-grown}
-use Rattle.builder.specs.OutcomeLaws.{list-fine, at-below}
-use Rattle.builder.specs.Contracts.{ConstantBelow, ConstantsBelow, Operands, Request, newUnless, foundOrNew, searched, resolved, Pushed, Room, Noted}
+use Rattle.builder.specs.OutcomeLaws.{list-fine}
+use Rattle.builder.specs.Contracts.{Operands, Request, newUnless, foundOrNew, searched, resolved, appended, Pushed, Room, Noted}
 use Rattle.builder.specs.declared.Outcome.{Outcome}
 use Rattle.builder.specs.declared.Outcome.the-variants.{Place, Node}
-use Rattle.builder.specs.declared.Entered.{Entered}
 
 module _ (s : List ℕ) (n : ℕ) (x : NodeKind) (req : Request s n x) where
   asks : (y : NodeKind) → x ≡ y → Fine Below n y
@@ -94,10 +93,6 @@ unfolding foundOrNew
 resolved-found l n x o y f r e h k q = resolved-node l n x o y r e h (q ∙ ap (newUnless y) k)
 
 -- the step's list and place, by what was resolved
-abbrev pub appended : List NodeKind → Outcome → Built
-appended l (Place i) = record { list = l; place = i }
-appended l (Node y) = record { list = l ++ (y ∷ []); place = length l }
-
 interned-appended : (l : List NodeKind) (y : NodeKind) (f : Found) → interned l y f ≡ appended l (newUnless y f)
 unfolding interned
 interned-appended l y (At i) = refl

@@ -19,7 +19,7 @@ use Rattle.dag.specs.declared.NodeKind.the-variants.{Input, Constant, Add, Sub,
 use Rattle.dag.specs.declared.Found.{Found}
 use Rattle.dag.specs.declared.Found.the-variants.{At, Missing}
 use Rattle.builder.specs.Steps.{isAdd, isSub, isNeg, element, addRule, subRule, mulOutcome, negOutcome, follow, addWithin, subWithin, addOutcome, subOutcome, outcome, Built, interned, intern, enter, step}
-use Rattle.builder.specs.RuleCases.{add-is, sub-is, neg-is, low-first, add-cases, sub-cases, mul-cases, neg-cases}
+use Rattle.builder.specs.RuleLaws.{add-is, sub-is, neg-is, low-first, add-cases, sub-cases, mul-cases, neg-cases}
 use Rattle.builder.specs.declared.Rule.{Rule}
 use Rattle.builder.specs.declared.Rule.the-variants.{Use, Make, HandOver}
 use Rattle.builder.specs.declared.Outcome.{Outcome}

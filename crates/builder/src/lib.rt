@@ -6,19 +6,16 @@ use dag::Refusal;
 use field::QuadFelt;
 ghost use mathlib.Core.Path.{_≡_};
 ghost use mathlib.Core.Bool.{_&&_, not};
-ghost use Prim.Native.Nat.{ℕ, _+_, _*_, _<_, _≤_};
+ghost use Prim.Native.Nat.{_+_, _*_, _<_, _≤_};
 ghost use lib.Dec.{eqb};
-ghost use lib.ListN.{length, getD};
-ghost use Rattle.field.specs.Field.{p, quad, Below};
+ghost use lib.ListN.{length};
+ghost use Rattle.field.specs.Field.{p, quad};
 ghost use Rattle.dag.specs.Nodes as Nodes;
 ghost use Rattle.dag.specs.Store as Store;
 ghost use Rattle.index.specs.Index.{half, Usable, NodeIndex};
 ghost use Rattle.builder.specs.Steps as Steps;
-ghost use Rattle.builder.specs.Contracts as Said;
+ghost use Rattle.builder.specs.Contracts as Contracts;
 ghost use Rattle.builder.specs.Calls as Calls;
-ghost use Rattle.builder.specs.CallLaws as CallLaws;
-ghost use Rattle.builder.specs.Holds as Held;
-ghost use Rattle.builder.specs.BuildLaws as BuildLaws;
 
 // What a rule of a step says: a place, a record to intern, or operands handed to the other of add and sub.
 pub enum Rule {
@@ -139,7 +136,7 @@ pub fn low_mul(a: usize, b: usize) -> NodeKind
 
 // add(a, b), where places a and b hold x and y.
 fn add_rule(x: NodeKind, y: NodeKind, a: usize, b: usize) -> Rule
-    requires { ⌜ Said.ConstantsBelow x y ⌝ }
+    requires { ⌜ Contracts.ConstantsBelow x y ⌝ }
     ensures { λ r. ⌜ r ≡ Steps.addRule quad x y a b ⌝ }
 {
     if both_constant(x, y) {
@@ -168,7 +165,7 @@ fn add_rule(x: NodeKind, y: NodeKind, a: usize, b: usize) -> Rule
 
 // sub(a, b), where places a and b hold x and y.
 fn sub_rule(x: NodeKind, y: NodeKind, a: usize, b: usize) -> Rule
-    requires { ⌜ Said.ConstantsBelow x y ⌝ }
+    requires { ⌜ Contracts.ConstantsBelow x y ⌝ }
     ensures { λ r. ⌜ r ≡ Steps.subRule quad x y a b ⌝ }
 {
     if both_constant(x, y) {
@@ -197,7 +194,7 @@ fn sub_rule(x: NodeKind, y: NodeKind, a: usize, b: usize) -> Rule
 
 // mul(a, b), where places a and b hold x and y.
 fn mul_outcome(x: NodeKind, y: NodeKind, a: usize, b: usize) -> Outcome
-    requires { ⌜ Said.ConstantsBelow x y ⌝ }
+    requires { ⌜ Contracts.ConstantsBelow x y ⌝ }
     ensures { λ r. ⌜ r ≡ Steps.mulOutcome quad x y a b ⌝ }
 {
     if both_constant(x, y) {
@@ -220,7 +217,7 @@ fn mul_outcome(x: NodeKind, y: NodeKind, a: usize, b: usize) -> Outcome
 
 // neg(a), where place a holds x.
 fn neg_outcome(x: NodeKind, a: usize) -> Outcome
-    requires { ⌜ Said.ConstantBelow x ⌝ }
+    requires { ⌜ Contracts.ConstantBelow x ⌝ }
     ensures { λ r. ⌜ r ≡ Steps.negOutcome quad x a ⌝ }
 {
     if has_tag(x, 1) {
@@ -231,7 +228,7 @@ fn neg_outcome(x: NodeKind, a: usize) -> Outcome
 
 // What add(a, b) on the first n records comes to.
 fn add_outcome(list: &[u64], n: usize, a: usize, b: usize) -> Outcome
-    requires { ⌜ Said.Operands (now list) n a b ⌝ }
+    requires { ⌜ Contracts.Operands (now list) n a b ⌝ }
     ensures { λ r. ⌜ r ≡ Steps.addOutcome quad (Nodes.nodes (now (list .entry)) n) a b ⌝ }
 {
     let rule = add_rule(dag::node_at(list, a), dag::node_at(list, b), a, b);
@@ -244,7 +241,7 @@ fn add_outcome(list: &[u64], n: usize, a: usize, b: usize) -> Outcome
 
 // What sub(a, b) on the first n records comes to.
 fn sub_outcome(list: &[u64], n: usize, a: usize, b: usize) -> Outcome
-    requires { ⌜ Said.Operands (now list) n a b ⌝ }
+    requires { ⌜ Contracts.Operands (now list) n a b ⌝ }
     ensures { λ r. ⌜ r ≡ Steps.subOutcome quad (Nodes.nodes (now (list .entry)) n) a b ⌝ }
 {
     let rule = sub_rule(dag::node_at(list, a), dag::node_at(list, b), a, b);
@@ -257,7 +254,7 @@ fn sub_outcome(list: &[u64], n: usize, a: usize, b: usize) -> Outcome
 
 // What a request on the first n records comes to.
 fn request_outcome(list: &[u64], n: usize, x: NodeKind) -> Outcome
-    requires { ⌜ Said.Request (now list) n x ⌝ }
+    requires { ⌜ Contracts.Request (now list) n x ⌝ }
     ensures { λ r. ⌜ r ≡ Steps.outcome quad (Nodes.nodes (now (list .entry)) n) x ⌝ }
 {
     match x {
@@ -272,7 +269,7 @@ fn request_outcome(list: &[u64], n: usize, x: NodeKind) -> Outcome
 
 // A search's answer: a place, or the record itself where it is new.
 fn found_or_new(found: Found, x: NodeKind) -> Outcome
-    ensures { λ r. ⌜ r ≡ Said.newUnless x found ⌝ }
+    ensures { λ r. ⌜ r ≡ Contracts.newUnless x found ⌝ }
 {
     match found {
         Found::At(i) => Outcome::Place(i),
@@ -282,8 +279,8 @@ fn found_or_new(found: Found, x: NodeKind) -> Outcome
 
 // The place of a request's result among the first n records, or the new record that it needs, by the plain search.
 fn resolve_searching(list: &[u64], n: usize, x: NodeKind) -> Outcome
-    requires { ⌜ Said.Request (now list) n x ⌝ }
-    ensures { λ r. ⌜ r ≡ Said.resolved (Nodes.nodes (now (list .entry)) n) n x ⌝ }
+    requires { ⌜ Contracts.Request (now list) n x ⌝ }
+    ensures { λ r. ⌜ r ≡ Contracts.resolved (Nodes.nodes (now (list .entry)) n) n x ⌝ }
 {
     let first = request_outcome(list, n, x);
     match first {
@@ -294,8 +291,8 @@ fn resolve_searching(list: &[u64], n: usize, x: NodeKind) -> Outcome
 
 // The same by the list's index.
 pub fn resolve(list: &[u64], n: usize, links: &[u64], x: NodeKind) -> Outcome
-    requires { ⌜ Said.Request (now list) n x × NodeIndex (Nodes.nodes (now list) n) (now links) ⌝ }
-    ensures { λ r. ⌜ r ≡ Said.resolved (Nodes.nodes (now (list .entry)) n) n x ⌝ }
+    requires { ⌜ Contracts.Request (now list) n x × NodeIndex (Nodes.nodes (now list) n) (now links) ⌝ }
+    ensures { λ r. ⌜ r ≡ Contracts.resolved (Nodes.nodes (now (list .entry)) n) n x ⌝ }
 {
     let first = request_outcome(list, n, x);
     match first {
@@ -306,8 +303,8 @@ pub fn resolve(list: &[u64], n: usize, links: &[u64], x: NodeKind) -> Outcome
 
 // Enters one request into a list of n records and its index, which have room for one more.
 pub fn push(list: &mut [u64], n: usize, links: &mut [u64], x: NodeKind) -> Entered
-    requires { ⌜ Said.Request (now list) n x × Said.Room (now list) n (now links) ⌝ }
-    ensures { λ r. ⌜ Said.Noted (now (list .entry)) n x (now (list .exit)) (now (links .exit)) r ⌝ }
+    requires { ⌜ Contracts.Request (now list) n x × Contracts.Room (now list) n (now links) ⌝ }
+    ensures { λ r. ⌜ Contracts.Noted (now (list .entry)) n x (now (list .exit)) (now (links .exit)) r ⌝ }
 {
     let result = resolve(list, n, links, x);
     match result {
@@ -342,8 +339,8 @@ fn step_check(list: &[u64], n: usize, tag: u64, first: u64, second: u64) -> Chec
 
 // Appends a new record where there is room.
 fn append(list: &mut [u64], n: usize, y: NodeKind) -> StepAnswer
-    requires { ⌜ n ≤ Nodes.mostRecords ⌝ }
-    ensures { λ r. ⌜ CallLaws.Stepped (now (list .entry)) n (Outcome.Node y) r (now (list .exit)) ⌝ }
+    requires { ⌜ Store.Sound p (now list) n × (n ≤ Nodes.mostRecords) ⌝ }
+    ensures { λ r. ⌜ Contracts.Stepped (now (list .entry)) n (Contracts.appended (Nodes.nodes (now (list .entry)) n) (Outcome.Node y)) r (now (list .exit)) ⌝ }
 {
     if dag::MOST_RECORDS <= n {
         return StepAnswer::Refused(Refusal::NoRoom);
@@ -360,8 +357,8 @@ fn append(list: &mut [u64], n: usize, y: NodeKind) -> StepAnswer
 
 // Step past its tests.
 fn enter(list: &mut [u64], n: usize, x: NodeKind) -> StepAnswer
-    requires { ⌜ Said.Request (now list) n x × (n ≤ Nodes.mostRecords) ⌝ }
-    ensures { λ r. ⌜ CallLaws.Stepped (now (list .entry)) n (Said.resolved (Nodes.nodes (now (list .entry)) n) n x) r (now (list .exit)) ⌝ }
+    requires { ⌜ Contracts.Request (now list) n x × (n ≤ Nodes.mostRecords) ⌝ }
+    ensures { λ r. ⌜ Contracts.Stepped (now (list .entry)) n (Steps.step quad (Nodes.nodes (now (list .entry)) n) x) r (now (list .exit)) ⌝ }
 {
     let result = resolve_searching(list, n, x);
     match result {
@@ -385,7 +382,7 @@ pub fn step(list: &mut [u64], n: usize, tag: u64, first: u64, second: u64) -> St
 // Replays the requests one after the other into an empty list; answers its count.
 fn replay(list: &[u64], n: usize, result: &mut [u64], map: &mut [u64], links: &mut [u64]) -> usize
     requires { ⌜ Store.Sound p (now list) n × (3 * n ≤ length (now result)) × (n ≤ length (now map)) × Usable (now links) × (n ≤ half (now links)) ⌝ }
-    ensures { λ r. ⌜ Held.Holds (Steps.replay quad (Nodes.nodes (now (list .entry)) n) n) n (now (result .exit)) (now (map .exit)) r ⌝ }
+    ensures { λ r. ⌜ Contracts.Holds (Steps.replay quad (Nodes.nodes (now (list .entry)) n) n) n (now (result .exit)) (now (map .exit)) r ⌝ }
 {
     index::clear(links);
     let mut count = 0;
@@ -432,8 +429,8 @@ fn build_with(
     map: &mut [u64],
     links: &mut [u64],
 ) -> BuildAnswer
-    requires { ⌜ BuildLaws.Ready (now list) n root (length (now result)) (length (now map)) × Usable (now links) × (n ≤ half (now links)) ⌝ }
-    ensures { λ r. ⌜ BuildLaws.Finished (Steps.replay quad (Nodes.nodes (now (list .entry)) n) n) root (now (result .entry)) (now (map .entry)) r (now (result .exit)) (now (map .exit)) ⌝ }
+    requires { ⌜ Contracts.Ready (now list) n root (length (now result)) (length (now map)) × Usable (now links) × (n ≤ half (now links)) ⌝ }
+    ensures { λ r. ⌜ Contracts.Finished (Steps.replay quad (Nodes.nodes (now (list .entry)) n) n) root (now (result .entry)) (now (map .entry)) r (now (result .exit)) (now (map .exit)) ⌝ }
 {
     let count = replay(list, n, result, map, links);
     dag::blank_from(result, 3 * count);
@@ -452,8 +449,8 @@ fn build_ready(
     result: &mut [u64],
     map: &mut [u64],
 ) -> BuildAnswer
-    requires { ⌜ BuildLaws.Ready (now list) n root (length (now result)) (length (now map)) ⌝ }
-    ensures { λ r. ⌜ BuildLaws.Finished (Steps.replay quad (Nodes.nodes (now (list .entry)) n) n) root (now (result .entry)) (now (map .entry)) r (now (result .exit)) (now (map .exit)) ⌝ }
+    requires { ⌜ Contracts.Ready (now list) n root (length (now result)) (length (now map)) ⌝ }
+    ensures { λ r. ⌜ Contracts.Finished (Steps.replay quad (Nodes.nodes (now (list .entry)) n) n) root (now (result .entry)) (now (map .entry)) r (now (result .exit)) (now (map .exit)) ⌝ }
 {
     if n <= dag::FEW_RECORDS {
         let mut few = [0u64; 2 * dag::FEW_RECORDS];

@@ -18,7 +18,7 @@ use Rattle.ring.specs.Power.{pow, pow-zero, pow-add, pow-mul, low-pow, one-pow}
 use Rattle.ring.specs.Sums.{sum, sum-zero, sum-suc, sum-cong, sum-scale, low-sum}
 use Rattle.field.specs.Field.{p, felt, felt-laws}
 use Rattle.field.specs.Generators.{generator, half, generator-order}
-use Rattle.dag.specs.Cases.{le-or-lt, below-suc, cond-elim}
+use Rattle.dag.specs.CaseLaws.{le-or-lt, below-suc, cond-elim}
 use Rattle.columns.specs.Columns.{logLength}
 use Rattle.columns.specs.Contracts.{Column}
 use Rattle.columns.specs.LogLaws.{log-le, power-is}

@@ -16,7 +16,7 @@ use Rattle.ring.specs.Power.{pow, pow-zero, pow-suc, pow-add, pow-mul, low-pow}
 use Rattle.ring.specs.Sums.{sum, sum-zero, sum-cong, sum-shift, sum-scale}
 use Rattle.field.specs.Field.{p, felt, felt-laws}
 use Rattle.field.specs.Generators.{generator, half}
-use Rattle.dag.specs.Cases.{cond-elim}
+use Rattle.dag.specs.CaseLaws.{cond-elim}
 use Rattle.columns.specs.Columns.{logLength, count, others, placesFrom, support}
 use Rattle.columns.specs.Prepare.{upTo, padded, allBelow}
 use Rattle.columns.specs.CountLaws.{count-le}

@@ -10,7 +10,7 @@ ghost use Rattle.field.specs.Field.{p, felt};
 ghost use Rattle.field.specs.Generators.{generator, half};
 ghost use Rattle.columns.specs.Columns as Columns;
 ghost use Rattle.columns.specs.Prepare as Prepare;
-ghost use Rattle.columns.specs.Contracts as Asked;
+ghost use Rattle.columns.specs.Contracts as ColumnContracts;
 ghost use Rattle.coefficients.specs.Terms as Terms;
 ghost use Rattle.coefficients.specs.Arrays as Arrays;
 ghost use Rattle.coefficients.specs.Split as Split;
@@ -34,7 +34,7 @@ fn root_inverse(col: &[u64]) -> u64
 pub fn size_inverse(col: &[u64]) -> u64
     ensures { λ r. ⌜ (r ≡ Terms.sizeInverse felt generator half (now (col .entry))) × (r < p) ⌝ }
 {
-    felt::pow(felt::HALF, columns::log_length(col) as u64)
+    felt::pow(felt::half(), columns::log_length(col) as u64)
 }
 
 // base^0, base^1, .., base^(n − 1), then 0.
@@ -114,7 +114,7 @@ fn halved(from: &[u64; 128], factors: &[u64; 128], s: usize, n: usize) -> [u64; 
 
 // The sum of the entries at the powers of w^(−j), for each row j.
 fn sums(col: &[u64]) -> [u64; 128]
-    requires { ⌜ Asked.Column p (now col) ⌝ }
+    requires { ⌜ ColumnContracts.Column p (now col) ⌝ }
     ensures { λ r. ⌜ Split.Reached (now (col .entry)) 1 (length (now (col .entry))) r ⌝ }
 {
     let factors = powers(root_inverse(col), col.len());
@@ -131,7 +131,7 @@ fn sums(col: &[u64]) -> [u64; 128]
 
 // The dense coefficients, 0 past the last.
 pub fn dense(col: &[u64]) -> [u64; 128]
-    requires { ⌜ Asked.Column p (now col) ⌝ }
+    requires { ⌜ ColumnContracts.Column p (now col) ⌝ }
     ensures { λ r. ⌜ r ≡ Arrays.coefficients felt generator half (now (col .entry)) ⌝ }
 {
     let scale = size_inverse(col);
@@ -189,7 +189,7 @@ fn squares(base: u64, log: usize) -> [u64; 7]
 
 // The twiddles of a sparse column's terms, at these places.
 pub fn sparse_twiddles(col: &[u64], places: &[u64]) -> [[u64; 7]; 11]
-    requires { ⌜ Asked.Column p (now col) × Arrays.Places (now col) (now places) ⌝ }
+    requires { ⌜ ColumnContracts.Column p (now col) × Arrays.Places (now col) (now places) ⌝ }
     ensures { λ r. ⌜ r ≡ Arrays.sparseTwiddles felt generator half (now (col .entry)) ⌝ }
 {
     let step = root_inverse(col);
@@ -205,7 +205,7 @@ pub fn sparse_twiddles(col: &[u64], places: &[u64]) -> [[u64; 7]; 11]
 
 // The scaled values of a sparse column's terms, at these places.
 pub fn sparse_values(col: &[u64], places: &[u64]) -> [u64; 11]
-    requires { ⌜ Asked.Column p (now col) × Arrays.Places (now col) (now places) ⌝ }
+    requires { ⌜ ColumnContracts.Column p (now col) × Arrays.Places (now col) (now places) ⌝ }
     ensures { λ r. ⌜ r ≡ Arrays.sparseValues felt generator half (now (col .entry)) ⌝ }
 {
     let scale = size_inverse(col);

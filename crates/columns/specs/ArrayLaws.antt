@@ -6,7 +6,7 @@ use native.Mathlib.Numerals.{add-one}
 use native.Mathlib.Omega.{arith}
 use lib.ListN.{getD, length, set, replicate, length-append, length-replicate, List·getD-append}
 use lib.Seq.{set-at, getD-at}
-use Rattle.dag.specs.Cases.{below-suc-elim}
+use Rattle.dag.specs.CaseLaws.{below-suc-elim}
 use Rattle.columns.specs.Prepare.{upTo, padded}
 
 module _ {A : Type 0} where

@@ -13,7 +13,7 @@ use lib.Seq.{drop-cons, take-suc-set}
 use Rattle.ring.specs.Ring.{Laws}
 use Rattle.ring.specs.Identities.{sub-add-cancel}
 use Rattle.ring.specs.Residue.{residues, residues-laws, sub, add}
-use Rattle.dag.specs.Cases.{cond-elim, and-true, not-both}
+use Rattle.dag.specs.CaseLaws.{cond-elim, and-true, not-both}
 use Rattle.columns.specs.Columns.{count, withNew, valuesFrom, values, weight, heaviest, dominant, isScaled, scalings, others, combinationCost, offset, equalEntries, gain, standalone}
 use Rattle.columns.specs.Prepare.{allBelow}
 

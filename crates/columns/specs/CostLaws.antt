@@ -10,7 +10,7 @@ use borrow.Author.Tests.{eq-eqb, ne-eqb, eqb-true, ltb-true}
 use lib.Dec.{ltb, eqb}
 use lib.ListN.{length}
 use Rattle.field.specs.Field.{p, felt}
-use Rattle.dag.specs.Cases.{cond-elim, or-true}
+use Rattle.dag.specs.CaseLaws.{cond-elim, or-true}
 use Rattle.columns.specs.Columns.{logWithin, isPower, logLength, nonzero, sparseOps, denseOps, isSparse, standalone, isScaled, gain, equalEntries, combinationCost, offset}
 use Rattle.columns.specs.LogLaws.{log-le, power-is}
 

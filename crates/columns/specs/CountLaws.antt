@@ -9,7 +9,7 @@ use borrow.Author.Tests.{eq-eqb, ne-eqb}
 use lib.Dec.{eqb}
 use lib.ListN.{getD, length, drop, drop-of-length-le}
 use lib.Seq.{drop-cons}
-use Rattle.dag.specs.Cases.{cond-elim}
+use Rattle.dag.specs.CaseLaws.{cond-elim}
 use Rattle.columns.specs.Columns.{count}
 
 pub count-le : (v : ℕ) (c : List ℕ) → count v c ≤ length c

@@ -9,7 +9,7 @@ use native.Mathlib.Omega.{arith}
 use borrow.Author.Tests.{le-leb, lt-leb, eqb-true}
 use lib.Dec.{leb}
 use lib.Pow.{pow-mono, pow-pos}
-use Rattle.dag.specs.Cases.{cond-elim, below-suc}
+use Rattle.dag.specs.CaseLaws.{cond-elim, below-suc}
 use Rattle.columns.specs.Columns.{logWithin, isPower}
 
 pub log-le : (k n : ℕ) → logWithin k n ≤ k

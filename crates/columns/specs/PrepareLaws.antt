@@ -10,7 +10,7 @@ use borrow.Author.Tests.{lt-ltb, le-ltb, le-leb, lt-leb, leb-true}
 use lib.Dec.{leb}
 use lib.ListN.{getD, length, take, drop, drop-of-length-le}
 use lib.Seq.{drop-cons, take-length}
-use Rattle.dag.specs.Cases.{below-suc, below-suc-elim, not-both}
+use Rattle.dag.specs.CaseLaws.{below-suc, below-suc-elim, not-both}
 use Rattle.dag.specs.CheckLaws.{then-good, need-good, refused-then}
 use Rattle.dag.specs.Refusals.{need, _then_, isRefused}
 use Rattle.dag.specs.declared.Refusal.{Refusal}

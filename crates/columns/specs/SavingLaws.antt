@@ -9,7 +9,7 @@ use native.Mathlib.Omega.{arith}
 use borrow.Author.Tests.{lt-ltb, le-ltb, lt-leb, le-leb, eq-eqb, ne-eqb}
 use lib.Dec.{leb, ltb, eqb}
 use lib.ListN.{getD, length, List·getD-eq-default}
-use Rattle.dag.specs.Cases.{cond-elim}
+use Rattle.dag.specs.CaseLaws.{cond-elim}
 use Rattle.columns.specs.Columns.{column, gain, isAmong, saving, savings, goesOver, isSparse, form}
 use Rattle.columns.specs.Prepare.{columns, upTo, padded, mostColumns}
 use Rattle.columns.specs.Contracts.{Handed, Tested, gains, savingsEach, counted, Small, savingsOf, over, Weighed}

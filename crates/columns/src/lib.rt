@@ -11,7 +11,7 @@ ghost use lib.ListN.{length, take, drop, getD};
 ghost use Rattle.field.specs.Field.{p};
 ghost use Rattle.columns.specs.Columns as Columns;
 ghost use Rattle.columns.specs.Prepare as Prepare;
-ghost use Rattle.columns.specs.Contracts as Said;
+ghost use Rattle.columns.specs.Contracts as Contracts;
 
 // The most columns.
 pub const MOST_COLUMNS: usize = 16;
@@ -243,7 +243,7 @@ fn scalings(values: &[u64], d: u64) -> usize
 
 // The cost of a column in basis, with offset d.
 fn combination_cost(col: &[u64], values: &[u64], d: u64) -> usize
-    requires { ⌜ Said.Classes p (now col) (now values) × (d < p) ⌝ }
+    requires { ⌜ Contracts.Classes p (now col) (now values) × (d < p) ⌝ }
     ensures { λ r. ⌜ r ≡ Columns.combinationCost p (now (col .entry)) d ⌝ }
 {
     let cost = less(others(col, d), 1) + 3 * scalings(values, d);
@@ -252,7 +252,7 @@ fn combination_cost(col: &[u64], values: &[u64], d: u64) -> usize
 
 // The offset of a column in basis.
 pub fn offset(col: &[u64], values: &[u64]) -> u64
-    requires { ⌜ Said.Classes p (now col) (now values) ⌝ }
+    requires { ⌜ Contracts.Classes p (now col) (now values) ⌝ }
     ensures { λ r. ⌜ (r ≡ Columns.offset p (now (col .entry))) × (r < p) ⌝ }
 {
     let d = dominant(col, values);
@@ -265,7 +265,7 @@ pub fn offset(col: &[u64], values: &[u64]) -> u64
 
 // What a column saves in basis.
 fn gain(col: &[u64]) -> usize
-    requires { ⌜ Said.Column p (now col) ⌝ }
+    requires { ⌜ Contracts.Column p (now col) ⌝ }
     ensures { λ r. ⌜ r ≡ Columns.gain p (now (col .entry)) ⌝ }
 {
     if others(col, col[0]) == 0 {
@@ -294,7 +294,7 @@ fn start(lengths: &[u64], j: usize) -> usize
 
 // Column j.
 pub fn column<'a>(lengths: &[u64], entries: &'a [u64], j: usize) -> &'a [u64]
-    requires { ⌜ Said.Handed (now lengths) (now entries) × (j < length (now lengths)) ⌝ }
+    requires { ⌜ Contracts.Handed (now lengths) (now entries) × (j < length (now lengths)) ⌝ }
     ensures { λ r. ⌜ now r ≡ Columns.column (Prepare.columns (now (lengths .entry)) (now (entries .entry))) j ⌝ }
 {
     let a = start(lengths, j);
@@ -321,7 +321,7 @@ fn same(a: &[u64], b: &[u64]) -> bool
 
 // Whether an earlier column equals column j.
 fn is_repeated(lengths: &[u64], entries: &[u64], j: usize) -> bool
-    requires { ⌜ Said.Handed (now lengths) (now entries) × (j < length (now lengths)) ⌝ }
+    requires { ⌜ Contracts.Handed (now lengths) (now entries) × (j < length (now lengths)) ⌝ }
     ensures { λ r. ⌜ r ≡ Columns.isAmong (Prepare.columns (now (lengths .entry)) (now (entries .entry))) j j ⌝ }
 {
     let mut i = j;
@@ -336,8 +336,8 @@ fn is_repeated(lengths: &[u64], entries: &[u64], j: usize) -> bool
 
 // What each column saves in basis, 0 past the last.
 pub fn gains(lengths: &[u64], entries: &[u64]) -> [u64; 16]
-    requires { ⌜ Said.Tested p (now lengths) (now entries) ⌝ }
-    ensures { λ r. ⌜ r ≡ Said.gains p (Prepare.columns (now (lengths .entry)) (now (entries .entry))) ⌝ }
+    requires { ⌜ Contracts.Tested p (now lengths) (now entries) ⌝ }
+    ensures { λ r. ⌜ r ≡ Contracts.gains p (Prepare.columns (now (lengths .entry)) (now (entries .entry))) ⌝ }
 {
     let mut gains = [0u64; 16];
     let mut j = 0;
@@ -350,8 +350,8 @@ pub fn gains(lengths: &[u64], entries: &[u64]) -> [u64; 16]
 
 // What column j adds to its period's savings.
 fn saving(lengths: &[u64], entries: &[u64], gains: &[u64], j: usize) -> u64
-    requires { ⌜ Said.Handed (now lengths) (now entries) × (j < length (now lengths)) × (j < length (now gains)) ⌝ }
-    ensures { λ r. ⌜ r ≡ Said.counted (Prepare.columns (now (lengths .entry)) (now (entries .entry))) (now (gains .entry)) j ⌝ }
+    requires { ⌜ Contracts.Handed (now lengths) (now entries) × (j < length (now lengths)) × (j < length (now gains)) ⌝ }
+    ensures { λ r. ⌜ r ≡ Contracts.counted (Prepare.columns (now (lengths .entry)) (now (entries .entry))) (now (gains .entry)) j ⌝ }
 {
     if is_repeated(lengths, entries, j) {
         0
@@ -362,8 +362,8 @@ fn saving(lengths: &[u64], entries: &[u64], gains: &[u64], j: usize) -> u64
 
 // What each column adds to its period's savings, 0 past the last.
 pub fn savings_each(lengths: &[u64], entries: &[u64], gains: &[u64]) -> [u64; 16]
-    requires { ⌜ Said.Handed (now lengths) (now entries) × (now gains ≡ Said.gains p (Prepare.columns (now lengths) (now entries))) ⌝ }
-    ensures { λ r. ⌜ r ≡ Said.savingsEach p (Prepare.columns (now (lengths .entry)) (now (entries .entry))) ⌝ }
+    requires { ⌜ Contracts.Handed (now lengths) (now entries) × (now gains ≡ Contracts.gains p (Prepare.columns (now lengths) (now entries))) ⌝ }
+    ensures { λ r. ⌜ r ≡ Contracts.savingsEach p (Prepare.columns (now (lengths .entry)) (now (entries .entry))) ⌝ }
 {
     let mut each = [0u64; 16];
     let mut j = 0;
@@ -376,8 +376,8 @@ pub fn savings_each(lengths: &[u64], entries: &[u64], gains: &[u64]) -> [u64; 16
 
 // The savings of a period.
 fn savings(lengths: &[u64], each: &[u64], period: u64) -> u64
-    requires { ⌜ Said.Small (now lengths) (now each) ⌝ }
-    ensures { λ r. ⌜ r ≡ Said.savingsOf (now (lengths .entry)) (now (each .entry)) period (length (now (lengths .entry))) ⌝ }
+    requires { ⌜ Contracts.Small (now lengths) (now each) ⌝ }
+    ensures { λ r. ⌜ r ≡ Contracts.savingsOf (now (lengths .entry)) (now (each .entry)) period (length (now (lengths .entry))) ⌝ }
 {
     let mut sum: u64 = 0;
     let mut i = 0;
@@ -392,8 +392,8 @@ fn savings(lengths: &[u64], each: &[u64], period: u64) -> u64
 
 // Whether a period goes over to the basis.
 fn goes_over(lengths: &[u64], each: &[u64], period: u64) -> bool
-    requires { ⌜ Said.Small (now lengths) (now each) × (period ≤ 128) ⌝ }
-    ensures { λ r. ⌜ r ≡ Said.over (now (lengths .entry)) (now (each .entry)) period ⌝ }
+    requires { ⌜ Contracts.Small (now lengths) (now each) × (period ≤ 128) ⌝ }
+    ensures { λ r. ⌜ r ≡ Contracts.over (now (lengths .entry)) (now (each .entry)) period ⌝ }
 {
     if period < 2 {
         return false;
@@ -415,7 +415,7 @@ fn alone(col: &[u64]) -> Form
 
 // Column j's form.
 pub fn column_form(lengths: &[u64], entries: &[u64], gains: &[u64], each: &[u64], j: usize) -> Form
-    requires { ⌜ Said.Weighed p (now lengths) (now entries) (now gains) (now each) × (j < length (now lengths)) ⌝ }
+    requires { ⌜ Contracts.Weighed p (now lengths) (now entries) (now gains) (now each) × (j < length (now lengths)) ⌝ }
     ensures { λ r. ⌜ r ≡ Columns.form p (Prepare.columns (now (lengths .entry)) (now (entries .entry))) j ⌝ }
 {
     if !goes_over(lengths, each, lengths[j]) {
@@ -440,7 +440,7 @@ pub fn form_number(form: Form) -> u64
 
 // The columns' forms as numbers, 0 past the last.
 fn forms(lengths: &[u64], entries: &[u64]) -> [u64; 16]
-    requires { ⌜ Said.Tested p (now lengths) (now entries) ⌝ }
+    requires { ⌜ Contracts.Tested p (now lengths) (now entries) ⌝ }
     ensures { λ r. ⌜ r ≡ Prepare.forms p (Prepare.columns (now (lengths .entry)) (now (entries .entry))) ⌝ }
 {
     let gains = gains(lengths, entries);
@@ -484,7 +484,7 @@ fn all_below(col: &[u64]) -> bool
 
 // The first column with an entry not below p: 4.
 fn entries_check(lengths: &[u64], entries: &[u64]) -> Checked
-    requires { ⌜ Said.Handed (now lengths) (now entries) ⌝ }
+    requires { ⌜ Contracts.Handed (now lengths) (now entries) ⌝ }
     ensures { λ r. ⌜ r ≡ Prepare.firstOf (Prepare.entriesCheck p (Prepare.columns (now (lengths .entry)) (now (entries .entry)))) (length (now (lengths .entry))) ⌝ }
 {
     let mut j = 0;

@@ -21,11 +21,12 @@ use Rattle.compact.specs.Reach.{Reach}
 use Rattle.compact.specs.Reach._∈_.{here}
 use Rattle.compact.specs.Reach.Reach.{root}
 use Rattle.compact.specs.Compact.{compact}
-use Rattle.compact.specs.Operands.{AllBelow, one-below}
+use Rattle.compact.specs.OperandLaws.{one-below}
 use Rattle.compact.specs.CompactLaws.{compact-short, compact-well-formed, compact-inside, compact-value, compact-count, compact-twice}
-use Rattle.compact.specs.Written.{nodes-words, words-pass}
+use Rattle.dag.specs.WordLaws.{nodes-words, words-pass}
 use Rattle.compact.specs.Calls.{compacted, keptOf, compactCheck, compactResult}
 use Rattle.compact.specs.CallLaws.{tests}
+use Rattle.compact.specs.Contracts.{AllBelow}
 use Rattle.compact.specs.declared.Kept.{Kept}
 
 module _ (s : List ℕ) (n at-root : ℕ) (result : List ℕ) (e : compactCheck s n at-root (length result) ≡ Good) where

@@ -10,15 +10,16 @@ use lib.Seq.{set-append-left, drop-cons, set-at, getD-at, append-snoc}
 use Rattle.field.specs.declared.QuadFelt.{QuadFelt}
 use Rattle.dag.specs.Nodes.{at, operands}
 use Rattle.dag.specs.NodeLaws.{length-snoc}
-use Rattle.dag.specs.Cases.{below-suc-elim}
+use Rattle.dag.specs.CaseLaws.{below-suc-elim}
 use Rattle.dag.specs.WellFormed.{WellFormed}
 use Rattle.dag.specs.declared.NodeKind.{NodeKind}
 use Rattle.compact.specs.Reach.{marked, sweep, marks}
 use Rattle.compact.specs.Reach._∈_.{here, there}
 use Rattle.compact.specs.Compact.{rank, ranks, kept}
-use Rattle.compact.specs.Operands.{AllBelow, operands-below}
+use Rattle.compact.specs.OperandLaws.{operands-below}
 use Rattle.compact.specs.RankLaws.{rank-marked, rank-unmarked}
 use Rattle.compact.specs.ReachLaws.{Marked, length-marked, length-sweptAt, sweptAt, blank-marks}
+use Rattle.compact.specs.Contracts.{AllBelow}
 
 -- marks behind the places that are marked stay as they are
 module _ (t : List Bool) where

@@ -20,11 +20,12 @@ use Rattle.dag.specs.declared.Refusal.the-variants.{StoreTooShort}
 use Rattle.dag.specs.declared.Checked.the-variants as Checked'
 use Rattle.compact.specs.Reach.{marked, sweep, marks}
 use Rattle.compact.specs.Compact.{rank, ranks, kept, compact}
-use Rattle.compact.specs.Operands.{one-below}
+use Rattle.compact.specs.OperandLaws.{one-below}
 use Rattle.compact.specs.ArrayLaws.{Same, sweep-same, rank-same, kept-same, getD-ranks}
 use Rattle.compact.specs.CompactLaws.{compact-length, compact-short}
-use Rattle.compact.specs.Written.{written, length-written, written-filled}
-use Rattle.compact.specs.Asked.{mostMarks, Unmarked, Markable, Numbered, Writing}
+use Rattle.dag.specs.Store.{written}
+use Rattle.dag.specs.WordLaws.{length-written, written-filled}
+use Rattle.compact.specs.Contracts.{mostMarks, Unmarked, Markable, Numbered, Writing}
 use Rattle.compact.specs.Calls.{compacted, keptOf, compactCheck, compactAnswer, compactResult}
 use Rattle.compact.specs.declared.Kept.{Kept}
 use Rattle.compact.specs.declared.Compacted.the-variants.{Done, Refused}

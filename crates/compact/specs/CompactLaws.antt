@@ -10,7 +10,7 @@ use lib.Seq.{ext-getD}
 use Rattle.ring.specs.Ring.{Ops}
 use Rattle.field.specs.declared.QuadFelt.{QuadFelt}
 use Rattle.dag.specs.Nodes.{at, operands, rename}
-use Rattle.dag.specs.Cases.{not-both, below-suc-elim}
+use Rattle.dag.specs.CaseLaws.{not-both, below-suc-elim}
 use Rattle.dag.specs.WellFormed.{WellFormed}
 use Rattle.dag.specs.WellFormedLaws.{well-formed-nil, well-formed-snoc}
 use Rattle.dag.specs.declared.NodeKind.{NodeKind}
@@ -20,9 +20,10 @@ use Rattle.meaning.specs.ValueLaws.{value-at, value-snoc, value-last}
 use Rattle.compact.specs.Reach.{_∈_, Reach, marks}
 use Rattle.compact.specs.Reach.Reach.{root, operand}
 use Rattle.compact.specs.Compact.{rank, kept, compact}
-use Rattle.compact.specs.Operands.{AllBelow, operands-below, in-map, below-map, map-through, map-same, fine-renamed, value-renamed, same-renamed, operands-renamed}
+use Rattle.compact.specs.OperandLaws.{operands-below, in-map, below-map, map-through, map-same, fine-renamed, value-renamed, same-renamed, operands-renamed}
 use Rattle.compact.specs.ReachLaws.{Marked, marked-inside, length-marks, marks-reach, reach-marks, marks-roots, marks-operands}
 use Rattle.compact.specs.RankLaws.{rank-le, rank-lt, rank-onto, rank-all, all-ranked, kept-elim, length-kept, at-kept}
+use Rattle.compact.specs.Contracts.{AllBelow}
 
 -- marks that are closed under operands
 module _ (Low : QuadFelt → Type 0) (l : List NodeKind) (w : WellFormed Low l) (m : List Bool) (c : (i j : ℕ) → Marked m i → j ∈ operands (at l i) → Marked m j) where

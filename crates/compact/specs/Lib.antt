@@ -1,12 +1,11 @@
 pub mod Reach
 pub mod Compact
 pub mod ReachLaws
-pub mod Operands
+pub mod OperandLaws
 pub mod RankLaws
 pub mod CompactLaws
-pub mod Written
 pub mod ArrayLaws
-pub mod Asked
+pub mod Contracts
 pub mod LoopLaws
 pub mod Calls
 pub mod CallLaws

@@ -10,18 +10,18 @@ use Rattle.field.specs.Field.{p}
 use Rattle.dag.specs.Nodes.{nodes, at, operands, rename, recordAt}
 use Rattle.dag.specs.NodeLaws.{at-nodes}
 use Rattle.dag.specs.CheckLaws.{Within}
-use Rattle.dag.specs.Store.{Sound, put}
+use Rattle.dag.specs.Store.{Sound, put, written}
 use Rattle.dag.specs.StoreLaws.{sound-well-formed}
 use Rattle.dag.specs.WellFormed.{Any, Fine, WellFormed}
 use Rattle.dag.specs.WellFormedLaws.{fine-mono, fine-any}
 use Rattle.dag.specs.declared.NodeKind.{NodeKind}
 use Rattle.compact.specs.Reach.{marked, sweep}
 use Rattle.compact.specs.Compact.{rank, kept}
-use Rattle.compact.specs.Operands.{AllBelow, operands-below, rename-cong}
+use Rattle.compact.specs.OperandLaws.{operands-below, rename-cong}
 use Rattle.compact.specs.ReachLaws.{Marked}
 use Rattle.compact.specs.RankLaws.{rank-lt, length-kept}
-use Rattle.compact.specs.Written.{written, written-put}
-use Rattle.compact.specs.Asked.{Writing}
+use Rattle.dag.specs.WordLaws.{written-put}
+use Rattle.compact.specs.Contracts.{Writing, AllBelow}
 
 -- the operands of a record that passes are inside a longer array
 pub operands-inside : (s : List ℕ) (n i k : ℕ) (x : NodeKind) → Sound p s n → i < n → n ≤ k → x ≡ recordAt s i → AllBelow k (operands x)

@@ -10,7 +10,7 @@ use native.Mathlib.Omega.{arith}
 use lib.ListN.{getD, length}
 use Rattle.dag.specs.Nodes.{at, rename}
 use Rattle.dag.specs.NodeLaws.{at-left, at-last, length-snoc}
-use Rattle.dag.specs.Cases.{cond-elim, not-both, below-suc, below-suc-elim}
+use Rattle.dag.specs.CaseLaws.{cond-elim, not-both, below-suc, below-suc-elim}
 use Rattle.dag.specs.declared.NodeKind.{NodeKind}
 use Rattle.compact.specs.ReachLaws.{Marked}
 use Rattle.compact.specs.Compact.{rank, kept}

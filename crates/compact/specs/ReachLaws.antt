@@ -11,13 +11,14 @@ use lib.ListN.{getD, length, replicate, set, length-set, length-replicate, getD-
 use lib.Seq.{getD-set-same, getD-set-other}
 use Rattle.field.specs.declared.QuadFelt.{QuadFelt}
 use Rattle.dag.specs.Nodes.{at, operands}
-use Rattle.dag.specs.Cases.{cond-elim, not-both}
+use Rattle.dag.specs.CaseLaws.{cond-elim, not-both}
 use Rattle.dag.specs.WellFormed.{WellFormed}
 use Rattle.dag.specs.declared.NodeKind.{NodeKind}
 use Rattle.compact.specs.Reach.{_∈_, Reach, marked, sweep, marks}
 use Rattle.compact.specs.Reach._∈_.{here, there}
 use Rattle.compact.specs.Reach.Reach.{root, operand}
-use Rattle.compact.specs.Operands.{AllBelow, in-nil, in-cons, operands-below}
+use Rattle.compact.specs.OperandLaws.{in-nil, in-cons, operands-below}
+use Rattle.compact.specs.Contracts.{AllBelow}
 
 -- place i is marked
 abbrev pub Marked : List Bool → ℕ → Type 0

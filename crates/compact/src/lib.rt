@@ -5,13 +5,12 @@ use dag::Refusal;
 ghost use mathlib.Core.Path.{_≡_};
 ghost use mathlib.Core.List.{[], _∷_, _++_};
 ghost use Prim.Native.Nat.{_*_, _≤_};
-ghost use lib.ListN.{length, getD, drop};
+ghost use lib.ListN.{length, drop};
 ghost use Rattle.dag.specs.Nodes as Nodes;
 ghost use Rattle.compact.specs.Reach as Reach;
-ghost use Rattle.compact.specs.Operands.{AllBelow};
 ghost use Rattle.compact.specs.Compact as Places;
-ghost use Rattle.compact.specs.Written.{written};
-ghost use Rattle.compact.specs.Asked.{mostMarks, Unmarked, Markable, Numbered, Writing};
+ghost use Rattle.dag.specs.Store.{written};
+ghost use Rattle.compact.specs.Contracts.{mostMarks, Unmarked, Markable, Numbered, Writing, AllBelow};
 ghost use Rattle.compact.specs.Calls as Calls;
 
 // How many records are kept, and the root's new place.

@@ -12,7 +12,7 @@ use Rattle.field.specs.declared.QuadFelt.{QuadFelt}
 use Rattle.dag.specs.Keys.{isKey}
 use Rattle.dag.specs.Nodes.{tag, first, second, decode, recordAt, nodes, at}
 use Rattle.dag.specs.NodeLaws.{length-nodes, at-nodes}
-use Rattle.dag.specs.Cases.{and-true, below-suc, below-suc-elim, cond-elim}
+use Rattle.dag.specs.CaseLaws.{and-true, below-suc, below-suc-elim, cond-elim}
 use Rattle.dag.specs.Refusals.{need, _then_, isRefused}
 use Rattle.dag.specs.Check.{formed, earlier, recordCheck, checkAt, recordsCheck}
 use Rattle.dag.specs.WellFormed.{Fine, WellFormed}

@@ -6,9 +6,9 @@ use mathlib.Core.Path.{_≡_, refl, sym, _∙_}
 use native.Mathlib.Omega.{arith}
 use borrow.Author.Tests.{lt-ltb, le-ltb, ltb-true, leb-true, ne-eqb}
 use lib.Dec.{leb, ltb, eqb}
-use Rattle.dag.specs.Cases.{and-true}
+use Rattle.dag.specs.CaseLaws.{and-true}
 use lib.ListN.{getD}
-use Rattle.dag.specs.Keys.{fieldCounts, keyNumber, isKey}
+use Rattle.dag.specs.Keys.{fieldCounts, keyNumber, isKey, Fields}
 
 -- what lies below a variant stays under 2^16 for each field
 abbrev pub limit : ℕ → ℕ
@@ -63,28 +63,19 @@ module _ (f₁ f₂ f₃ : ℕ) (a : f₁ < 65536) (b : f₂ < 65536) (d : f₃ 
   under-fields (suc (suc (suc zero))) h u = (λ p. omega arith, λ p. omega arith, λ p. omega arith)
   under-fields (suc (suc (suc (suc c)))) h u = absurd (omega arith)
 
--- the fields of a key of variant v: each at most 65,535, unused ones 0
-pub record Fields (v f₁ f₂ f₃ : ℕ) : Type 0 where
-  pub variant : v < 22
-  pub first : f₁ < 65536
-  pub second : f₂ < 65536
-  pub third : f₃ < 65536
-  pub no-first : getD fieldCounts v 0 ≤ 0 → f₁ ≡ 0
-  pub no-second : getD fieldCounts v 0 ≤ 1 → f₂ ≡ 0
-  pub no-third : getD fieldCounts v 0 ≤ 2 → f₃ ≡ 0
-
 -- a key's number is a number that a key has
 pub key-number : (v f₁ f₂ f₃ : ℕ) → Fields v f₁ f₂ f₃ → isKey (keyNumber v f₁ f₂ f₃) ≡ true
 unfolding isKey keyNumber
 key-number v f₁ f₂ f₃ h =
-    let a = h .variant in
-    let b = h .first in
-    let c = h .second in
-    let d = h .third in
+    let a : v < 22 = h .variant in
+    let b : f₁ < 65536 = omega (arith, h .first) in
+    let c : f₂ < 65536 = omega (arith, h .second) in
+    let d : f₃ < 65536 = omega (arith, h .third) in
     let high : (v * 2 ^ 48 + f₁ + f₂ * 2 ^ 16 + f₃ * 2 ^ 32) / 2 ^ 48 ≡ v = omega arith in
     let low : (v * 2 ^ 48 + f₁ + f₂ * 2 ^ 16 + f₃ * 2 ^ 32) % 2 ^ 48 ≡ f₁ + f₂ * 2 ^ 16 + f₃ * 2 ^ 32 = omega arith in
     rw (high, low, lt-ltb v 22 a) (lt-ltb (f₁ + f₂ * 2 ^ 16 + f₃ * 2 ^ 32) (limit (getD fieldCounts v 0))
-    (fields-under f₁ f₂ f₃ b c d (getD fieldCounts v 0) (three-fields v) (h .no-first) (h .no-second) (h .no-third)))
+    (fields-under f₁ f₂ f₃ b c d (getD fieldCounts v 0) (three-fields v)
+    (λ q. h .no-first (omega arith)) (λ q. h .no-second (omega arith)) (λ q. h .no-third (omega arith))))
 
 -- and every such number is a key's
 pub number-key : (k : ℕ) → isKey k ≡ true → k < 2 ^ 64 → Fields (k / 2 ^ 48) (k % 2 ^ 16) (k / 2 ^ 16 % 2 ^ 16) (k / 2 ^ 32 % 2 ^ 16) × (keyNumber (k / 2 ^ 48) (k % 2 ^ 16) (k / 2 ^ 16 % 2 ^ 16) (k / 2 ^ 32 % 2 ^ 16) ≡ k)
@@ -99,9 +90,15 @@ number-key k e h =
         first = omega arith;
         second = omega arith;
         third = omega arith;
-        no-first = zeros .0;
-        no-second = zeros .1;
-        no-third = zeros .2;
+        no-first = λ q. zeros .0 (omega arith);
+        no-second = λ q. zeros .1 (omega arith);
+        no-third = λ q. zeros .2 (omega arith);
       },
       omega arith,
     )
+
+-- different keys have different numbers
+pub numbers-tell : (v f₁ f₂ f₃ w g₁ g₂ g₃ : ℕ) → Fields v f₁ f₂ f₃ → Fields w g₁ g₂ g₃ → keyNumber v f₁ f₂ f₃ ≡ keyNumber w g₁ g₂ g₃
+    → (v ≡ w) × (f₁ ≡ g₁) × (f₂ ≡ g₂) × (f₃ ≡ g₃)
+unfolding keyNumber
+numbers-tell v f₁ f₂ f₃ w g₁ g₂ g₃ h k e = (omega arith, omega arith, omega arith, omega arith)

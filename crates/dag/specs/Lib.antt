@@ -5,13 +5,15 @@ pub mod Check
 pub mod Lookup
 pub mod WellFormed
 pub mod Store
-pub mod Told
-pub mod Cases
+pub mod BranchLaws
+pub mod CaseLaws
 pub mod KeyLaws
+pub mod RefusalLaws
 pub mod NodeLaws
 pub mod LookupLaws
 pub mod WellFormedLaws
 pub mod CheckLaws
 pub mod StoreLaws
+pub mod WordLaws
 pub mod BlankLaws
 pub mod PassLaws

@@ -9,7 +9,7 @@ use lib.ListN.{length}
 use Rattle.dag.specs.Nodes.{at, sameNode}
 use Rattle.dag.specs.Lookup.{lookup}
 use Rattle.dag.specs.NodeLaws.{sameNode-true, eq-sameNode, at-left}
-use Rattle.dag.specs.Cases.{not-both, below-suc-elim}
+use Rattle.dag.specs.CaseLaws.{not-both, below-suc-elim}
 use Rattle.dag.specs.declared.NodeKind.{NodeKind}
 use Rattle.dag.specs.declared.Found.{Found}
 use Rattle.dag.specs.declared.Found.the-variants.{At, Missing}

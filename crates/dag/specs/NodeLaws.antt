@@ -10,7 +10,7 @@ use lib.ListN.{getD, length, length-append, List·getD-append, List·getD-eq-def
 use lib.Seq.{getD-at}
 use borrow.Author.Tests.{eqb-true, eq-eqb}
 use Rattle.dag.specs.Nodes.{tag, first, second, decode, recordAt, nodes, at, sameNode}
-use Rattle.dag.specs.Cases.{and-true, below-suc-elim}
+use Rattle.dag.specs.CaseLaws.{and-true, below-suc-elim}
 use Rattle.dag.specs.declared.NodeKind.{NodeKind}
 use Rattle.dag.specs.declared.NodeKind.the-variants.{Input, Constant, Add, Sub, Mul, Neg}
 

@@ -7,7 +7,7 @@ use borrow.Author.Tests.{leb-true, ltb-true}
 use lib.Dec.{leb, ltb}
 use lib.ListN.{length}
 use Rattle.dag.specs.Nodes.{mostRecords}
-use Rattle.dag.specs.Cases.{and-true}
+use Rattle.dag.specs.CaseLaws.{and-true}
 use Rattle.dag.specs.Refusals.{need, _then_}
 use Rattle.dag.specs.Check.{recordsCheck, rootlessCheck, listCheck}
 use Rattle.dag.specs.CheckLaws.{then-good, need-good}

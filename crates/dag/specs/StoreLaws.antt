@@ -7,15 +7,16 @@ use native.Mathlib.Numerals.{add-one, add-three, towards-suc}
 use native.Mathlib.Nat.{mul-suc, mul-zero}
 use native.Mathlib.Omega.{arith}
 use lib.Dec.{eqb}
-use lib.ListN.{getD, length, set, take, replicate, length-set}
-use lib.Seq.{getD-set-same, getD-set-other, take-suc, take-add, take-all}
+use lib.ListN.{getD, length, set, take, length-set}
+use lib.Seq.{getD-set-same, getD-set-other, getD-take, take-suc}
+use borrow.Author.Tests.{le-leb}
 use Rattle.dag.specs.Nodes.{tag, first, second, decode, recordAt, nodes, at, words, wordsOf, sameNode}
 use Rattle.dag.specs.NodeLaws.{decode-words, length-nodes, at-nodes}
 use Rattle.dag.specs.Refusals.{_then_}
-use Rattle.dag.specs.Check.{recordCheck, checkAt, recordsCheck}
+use Rattle.dag.specs.Check.{checkAt, recordsCheck, rootlessCheck, listCheck}
 use Rattle.dag.specs.CheckLaws.{Within, good-before, passed, passes, faithful, fine-passes, check-well-formed}
 use Rattle.dag.specs.Lookup.{lookup}
-use Rattle.dag.specs.Store.{put, wordsAre, lookupWords, Sound}
+use Rattle.dag.specs.Store.{put, wordsAre, lookupWords, Agree, Sound}
 use Rattle.dag.specs.WellFormed.{Fine, WellFormed}
 use Rattle.dag.specs.declared.NodeKind.{NodeKind}
 use Rattle.dag.specs.declared.Found.{Found}
@@ -58,30 +59,43 @@ lookup-step s t a b (suc i) h = rw (native.Mathlib.Numerals.sub-one (suc i))
 
 -- stores that agree up to the n-th record hold the same records
 module _ (s u : List ℕ) where
-  Agree : ℕ → Type 0
-  Agree n = (k : ℕ) → k < 3 * n → getD s k 0 ≡ getD u k 0
-
-  agree-record : (i : ℕ) → Agree (suc i) → recordAt s i ≡ recordAt u i
-  unfolding Agree recordAt
+  pub agree-record : (i : ℕ) → Agree s u (suc i) → recordAt s i ≡ recordAt u i
+  unfolding recordAt
   agree-record i a = rw (a (3 * i) (omega arith), a (3 * i + 1) (omega arith), a (3 * i + 2) (omega arith))
 
-  agree-check : (m i : ℕ) → Agree (suc i) → checkAt m s i ≡ checkAt m u i
-  unfolding Agree checkAt
+  agree-check : (m i : ℕ) → Agree s u (suc i) → checkAt m s i ≡ checkAt m u i
+  unfolding checkAt
   agree-check m i a = rw (a (3 * i) (omega arith), a (3 * i + 1) (omega arith), a (3 * i + 2) (omega arith))
 
-  agree-less : (n : ℕ) → Agree (suc n) → Agree n
-  unfolding Agree
+  agree-less : (n : ℕ) → Agree s u (suc n) → Agree s u n
   agree-less n a k h = a k (omega arith)
 
-  agree-nodes : (n : ℕ) → Agree n → nodes s n ≡ nodes u n
+  pub agree-nodes : (n : ℕ) → Agree s u n → nodes s n ≡ nodes u n
   unfolding nodes
   agree-nodes zero a = refl
   agree-nodes (suc n) a = ap₂ (λ l x. l ++ (x ∷ [])) (agree-nodes n (agree-less n a)) (agree-record n a)
 
-  agree-checks : (m n : ℕ) → Agree n → recordsCheck m s n ≡ recordsCheck m u n
+  pub agree-checks : (m n : ℕ) → Agree s u n → recordsCheck m s n ≡ recordsCheck m u n
   unfolding recordsCheck
   agree-checks m zero a = refl
   agree-checks m (suc n) a = ap₂ _then_ (agree-checks m n (agree-less n a)) (agree-check m n a)
+
+  pub agree-sound : (m n : ℕ) → 3 * n ≤ length u → Agree s u n → Sound m s n → Sound m u n
+  agree-sound m n room a sound = record { room = room; good = sym (agree-checks m n a) ∙ sound .good }
+
+  -- stores that begin with the same words agree
+  pub take-agree : (n : ℕ) → take (3 * n) s ≡ take (3 * n) u → Agree s u n
+  take-agree n e k h = sym (getD-take (3 * n) s k 0 h) ∙ (ap (λ l. getD l k 0) e ∙ getD-take (3 * n) u k 0 h)
+
+  -- they pass the same tests, each with room for n records
+  module _ (n : ℕ) (left : 3 * n ≤ length s) (right : 3 * n ≤ length u) (a : Agree s u n) where
+    pub agree-rootless : (m least : ℕ) → rootlessCheck m least s n ≡ rootlessCheck m least u n
+    unfolding rootlessCheck
+    agree-rootless m least = rw (le-leb (3 * n) (length s) left, le-leb (3 * n) (length u) right, agree-checks m n a)
+
+    pub agree-list : (m root : ℕ) → listCheck m s n root ≡ listCheck m u n root
+    unfolding listCheck
+    agree-list m root = rw (agree-rootless m 1)
 
 -- a store with a record written
 module _ (s : List ℕ) (i : ℕ) (x : NodeKind) where
@@ -125,7 +139,6 @@ module _ (s : List ℕ) (i : ℕ) (x : NodeKind) where
 -- the record appended
 module _ (s : List ℕ) (n : ℕ) (x : NodeKind) (fits : 3 * n + 2 < length s) where
   put-agrees : Agree s (put s n x) n
-  unfolding Agree
   put-agrees k h = sym (put-other s n x k (omega arith) (omega arith) (omega arith))
 
   pub nodes-put : nodes (put s n x) (suc n) ≡ nodes s n ++ (x ∷ [])

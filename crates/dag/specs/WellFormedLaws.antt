@@ -9,7 +9,7 @@ use Rattle.field.specs.declared.QuadFelt.{QuadFelt}
 use Rattle.dag.specs.Keys.{isKey}
 use Rattle.dag.specs.Nodes.{at, rename, like}
 use Rattle.dag.specs.NodeLaws.{at-left, at-last, at-past, length-snoc}
-use Rattle.dag.specs.Cases.{below-suc-elim}
+use Rattle.dag.specs.CaseLaws.{below-suc-elim}
 use Rattle.dag.specs.WellFormed.{Any, Fine, WellFormed}
 use Rattle.dag.specs.declared.NodeKind.{NodeKind}
 use Rattle.dag.specs.declared.NodeKind.the-variants.{Input, Constant, Add, Sub, Mul, Neg}

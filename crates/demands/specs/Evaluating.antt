@@ -2,10 +2,10 @@
 use Prim.Native.Nat.{ℕ, zero, suc, _*_, _-_, _<_, _≤_}
 use mathlib.Core.Bool.{true, _&&_}
 use mathlib.Core.List.{List, [], _∷_, _++_}
-use mathlib.Core.Path.{_≡_, refl, _∙_, ap}
+use mathlib.Core.Path.{_≡_, refl, sym, _∙_, ap}
 use native.Mathlib.Omega.{arith}
 use lib.Dec.{leb}
-use lib.ListN.{length, replicate}
+use lib.ListN.{length, take, replicate}
 use Rattle.field.specs.Field.{p, quad, quad-laws, Below}
 use Rattle.field.specs.declared.QuadFelt.{QuadFelt}
 use Rattle.dag.specs.Nodes.{blank, nodes, at, wordsOf, filled}
@@ -26,16 +26,17 @@ use Rattle.meaning.specs.Values.{value}
 use Rattle.builder.specs.Steps.{Replay, placeOf, replay}
 use Rattle.builder.specs.ReplayLaws.{Replayed, replay-replayed, replay-short, replay-faithful}
 use Rattle.builder.specs.Calls.{buildCheck, buildResult}
-use Rattle.compact.specs.Written.{nodes-words, words-pass}
+use Rattle.dag.specs.WordLaws.{nodes-words, words-pass}
 use Rattle.compact.specs.Calls.{compacted, keptOf, compactCheck, compactResult}
 use Rattle.compact.specs.AnswerLaws as Compacted
 use Rattle.evaluate.specs.Entries.{firstRefused, entriesCheck, entryOf, isFound, hasEntry, inputsCheck}
 use Rattle.evaluate.specs.EntryLaws.{good-below}
 use Rattle.evaluate.specs.Calls.{entryWords, given, evaluateCheck, evaluateAnswer}
 use Rattle.evaluate.specs.CallLaws.{entries-pass}
-use Rattle.evaluate.specs.ValueSteps.{given-low}
+use Rattle.evaluate.specs.ValueStepLaws.{given-low}
 use Rattle.evaluate.specs.declared.Evaluated.the-variants.{Value, Refused}
 use Rattle.normalize.specs.Calls.{normalizeCheck, normalized, normalizeResult}
+use Rattle.demands.specs.Behind.{same-front, same-nodes, same-check}
 use Rattle.demands.specs.Inputs.{Keyed, Inputs, KeyOf, own-keys, inputs-through, replay-inputs, compact-inputs, normalize-inputs}
 use Rattle.demands.specs.Normalising.{countOf, rootOf, answer-list, answer-passes, answer-value}
 
@@ -81,6 +82,18 @@ pub record InPlaceOf (s : List ℕ) (n root : ℕ) (t : List ℕ) (count root' :
   pub no-new : Inputs (KeyOf (nodes s n)) (nodes t count)
   pub worth : (given : ℕ → QuadFelt) → ((k : ℕ) → Below (given k)) → value quad given (nodes t count) root' ≡ value quad given (nodes s n) root
 
+-- so does every store that begins with t's records
+in-place-front : (s : List ℕ) (n root : ℕ) (t : List ℕ) (count root' : ℕ) → InPlaceOf s n root t count root' → (u : List ℕ) → take (3 * count) u ≡ take (3 * count) t
+    → InPlaceOf s n root u count root'
+in-place-front s n root t count root' h u front =
+    let same = same-front t u count (rooted p t count root' (h .passes) .list .sound .room) front in
+    let records = same-nodes t u count same in
+    record {
+      passes = sym (same-check t u count same root') ∙ h .passes;
+      no-new = rw (← records) (h .no-new);
+      worth = λ given low. rw (← records) (h .worth given low);
+    }
+
 -- an answer that is a value was accepted
 accepts : (c : Checked) (w v : QuadFelt) → unlessRefused c Refused (Value w) ≡ Value v → c ≡ Checked'.Good
 accepts Checked'.Good w v e = refl
@@ -111,9 +124,14 @@ module _ (s : List ℕ) (n root : ℕ) (t : List ℕ) (count root' : ℕ) (h : I
     unfolding evaluateAnswer
     same-answer = rw (accepted-too, e) (ap Value (h .worth (given a m) (given-low a m (entries-pass p entryWords a m (omega arith) (tests .0) .1))))
 
-  pub evaluates-alike : (v : QuadFelt) → evaluateAnswer s n root a m ≡ Value v → evaluateAnswer t count root' a m ≡ Value v
+  evaluates-alike : (v : QuadFelt) → evaluateAnswer s n root a m ≡ Value v → evaluateAnswer t count root' a m ≡ Value v
   unfolding evaluateAnswer
   evaluates-alike v e = same-answer (accepts (evaluateCheck s n root a m) (value quad (given a m) (nodes s n) root) v e) ∙ e
+
+-- where Evaluate answers a value for the list, it answers the same for what stands in its place, from any store that begins with it
+pub evaluates-front : (s : List ℕ) (n root : ℕ) (t : List ℕ) (count root' : ℕ) → InPlaceOf s n root t count root' → (u : List ℕ) → take (3 * count) u ≡ take (3 * count) t
+    → (a : List ℕ) (m : ℕ) (v : QuadFelt) → evaluateAnswer s n root a m ≡ Value v → evaluateAnswer u count root' a m ≡ Value v
+evaluates-front s n root t count root' h u front = evaluates-alike s n root u count root' (in-place-front s n root t count root' h u front)
 
 -- Normalise: its answer stands in place of the list
 pub normalized-in-place : (s : List ℕ) (n root : ℕ) (result : List ℕ) (workWords : ℕ) → normalizeCheck s n root (length result) workWords ≡ Checked'.Good
@@ -126,12 +144,12 @@ normalized-in-place s n root result workWords e =
       worth = answer-value s n root result workWords e;
     }
 
--- where Normalise accepts a list and Evaluate answers a value for it, Evaluate answers the same for the list answered
+-- where Normalise accepts a list and Evaluate answers a value for it, Evaluate answers the same for the list answered, in any store that begins with it
 pub evaluate-same : (s : List ℕ) (n root : ℕ) (result : List ℕ) (workWords : ℕ) → normalizeCheck s n root (length result) workWords ≡ Checked'.Good
-    → (a : List ℕ) (m : ℕ) (v : QuadFelt) → evaluateAnswer s n root a m ≡ Value v
-    → evaluateAnswer (normalizeResult s n root result workWords) (countOf s n root) (rootOf s n root) a m ≡ Value v
+    → (u : List ℕ) → take (3 * countOf s n root) u ≡ take (3 * countOf s n root) (normalizeResult s n root result workWords)
+    → (a : List ℕ) (m : ℕ) (v : QuadFelt) → evaluateAnswer s n root a m ≡ Value v → evaluateAnswer u (countOf s n root) (rootOf s n root) a m ≡ Value v
 evaluate-same s n root result workWords e =
-    evaluates-alike s n root (normalizeResult s n root result workWords) (countOf s n root) (rootOf s n root) (normalized-in-place s n root result workWords e)
+    evaluates-front s n root (normalizeResult s n root result workWords) (countOf s n root) (rootOf s n root) (normalized-in-place s n root result workWords e)
 
 -- Compact: its answer stands in place of the list
 pub compacted-in-place : (s : List ℕ) (n root : ℕ) (result : List ℕ) → compactCheck s n root (length result) ≡ Checked'.Good
@@ -145,10 +163,11 @@ compacted-in-place s n root result e =
     }
 
 pub compact-evaluates : (s : List ℕ) (n root : ℕ) (result : List ℕ) → compactCheck s n root (length result) ≡ Checked'.Good
+    → (u : List ℕ) → take (3 * keptOf (compacted s n root) .count) u ≡ take (3 * keptOf (compacted s n root) .count) (compactResult s n root result)
     → (a : List ℕ) (m : ℕ) (v : QuadFelt) → evaluateAnswer s n root a m ≡ Value v
-    → evaluateAnswer (compactResult s n root result) (keptOf (compacted s n root) .count) (keptOf (compacted s n root) .root) a m ≡ Value v
+    → evaluateAnswer u (keptOf (compacted s n root) .count) (keptOf (compacted s n root) .root) a m ≡ Value v
 compact-evaluates s n root result e =
-    evaluates-alike s n root (compactResult s n root result) (keptOf (compacted s n root) .count) (keptOf (compacted s n root) .root) (compacted-in-place s n root result e)
+    evaluates-front s n root (compactResult s n root result) (keptOf (compacted s n root) .count) (keptOf (compacted s n root) .root) (compacted-in-place s n root result e)
 
 -- Build: its answer stands in place of the list of requests
 module _ (s : List ℕ) (n root : ℕ) (result : List ℕ) (mapWords : ℕ) (e : buildCheck s n root (length result) mapWords ≡ Checked'.Good) where
@@ -186,6 +205,6 @@ module _ (s : List ℕ) (n root : ℕ) (result : List ℕ) (mapWords : ℕ) (e :
         worth = λ given low. rw holds (replay-faithful quad quad-laws (nodes s n) well-formed given low n same root (passed .inside));
       }
 
-  pub build-evaluates : (a : List ℕ) (m : ℕ) (v : QuadFelt) → evaluateAnswer s n root a m ≡ Value v
-      → evaluateAnswer (buildResult s n root result mapWords) (length (built .list)) (placeOf built root) a m ≡ Value v
-  build-evaluates = evaluates-alike s n root (buildResult s n root result mapWords) (length (built .list)) (placeOf built root) built-in-place
+  pub build-evaluates : (u : List ℕ) → take (3 * length (built .list)) u ≡ take (3 * length (built .list)) (buildResult s n root result mapWords)
+      → (a : List ℕ) (m : ℕ) (v : QuadFelt) → evaluateAnswer s n root a m ≡ Value v → evaluateAnswer u (length (built .list)) (placeOf built root) a m ≡ Value v
+  build-evaluates = evaluates-front s n root (buildResult s n root result mapWords) (length (built .list)) (placeOf built root) built-in-place

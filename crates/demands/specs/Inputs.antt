@@ -8,14 +8,14 @@ use Rattle.ring.specs.Ring.{Ops}
 use Rattle.field.specs.declared.QuadFelt.{QuadFelt}
 use Rattle.dag.specs.Nodes.{at, rename, like}
 use Rattle.dag.specs.NodeLaws.{at-left, at-last, length-snoc}
-use Rattle.dag.specs.Cases.{below-suc-elim}
+use Rattle.dag.specs.CaseLaws.{below-suc-elim}
 use Rattle.dag.specs.Lookup.{lookup}
 use Rattle.dag.specs.declared.NodeKind.{NodeKind}
 use Rattle.dag.specs.declared.NodeKind.the-variants.{Input, Constant, Add, Sub, Mul, Neg}
 use Rattle.dag.specs.declared.Found.{Found}
 use Rattle.dag.specs.declared.Found.the-variants.{At, Missing}
 use Rattle.builder.specs.Steps.{addRule, subRule, mulOutcome, negOutcome, follow, addWithin, subWithin, addOutcome, subOutcome, outcome, interned, intern, enter, step, Replay, placeOf, recorded, replay}
-use Rattle.builder.specs.RuleCases.{low-first, add-cases, sub-cases, mul-cases, neg-cases}
+use Rattle.builder.specs.RuleLaws.{low-first, add-cases, sub-cases, mul-cases, neg-cases}
 use Rattle.builder.specs.declared.Rule.{Rule}
 use Rattle.builder.specs.declared.Rule.the-variants.{Use, Make, HandOver}
 use Rattle.builder.specs.declared.Outcome.{Outcome}

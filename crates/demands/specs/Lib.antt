@@ -1,4 +1,9 @@
 pub mod Inputs
 pub mod Repeated
+pub mod Stepping
+pub mod Behind
+pub mod Lowering
+pub mod NoTrace
+pub mod Accepted
 pub mod Normalising
 pub mod Evaluating

@@ -6,7 +6,7 @@ use mathlib.Core.Logic.{_⊎_, _↔_}
 use mathlib.Core.Path.{_≡_, refl, sym, _∙_, ap, ap₂}
 use native.Mathlib.Omega.{arith}
 use borrow.Author.Tests.{le-leb}
-use lib.ListN.{getD, length, take, replicate}
+use lib.ListN.{getD, length, take, replicate, length-append}
 use lib.Seq.{take-at}
 use Rattle.field.specs.Field.{p, quad, quad-laws, Below}
 use Rattle.field.specs.declared.QuadFelt.{QuadFelt}
@@ -23,14 +23,17 @@ use Rattle.dag.specs.declared.Checked.the-variants as Checked'
 use Rattle.meaning.specs.Values.{value}
 use Rattle.compact.specs.Reach.{_∈_}
 use Rattle.compact.specs.Reach._∈_.{here}
-use Rattle.compact.specs.Operands.{AllBelow, one-below}
-use Rattle.compact.specs.Written.{nodes-words, words-pass}
+use Rattle.compact.specs.OperandLaws.{one-below}
+use Rattle.compact.specs.Contracts.{AllBelow}
+use Rattle.dag.specs.WordLaws.{nodes-words, words-pass}
 use Rattle.normalize.specs.Rounds.{fanout, fired, rounded, normalize}
 use Rattle.normalize.specs.RepeatLaws.{Answered}
 use Rattle.normalize.specs.Demand3.{same-value-at, as-many-roots, answer-well-formed, never-more, rounds-at-most-lost, given-back-exactly-when, idempotent}
 use Rattle.normalize.specs.Calls.{normalizeCheck, normalized, normalizeAnswer, normalizeResult}
-use Rattle.normalize.specs.CallLaws.{Passed, passed}
+use Rattle.normalize.specs.CallLaws.{passed}
+use Rattle.normalize.specs.Contracts.{Passed}
 use Rattle.normalize.specs.declared.NormalizeAnswer.the-variants.{Done, Refused}
+use Rattle.demands.specs.Behind.{SameList, same-front, same-nodes, same-check}
 use Rattle.demands.specs.Repeated.{Repeated, rootedOf, normalize-repeats}
 
 -- the count, the root and the rounds kept, answered where Normalise accepts
@@ -179,22 +182,38 @@ module _ (s : List ℕ) (n root : ℕ) (result : List ℕ) (workWords : ℕ) (ac
   unfolding normalized
   answer-again-list = ap₂ (normalize quad) answer-list (sym (one (normalized s n root .roots) one-root)) ∙ idempotent quad (nodes s n) (root ∷ [])
 
-  -- it is accepted wherever the stores are long enough for the count answered
-  module _ (again : List ℕ) (workAgain : ℕ) (result-room : 3 * count ≤ length again) (work-room : 6 * count ≤ workAgain) where
-    pub again-accepted : normalizeCheck store count root' (length again) workAgain ≡ Good
-    unfolding normalizeCheck
-    again-accepted = rw (answer-passes, le-leb (3 * count) (length again) result-room, le-leb (6 * count) workAgain work-room)
+  room : 3 * count ≤ length store
+  room = rw begins (omega (arith, length-append (wordsOf list) behind, length-words list))
 
-    -- it answers the same count and root, and 0 rounds kept
-    pub answer-again : normalizeAnswer store count root' (length again) workAgain ≡ Done count root' 0
-    unfolding normalizeAnswer
-    answer-again = rw (again-accepted, answer-again-list)
+  -- the list answered, in any store that begins with it: the result store, a slice cut behind the list, a copy with other words behind
+  module _ (t : List ℕ) (front : take (3 * count) t ≡ take (3 * count) store) where
+    pub same-list : SameList store t count
+    same-list = same-front store t count room front
 
-    -- and writes the same words, blanks behind them
-    pub answer-again-words : normalizeResult store count root' again workAgain ≡ filled (length again) (take (3 * count) store)
-    unfolding normalizeResult
-    answer-again-words = rw (again-accepted, answer-again-list, start)
+    -- it passes the list check
+    pub again-passes : listCheck p t count root' ≡ Good
+    again-passes = sym (same-check store t count same-list root') ∙ answer-passes
 
-    -- the whole store again, where the two are as long
-    pub answer-again-store : length again ≡ length result → normalizeResult store count root' again workAgain ≡ store
-    answer-again-store e = answer-again-words ∙ (ap₂ filled e start ∙ sym answer-words)
+    -- it is accepted wherever the stores are long enough for the count answered
+    module _ (again : List ℕ) (workAgain : ℕ) (result-room : 3 * count ≤ length again) (work-room : 6 * count ≤ workAgain) where
+      pub again-accepted : normalizeCheck t count root' (length again) workAgain ≡ Good
+      unfolding normalizeCheck
+      again-accepted = rw (again-passes, le-leb (3 * count) (length again) result-room, le-leb (6 * count) workAgain work-room)
+
+      again-list : normalized t count root' ≡ record { list = list; roots = normalized s n root .roots; rounds = 0 }
+      unfolding normalized
+      again-list = rw (← same-nodes store t count same-list) answer-again-list
+
+      -- it answers the same count and root, and 0 rounds kept
+      pub answer-again : normalizeAnswer t count root' (length again) workAgain ≡ Done count root' 0
+      unfolding normalizeAnswer
+      answer-again = rw (again-accepted, again-list)
+
+      -- and writes the same words, blanks behind them
+      pub answer-again-words : normalizeResult t count root' again workAgain ≡ filled (length again) (take (3 * count) store)
+      unfolding normalizeResult
+      answer-again-words = rw (again-accepted, again-list, start)
+
+      -- the whole store again, where the two are as long
+      pub answer-again-store : length again ≡ length result → normalizeResult t count root' again workAgain ≡ store
+      answer-again-store e = answer-again-words ∙ (ap₂ filled e start ∙ sym answer-words)

@@ -10,7 +10,7 @@ use native.Mathlib.Omega.{arith}
 use lib.ListN.{length}
 use Rattle.ring.specs.Ring.{Ops}
 use Rattle.field.specs.declared.QuadFelt.{QuadFelt}
-use Rattle.dag.specs.Cases.{not-both}
+use Rattle.dag.specs.CaseLaws.{not-both}
 use Rattle.dag.specs.declared.NodeKind.{NodeKind}
 use Rattle.compact.specs.Compact.{Rooted}
 use Rattle.normalize.specs.Rounds.{Normal, rounded, isKept, roundsFrom, normalize}

@@ -23,7 +23,7 @@ use Rattle.meaning.specs.Values.{value}
 use Rattle.evaluate.specs.Entries.{Lent, mostEntries, firstRefused, entryCheck, entriesCheck, entryOf, hasEntry, inputsCheck}
 use Rattle.evaluate.specs.EntryLaws.{Last, good-below, found-last}
 use Rattle.evaluate.specs.Calls.{entryWords, elementOf, given, evaluateCheck, evaluateAnswer}
-use Rattle.evaluate.specs.Asked.{Ready, Tested}
+use Rattle.evaluate.specs.Contracts.{Ready, Tested}
 use Rattle.evaluate.specs.declared.Evaluated.the-variants.{Value, Refused}
 
 -- entries that pass

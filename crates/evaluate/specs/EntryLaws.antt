@@ -14,7 +14,7 @@ use Rattle.dag.specs.Keys.{isKey}
 use Rattle.dag.specs.Nodes.{nodes, at, recordAt}
 use Rattle.dag.specs.NodeLaws.{at-nodes}
 use Rattle.dag.specs.declared.NodeKind.{NodeKind}
-use Rattle.dag.specs.Cases.{and-true, below-suc, below-suc-elim}
+use Rattle.dag.specs.CaseLaws.{and-true, below-suc, below-suc-elim}
 use Rattle.dag.specs.Refusals.{need, _then_, isRefused}
 use Rattle.dag.specs.CheckLaws.{then-good, refused-then}
 use Rattle.dag.specs.declared.Found.{Found}

@@ -3,7 +3,7 @@ pub mod EntryLaws
 pub mod KeyIndex
 pub mod KeyIndexLaws
 pub mod Calls
-pub mod Asked
+pub mod Contracts
 pub mod RecordLaws
-pub mod ValueSteps
+pub mod ValueStepLaws
 pub mod CallLaws

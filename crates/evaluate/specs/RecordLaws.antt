@@ -13,7 +13,7 @@ use Rattle.dag.specs.declared.NodeKind.the-variants.{Input, Constant, Add, Sub,
 use Rattle.meaning.specs.Values.{valueOf}
 use Rattle.evaluate.specs.Entries.{entryOf, isFound, hasEntry}
 use Rattle.evaluate.specs.Calls.{entryWords, given}
-use Rattle.evaluate.specs.Asked.{elementAt, Valued, assigned, recordAnswer}
+use Rattle.evaluate.specs.Contracts.{elementAt, Valued, assigned, recordAnswer}
 use Rattle.evaluate.specs.declared.Assigned.{Assigned}
 use Rattle.evaluate.specs.declared.Assigned.the-variants.{Element, Absent}
 

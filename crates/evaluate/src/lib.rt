@@ -16,7 +16,7 @@ ghost use Rattle.evaluate.specs.Entries.{Lent};
 ghost use Rattle.evaluate.specs.Entries as Entries;
 ghost use Rattle.evaluate.specs.KeyIndex as KeyIndex;
 ghost use Rattle.evaluate.specs.Calls as Calls;
-ghost use Rattle.evaluate.specs.Asked as Asked;
+ghost use Rattle.evaluate.specs.Contracts as Contracts;
 
 // The most entries that an assignment has.
 pub const MOST_ENTRIES: usize = 4096;
@@ -173,11 +173,11 @@ fn entry_of(entries: &[u64], width: usize, m: usize, links: &[u64], key: u64) ->
         if index::MOST_STEPS <= steps {
             return entry_search(entries, width, link as usize, key);
         }
-        let i = (link - 1) as usize;
-        if key_at(entries, width, i) == key {
-            return Found::At(i);
+        let entry = (link - 1) as usize;
+        if key_at(entries, width, entry) == key {
+            return Found::At(entry);
         }
-        link = links[half + i];
+        link = links[half + entry];
         steps += 1;
     }
     Found::Missing
@@ -186,7 +186,7 @@ fn entry_of(entries: &[u64], width: usize, m: usize, links: &[u64], key: u64) ->
 // The element that an assignment gives a key: that of its last entry.
 fn given(assignment: &[u64], m: usize, links: &[u64], key: u64) -> Assigned
     requires { ⌜ Lent Calls.entryWords (now assignment) m × KeyIndex.Keyed Calls.entryWords (now assignment) m (now links) ⌝ }
-    ensures { λ r. ⌜ r ≡ Asked.assigned (Entries.isFound (Entries.entryOf Calls.entryWords (now (assignment .entry)) m key)) (Calls.given (now (assignment .entry)) m key) ⌝ }
+    ensures { λ r. ⌜ r ≡ Contracts.assigned (Entries.isFound (Entries.entryOf Calls.entryWords (now (assignment .entry)) m key)) (Calls.given (now (assignment .entry)) m key) ⌝ }
 {
     let found = entry_of(assignment, ENTRY_WORDS, m, links, key);
     match found {
@@ -201,7 +201,7 @@ fn given(assignment: &[u64], m: usize, links: &[u64], key: u64) -> Assigned
 // The element with its coordinates at place i.
 fn element_at(c0: &[u64], c1: &[u64], i: usize) -> QuadFelt
     requires { ⌜ (i < length (now c0)) × (i < length (now c1)) ⌝ }
-    ensures { λ r. ⌜ r ≡ Asked.elementAt (now (c0 .entry)) (now (c1 .entry)) i ⌝ }
+    ensures { λ r. ⌜ r ≡ Contracts.elementAt (now (c0 .entry)) (now (c1 .entry)) i ⌝ }
 {
     QuadFelt {
         c0: c0[i],
@@ -219,9 +219,9 @@ fn value_of(
     c0: &[u64],
     c1: &[u64],
 ) -> Assigned
-    requires { ⌜ Asked.Valued (now list) i (now c0) (now c1) ⌝ }
+    requires { ⌜ Contracts.Valued (now list) i (now c0) (now c1) ⌝ }
     requires { ⌜ Lent Calls.entryWords (now assignment) m × KeyIndex.Keyed Calls.entryWords (now assignment) m (now links) ⌝ }
-    ensures { λ r. ⌜ r ≡ Asked.recordAnswer (now (assignment .entry)) m (Asked.elementAt (now (c0 .entry)) (now (c1 .entry))) (Nodes.recordAt (now (list .entry)) i) ⌝ }
+    ensures { λ r. ⌜ r ≡ Contracts.recordAnswer (now (assignment .entry)) m (Contracts.elementAt (now (c0 .entry)) (now (c1 .entry))) (Nodes.recordAt (now (list .entry)) i) ⌝ }
 {
     let x = dag::node_at(list, i);
     match x {
@@ -259,10 +259,10 @@ fn fill_values(
     c0: &mut [u64],
     c1: &mut [u64],
 ) -> Checked
-    requires { ⌜ Asked.Ready (now list) n (now assignment) m (length (now c0)) × (n ≤ length (now c1)) ⌝ }
+    requires { ⌜ Contracts.Ready (now list) n (now assignment) m (length (now c0)) × (n ≤ length (now c1)) ⌝ }
     requires { ⌜ KeyIndex.Keyed Calls.entryWords (now assignment) m (now links) ⌝ }
     ensures { λ r. ⌜ r ≡ Entries.inputsCheck (Entries.entryOf Calls.entryWords (now (assignment .entry)) m) (Nodes.nodes (now (list .entry)) n) n ⌝ }
-    ensures { λ r. ⌜ (r ≡ Checked.Good → Asked.Filled (now (list .entry)) n (now (assignment .entry)) m (now (c0 .exit)) (now (c1 .exit)) n) ⌝ }
+    ensures { λ r. ⌜ (r ≡ Checked.Good → Contracts.Filled (now (list .entry)) n (now (assignment .entry)) m (now (c0 .exit)) (now (c1 .exit)) n) ⌝ }
 {
     let mut i = 0;
     while i < n {
@@ -287,8 +287,8 @@ fn evaluate_in(
     c1: &mut [u64],
     links: &mut [u64],
 ) -> Evaluated
-    requires { ⌜ Asked.Tested (now list) n root (now assignment) m ⌝ }
-    requires { ⌜ Asked.Stores n m (now c0) (now c1) (now links) ⌝ }
+    requires { ⌜ Contracts.Tested (now list) n root (now assignment) m ⌝ }
+    requires { ⌜ Contracts.Stores n m (now c0) (now c1) (now links) ⌝ }
     ensures { λ r. ⌜ r ≡ Calls.evaluateAnswer (now (list .entry)) n root (now (assignment .entry)) m ⌝ }
 {
     index_keys(assignment, ENTRY_WORDS, m, links);
@@ -301,7 +301,7 @@ fn evaluate_in(
 
 // Evaluate in small stores.
 fn evaluate_small(list: &[u64], n: usize, root: usize, assignment: &[u64], m: usize) -> Evaluated
-    requires { ⌜ Asked.Tested (now list) n root (now assignment) m × (n ≤ 64) × (m ≤ 64) ⌝ }
+    requires { ⌜ Contracts.Tested (now list) n root (now assignment) m × (n ≤ 64) × (m ≤ 64) ⌝ }
     ensures { λ r. ⌜ r ≡ Calls.evaluateAnswer (now (list .entry)) n root (now (assignment .entry)) m ⌝ }
 {
     let mut c0 = [0u64; 64];
@@ -312,7 +312,7 @@ fn evaluate_small(list: &[u64], n: usize, root: usize, assignment: &[u64], m: us
 
 // Evaluate in middle stores.
 fn evaluate_middle(list: &[u64], n: usize, root: usize, assignment: &[u64], m: usize) -> Evaluated
-    requires { ⌜ Asked.Tested (now list) n root (now assignment) m × (n ≤ 512) × (m ≤ 512) ⌝ }
+    requires { ⌜ Contracts.Tested (now list) n root (now assignment) m × (n ≤ 512) × (m ≤ 512) ⌝ }
     ensures { λ r. ⌜ r ≡ Calls.evaluateAnswer (now (list .entry)) n root (now (assignment .entry)) m ⌝ }
 {
     let mut c0 = [0u64; 512];
@@ -323,7 +323,7 @@ fn evaluate_middle(list: &[u64], n: usize, root: usize, assignment: &[u64], m: u
 
 // Evaluate in large stores.
 fn evaluate_large(list: &[u64], n: usize, root: usize, assignment: &[u64], m: usize) -> Evaluated
-    requires { ⌜ Asked.Tested (now list) n root (now assignment) m × (n ≤ 4096) × (m ≤ 4096) ⌝ }
+    requires { ⌜ Contracts.Tested (now list) n root (now assignment) m × (n ≤ 4096) × (m ≤ 4096) ⌝ }
     ensures { λ r. ⌜ r ≡ Calls.evaluateAnswer (now (list .entry)) n root (now (assignment .entry)) m ⌝ }
 {
     let mut c0 = [0u64; 4096];
@@ -334,7 +334,7 @@ fn evaluate_large(list: &[u64], n: usize, root: usize, assignment: &[u64], m: us
 
 // Evaluate behind the tests of its words, in stores of a fitting size.
 fn evaluate_sized(list: &[u64], n: usize, root: usize, assignment: &[u64], m: usize) -> Evaluated
-    requires { ⌜ Asked.Tested (now list) n root (now assignment) m ⌝ }
+    requires { ⌜ Contracts.Tested (now list) n root (now assignment) m ⌝ }
     ensures { λ r. ⌜ r ≡ Calls.evaluateAnswer (now (list .entry)) n root (now (assignment .entry)) m ⌝ }
 {
     let most = larger(n, m);

@@ -1,7 +1,7 @@
 -- The field: residues modulo p, and pairs of them with u² = 7.
 use mathlib.Core.Path.{_≡_, refl, ap₂}
 use mathlib.Core.Bool.{Bool, _&&_}
-use Prim.Native.Nat.{ℕ, _-_, _<_}
+use Prim.Native.Nat.{ℕ, _+_, _-_, _^_, _<_}
 use lib.Dec.{T, eqb, eqb→eq, eqb-refl, lit<}
 use mir.Facts.{and-yes, yes-and}
 use Rattle.ring.specs.Ring.{Ops, Laws, with-low}
@@ -9,9 +9,12 @@ use Rattle.ring.specs.Residue.{residues, residues-laws}
 use Rattle.ring.specs.Pair.{IsPair, pairs, pairs-laws}
 use Rattle.field.specs.declared.QuadFelt.{QuadFelt}
 
--- 2^64 − 2^32 + 1
+-- the prime
 abbrev pub p : ℕ
 p = 18446744069414584321
+
+pub p-is : p ≡ 2 ^ 64 - 2 ^ 32 + 1
+p-is = refl
 
 unfoldable pub felt : Ops ℕ
 felt = residues p
@@ -22,9 +25,16 @@ new a b = record { c0 = a; c1 = b }
 abbrev pub isQuad : IsPair QuadFelt ℕ
 isQuad = record { mk = new; c0 = λ x. x .c0; c1 = λ x. x .c1; c0-mk = λ a b. refl; c1-mk = λ a b. refl; mk-eta = λ x. refl }
 
+-- u, and its square as a coordinate
+abbrev pub u : QuadFelt
+u = new 0 1
+
+abbrev pub uSquared : ℕ
+uSquared = 7
+
 unfoldable pub quad : Ops QuadFelt
 unfolding felt
-quad = pairs isQuad felt 7
+quad = pairs isQuad felt uSquared
 
 -- In lowest form: both coordinates are below p.
 abbrev pub Below : QuadFelt → Type 0
@@ -48,7 +58,7 @@ felt-laws = with-low of-residues (λ a. a < p) of-residues-low low-of-residues
 
 pub of-pairs : Laws quad
 unfolding quad
-of-pairs = pairs-laws isQuad felt-laws 7
+of-pairs = pairs-laws isQuad felt-laws uSquared
 
 pub of-pairs-low : (x : QuadFelt) → of-pairs .Low x → Below x
 unfolding of-pairs quad
@@ -79,7 +89,7 @@ unfolding quad
 sub-parts x y = refl
 
 pub mul-parts : (x y : QuadFelt)
-    → quad .mul x y ≡ new (felt .add (felt .mul (x .c0) (y .c0)) (felt .mul 7 (felt .mul (x .c1) (y .c1)))) (felt .add (felt .mul (x .c0) (y .c1)) (felt .mul (x .c1) (y .c0)))
+    → quad .mul x y ≡ new (felt .add (felt .mul (x .c0) (y .c0)) (felt .mul uSquared (felt .mul (x .c1) (y .c1)))) (felt .add (felt .mul (x .c0) (y .c1)) (felt .mul (x .c1) (y .c0)))
 unfolding quad
 mul-parts x y = refl
 
@@ -106,7 +116,7 @@ pub eq→same : (x y : QuadFelt) → x ≡ y → T (same x y)
 eq→same x y e = rw e (same-refl y)
 
 -- (I) u × u = 7
-pub u-squared : quad .mul (new 0 1) (new 0 1) ≡ new 7 0
+pub u-squared : quad .mul u u ≡ new uSquared 0
 unfolding quad
 u-squared = refl
 

@@ -1,9 +1,11 @@
 // Coordinates: numbers below p, with the operations of the residues modulo p.
 ghost use mathlib.Core.Path.{_≡_};
-ghost use Prim.Native.Nat.{_+_, _*_, _/_, _%_, _^_, _≤_, _<_};
+ghost use Prim.Native.Nat.{_+_, _*_, _-_, _/_, _%_, _^_, _≤_, _<_};
 ghost use Rattle.ring.specs.Power.{pow};
 ghost use Rattle.field.specs.Field.{felt, p};
+ghost use lib.Dec.{eqb};
 ghost use Rattle.field.specs.Generators.{generator};
+ghost use Rattle.field.specs.Generators as Generators;
 use crate::QuadFelt;
 
 // 2^32, the base of a word's halves.
@@ -163,8 +165,21 @@ pub fn two_adic_generator(k: usize) -> u64
     GENERATORS[k]
 }
 
+const HALF: u64 = 9223372034707292161;
+
 // One half.
-pub const HALF: u64 = 9223372034707292161;
+pub fn half() -> u64
+    ensures { λ r. ⌜ (r ≡ Generators.half) × (r < p) ⌝ }
+{
+    HALF
+}
+
+// Whether it is −1.
+pub fn is_minus_one(a: u64) -> bool
+    ensures { λ r. ⌜ r ≡ eqb a (p - 1) ⌝ }
+{
+    a == QuadFelt::MODULUS - 1
+}
 
 // The product of `result` with `square` where the exponent is odd; `result` where it is even.
 fn times_odd(result: u64, square: u64, exponent: u64) -> u64

@@ -20,6 +20,16 @@ impl QuadFelt {
 
     pub const U: QuadFelt = QuadFelt { c0: 0, c1: 1 };
 
+    // u², a coordinate.
+    pub const U_SQUARED: u64 = 7;
+
+    // The element u.
+    pub fn u() -> QuadFelt
+        ensures { λ r. ⌜ r ≡ spec.u ⌝ }
+    {
+        QuadFelt::U
+    }
+
     pub fn new(c0: u64, c1: u64) -> QuadFelt
         ensures { λ r. ⌜ r ≡ spec.new c0 c1 ⌝ }
     {
@@ -59,7 +69,7 @@ impl QuadFelt {
         requires { ⌜ Below self × Below o ⌝ }
         ensures { λ r. ⌜ (r ≡ quad .mul self o) × Below r ⌝ }
     {
-        let squared = felt::mul(7, felt::mul(self.c1, o.c1));
+        let squared = felt::mul(QuadFelt::U_SQUARED, felt::mul(self.c1, o.c1));
         QuadFelt {
             c0: felt::add(felt::mul(self.c0, o.c0), squared),
             c1: felt::add(felt::mul(self.c0, o.c1), felt::mul(self.c1, o.c0)),

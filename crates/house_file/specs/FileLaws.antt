@@ -13,7 +13,7 @@ use lib.Seq.{getD-append-add, getD-at, take-all}
 use Rattle.field.specs.Field.{p}
 use Rattle.dag.specs.Nodes.{blank, decode, recordAt, nodes, at, wordsOf, filled, mostRecords}
 use Rattle.dag.specs.NodeLaws.{at-nodes}
-use Rattle.dag.specs.Cases.{and-true, below-suc-elim}
+use Rattle.dag.specs.CaseLaws.{and-true, below-suc-elim}
 use Rattle.dag.specs.Refusals.{need, _then_, isRefused, unlessRefused}
 use Rattle.dag.specs.Check.{recordCheck, checkAt, recordsCheck, rootlessCheck, listCheck}
 use Rattle.dag.specs.CheckLaws.{Within, then-good, need-good, refused-then}

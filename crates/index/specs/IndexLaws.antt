@@ -9,7 +9,7 @@ use borrow.Author.Tests.{eqb-true, eqb-false}
 use lib.Dec.{eqb}
 use lib.ListN.{getD, length, set, length-set}
 use lib.Seq.{getD-set-same, getD-set-other}
-use Rattle.dag.specs.Cases.{below-suc-elim, cond-elim}
+use Rattle.dag.specs.CaseLaws.{below-suc-elim, cond-elim}
 use Rattle.index.specs.Index.{latest, half, Indexed, noted}
 
 pub latest-le : (bucket : ℕ → ℕ) (n k : ℕ) → latest bucket n k ≤ n

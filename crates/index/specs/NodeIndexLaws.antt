@@ -11,7 +11,7 @@ use borrow.Author.Tests.{eqb-true}
 use lib.Dec.{eqb}
 use lib.ListN.{getD, length, take, replicate, length-replicate}
 use Rattle.dag.specs.BlankLaws.{all-zero}
-use Rattle.dag.specs.Cases.{and-true, below-suc}
+use Rattle.dag.specs.CaseLaws.{and-true, below-suc}
 use Rattle.dag.specs.Nodes.{tag, first, second, at, nodes, recordAt}
 use Rattle.dag.specs.NodeLaws.{at-left, at-last, at-nodes, length-nodes, length-snoc}
 use Rattle.dag.specs.Lookup.{lookup}

@@ -14,11 +14,12 @@ use Rattle.dag.specs.declared.Refusal.{Refusal}
 use Rattle.dag.specs.declared.Checked.{Checked}
 use Rattle.dag.specs.declared.Checked.the-variants.{Good, Refused}
 use Rattle.builder.specs.OutcomeLaws.{list-fine}
-use Rattle.compact.specs.Operands.{one-below}
-use Rattle.compact.specs.Written.{nodes-words}
+use Rattle.compact.specs.OperandLaws.{one-below}
+use Rattle.dag.specs.WordLaws.{nodes-words}
 use Rattle.normalize.specs.Demand3.{never-more, as-many-roots}
 use Rattle.normalize.specs.Calls.{normalizeCheck, normalized, normalizeAnswer, normalizeResult}
-use Rattle.normalize.specs.CallLaws.{Passed, passed}
+use Rattle.normalize.specs.CallLaws.{passed}
+use Rattle.normalize.specs.Contracts.{Passed}
 use Rattle.normalize.specs.declared.NormalizeAnswer.{NormalizeAnswer}
 use Rattle.normalize.specs.declared.NormalizeAnswer.the-variants as NormalizeAnswer'
 use Rattle.text.specs.Writing.{Laid}

@@ -14,13 +14,13 @@ use borrow.Rule.Slice.PartMut.{putMid, same-len-mid}
 use lib.Seq.{drop-at, drop-cons, getD-take, length-take-le, take-length}
 use Rattle.field.specs.Field.{p, felt, quad}
 use Rattle.field.specs.Generators.{generator, half}
-use Rattle.dag.specs.Cases.{and-true, or-true, cond-elim, le-or-lt}
+use Rattle.dag.specs.CaseLaws.{and-true, or-true, cond-elim, le-or-lt}
 use Rattle.dag.specs.Nodes.{blank, mostRecords, nodes, wordsOf, filled}
 use Rattle.dag.specs.NodeLaws.{length-nodes}
 use Rattle.dag.specs.Refusals.{need, _then_, isRefused, unlessRefused}
 use Rattle.dag.specs.Check.{rootlessCheck}
 use Rattle.dag.specs.CheckLaws.{then-good, need-good, refused-then}
-use Rattle.dag.specs.PassLaws.{Listed, listed}
+use Rattle.dag.specs.PassLaws.{listed}
 use Rattle.dag.specs.Store.{Sound}
 use Rattle.dag.specs.StoreLaws.{take-words}
 use Rattle.dag.specs.declared.Refusal.{Refusal}
@@ -29,15 +29,14 @@ use Rattle.dag.specs.declared.Checked.{Checked}
 use Rattle.dag.specs.declared.Checked.the-variants.{Good, Refused}
 use Rattle.columns.specs.Columns.{logWithin, isPower}
 use Rattle.columns.specs.Prepare.{columns, prepareCheck}
-use Rattle.columns.specs.Contracts.{Tested}
 use Rattle.columns.specs.PrepareLaws.{prepared}
 use Rattle.periodic.specs.Builder.{Run}
 use Rattle.periodic.specs.Periodic.{buildPeriodicNodes}
 use Rattle.index.specs.Index.{NodeIndex}
-use Rattle.periodic.specs.Running.{storeWords, links, Holds, Ready, Listing}
+use Rattle.periodic.specs.Contracts.{storeWords, links, Holds, Ready, Listing}
 use Rattle.periodic.specs.StoreLaws.{Same, same-records, same-sound, links-back}
 use Rattle.lower.specs.Lower.{longestFrom, longest, periodGood, lowerCheck, lowered, roomCheck, wholeCheck, lowerAnswer, lowerResult, lowerPlaces, lowerWork}
-use Rattle.lower.specs.Contracts.{Covered}
+use Rattle.lower.specs.Contracts.{Passed, Stored, hasRoom, HandedOver, Finished}
 use Rattle.lower.specs.FormLaws.{covered}
 use Rattle.lower.specs.declared.LowerAnswer.{LowerAnswer}
 use Rattle.lower.specs.declared.LowerAnswer.the-variants as LowerAnswer'
@@ -85,13 +84,6 @@ module _ (ls : List ℕ) (period : ℕ) where
       go : (eqb (length ls) 0 ≡ true) ⊎ ((isPower 32 period && leb (longestFrom 0 ls) period) ≡ true) → getD ls j 0 ≤ period
       go (inl z) = let q = eqb-true (length ls) 0 z in absurd (omega arith)
       go (inr b) = le-trans (longest-le 0 ls j h) (leb-true (longestFrom 0 ls) period (and-true (isPower 32 period) (leb (longestFrom 0 ls) period) b .1))
-
--- what the tests give
-pub record Passed (s : List ℕ) (n : ℕ) (ls es : List ℕ) (period placeWords : ℕ) : Type 0 where
-  pub list : Listed p s 0 n
-  pub tested : Tested p ls es
-  pub place-room : length ls ≤ placeWords
-  pub covered : Covered ls es (logWithin 32 period)
 
 -- the tests in their order
 module _ (s : List ℕ) (n : ℕ) (ls es : List ℕ) (period workWords placeWords : ℕ) where
@@ -141,12 +133,6 @@ pub filled-told : (a b c : List ℕ) (m n : ℕ) → m ≤ length a → take m b
 unfolding filled
 filled-told a b c m n h e k q = q ∙ rw (e, k, length-take-le m a h)
 
--- a store to build in, with the first n records of the list s and their index
-pub record Stored (s : List ℕ) (n : ℕ) (t : List ℕ) : Type 0 where
-  pub long : length t ≡ storeWords
-  pub same : Same s t n
-  pub indexed : NodeIndex (nodes s n) (links t)
-
 module _ (s : List ℕ) (n : ℕ) (few : n ≤ mostRecords) where
   pub stored : (u ys : List ℕ) → take (3 * n) u ≡ take (3 * n) s → length u ≡ storeWords → NodeIndex (nodes s n) ys → length ys ≡ length (take (length u - 3 * mostRecords) (drop (3 * mostRecords) u))
       → Stored s n (putMid (3 * mostRecords) (length u - 3 * mostRecords) u ys)
@@ -180,16 +166,6 @@ module _ (s : List ℕ) (n : ℕ) (few : n ≤ mostRecords) where
     pub stored-ready : Ready t n
     stored-ready = record { long = d .long; sound = λ _. stored-sound; indexed = stored-holds .indexed }
 
--- a list of count records has room
-abbrev pub hasRoom : ℕ → List ℕ → Bool
-hasRoom count result = leb count mostRecords && leb (3 * count) (length result)
-
--- what was built is handed over where it has room
-pub record HandedOver (work : List ℕ) (count : ℕ) (ns result places : List ℕ) (r : LowerAnswer) (after listed : List ℕ) : Type 0 where
-  pub answer : r ≡ cond (hasRoom count result) (LowerAnswer'.Done count) (LowerAnswer'.Refused NoRoom)
-  pub result-is : after ≡ cond (hasRoom count result) (filled (length result) (take (3 * count) work)) result
-  pub places-are : listed ≡ cond (hasRoom count result) (filled (length places) ns) places
-
 module _ (work : List ℕ) (count : ℕ) (ns result places : List ℕ) where
   refuses : hasRoom count result ≡ false → HandedOver work count ns result places (LowerAnswer'.Refused NoRoom) result places
   refuses e = record { answer = rw e; result-is = rw e; places-are = rw e }
@@ -209,12 +185,6 @@ module _ (work : List ℕ) (count : ℕ) (ns result places : List ℕ) where
 need-cond : {A : Type 0} (t : Bool) (q : Refusal) (f : Refusal → A) (g : A) → cond t g (f q) ≡ unlessRefused (need t q) f g
 need-cond true q f g = refl
 need-cond false q f g = refl
-
--- the answer and the stores, past the first tests
-pub record Finished (s : List ℕ) (n : ℕ) (ls es : List ℕ) (period : ℕ) (result places : List ℕ) (r : LowerAnswer) (after listed : List ℕ) : Type 0 where
-  pub answer : r ≡ unlessRefused (roomCheck (lowered s n ls es period) (length result)) LowerAnswer'.Refused (LowerAnswer'.Done (length (lowered s n ls es period .list)))
-  pub result-is : after ≡ unlessRefused (roomCheck (lowered s n ls es period) (length result)) (λ q. result) (filled (length result) (wordsOf (lowered s n ls es period .list)))
-  pub places-are : listed ≡ unlessRefused (roomCheck (lowered s n ls es period) (length result)) (λ q. places) (filled (length places) (lowered s n ls es period .answer))
 
 module _ (result places : List ℕ) (L : Run (List ℕ)) (work : List ℕ) (count : ℕ) (ns : List ℕ) (holds : Holds work count (L .list)) (answers : count ≤ mostRecords → ns ≡ L .answer) (r : LowerAnswer) (after listed : List ℕ) (h : HandedOver work count ns result places r after listed) where
   fits : count ≤ mostRecords → length (L .list) ≡ count

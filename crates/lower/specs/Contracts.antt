@@ -2,16 +2,25 @@
 use Prim.Native.Nat.{ℕ, _*_, _<_, _≤_}
 use mathlib.Core.List.{List}
 use mathlib.Core.Path.{_≡_}
-use lib.ListN.{getD, length}
+use mathlib.Core.Bool.{Bool, cond, _&&_}
+use lib.ListN.{length, take}
+use lib.Dec.{leb}
 use Rattle.field.specs.Field.{p}
-use Rattle.dag.specs.Nodes.{mostRecords}
-use Rattle.dag.specs.Store.{Sound}
+use Rattle.dag.specs.Nodes.{mostRecords, nodes, wordsOf, filled}
+use Rattle.dag.specs.Refusals.{unlessRefused}
+use Rattle.dag.specs.PassLaws.{Listed}
 use Rattle.columns.specs.Columns.{logWithin, logLength, column}
 use Rattle.columns.specs.Prepare.{columns}
 use Rattle.columns.specs.Contracts.{Tested}
 use Rattle.columns.specs.declared.Form.{Form}
 use Rattle.columns.specs.declared.Form.the-variants.{Sparse}
-use Rattle.periodic.specs.Running.{Few}
+use Rattle.periodic.specs.Contracts.{Few, storeWords, links}
+use Rattle.periodic.specs.StoreLaws.{Same}
+use Rattle.dag.specs.declared.Refusal.the-variants.{NoRoom}
+use Rattle.index.specs.Index.{NodeIndex}
+use Rattle.lower.specs.Lower.{lowered, roomCheck}
+use Rattle.lower.specs.declared.LowerAnswer.{LowerAnswer}
+use Rattle.lower.specs.declared.LowerAnswer.the-variants as LowerAnswer'
 
 -- a column in a form that it can have
 pub record Formed (c : List ℕ) (f : Form) : Type 0 where
@@ -21,3 +30,32 @@ pub record Formed (c : List ℕ) (f : Form) : Type 0 where
 pub record Covered (ls es : List ℕ) (log : ℕ) : Type 0 where
   pub tested : Tested p ls es
   pub covers : (j : ℕ) → j < length ls → logLength (column (columns ls es) j) ≤ log
+
+-- what the tests give
+pub record Passed (s : List ℕ) (n : ℕ) (ls es : List ℕ) (period placeWords : ℕ) : Type 0 where
+  pub list : Listed p s 0 n
+  pub tested : Tested p ls es
+  pub place-room : length ls ≤ placeWords
+  pub covered : Covered ls es (logWithin 32 period)
+
+-- a store to build in, with the first n records of the list s and their index
+pub record Stored (s : List ℕ) (n : ℕ) (t : List ℕ) : Type 0 where
+  pub long : length t ≡ storeWords
+  pub same : Same s t n
+  pub indexed : NodeIndex (nodes s n) (links t)
+
+-- a list of count records has room
+abbrev pub hasRoom : ℕ → List ℕ → Bool
+hasRoom count result = leb count mostRecords && leb (3 * count) (length result)
+
+-- what was built is handed over where it has room
+pub record HandedOver (work : List ℕ) (count : ℕ) (ns result places : List ℕ) (r : LowerAnswer) (after listed : List ℕ) : Type 0 where
+  pub answer : r ≡ cond (hasRoom count result) (LowerAnswer'.Done count) (LowerAnswer'.Refused NoRoom)
+  pub result-is : after ≡ cond (hasRoom count result) (filled (length result) (take (3 * count) work)) result
+  pub places-are : listed ≡ cond (hasRoom count result) (filled (length places) ns) places
+
+-- the answer and the stores, past the first tests
+pub record Finished (s : List ℕ) (n : ℕ) (ls es : List ℕ) (period : ℕ) (result places : List ℕ) (r : LowerAnswer) (after listed : List ℕ) : Type 0 where
+  pub answer : r ≡ unlessRefused (roomCheck (lowered s n ls es period) (length result)) LowerAnswer'.Refused (LowerAnswer'.Done (length (lowered s n ls es period .list)))
+  pub result-is : after ≡ unlessRefused (roomCheck (lowered s n ls es period) (length result)) (λ q. result) (filled (length result) (wordsOf (lowered s n ls es period .list)))
+  pub places-are : listed ≡ unlessRefused (roomCheck (lowered s n ls es period) (length result)) (λ q. places) (filled (length places) (lowered s n ls es period .answer))

@@ -1,9 +1,9 @@
 -- Columns in their forms, and logarithms under the shared period.
-use Prim.Native.Nat.{ℕ, zero, suc, _+_, _-_, _^_, _<_, _≤_}
+use Prim.Native.Nat.{ℕ, zero, suc, _-_, _^_, _<_, _≤_}
 use mathlib.Core.Bool.{Bool, true, false, cond, _&&_}
 use mathlib.Core.List.{List}
 use mathlib.Core.Logic.{_⊎_, inl, inr}
-use mathlib.Core.Path.{_≡_, refl, sym, _∙_, ap, subst}
+use mathlib.Core.Path.{_≡_, refl, sym, _∙_, subst}
 use native.Mathlib.Nat.{le-trans, le-of-eq}
 use native.Mathlib.Omega.{arith}
 use borrow.Author.Tests.{le-leb}
@@ -11,8 +11,8 @@ use lib.Dec.{leb, ltb}
 use lib.ListN.{getD, length}
 use Rattle.field.specs.Field.{p, felt, quad}
 use Rattle.field.specs.Generators.{generator, half}
-use Rattle.dag.specs.Cases.{cond-elim, below-suc, not-both}
-use Rattle.columns.specs.Columns.{logWithin, isPower, logLength, nonzero, isSparse, column, gain, goesOver, form}
+use Rattle.dag.specs.CaseLaws.{cond-elim, below-suc}
+use Rattle.columns.specs.Columns.{logWithin, logLength, isSparse, column, gain, goesOver, form}
 use Rattle.columns.specs.Prepare.{columns}
 use Rattle.columns.specs.Contracts.{Handed, Tested}
 use Rattle.columns.specs.LogLaws.{log-le, power-is}
@@ -23,7 +23,6 @@ use Rattle.columns.specs.declared.Form.{Form}
 use Rattle.columns.specs.declared.Form.the-variants.{Sparse, Dense, Basis}
 use Rattle.coefficients.specs.TermLaws.{length-support}
 use Rattle.periodic.specs.Periodic.{sparseValue, denseValue, basisValue, columnValue, columnNode}
-use Rattle.periodic.specs.Running.{Few}
 use Rattle.lower.specs.Contracts.{Formed, Covered}
 
 -- the value in each form

@@ -6,20 +6,18 @@ use dag::Refusal;
 ghost use mathlib.Core.Path.{_≡_};
 ghost use mathlib.Core.Bool.{cond};
 ghost use lib.Dec.{leb};
-ghost use Prim.Native.Nat.{ℕ, _+_, _*_, _-_, _<_, _≤_};
-ghost use lib.ListN.{length, getD, take, drop, replicate};
+ghost use Prim.Native.Nat.{_+_, _*_, _-_, _<_, _≤_};
+ghost use lib.ListN.{length, take, replicate};
 ghost use Rattle.field.specs.Field.{p, felt, quad};
 ghost use Rattle.field.specs.Generators.{generator, half};
 ghost use Rattle.dag.specs.Nodes.{mostRecords, blank, filled};
 ghost use Rattle.dag.specs.Store.{Sound};
-ghost use Rattle.columns.specs.Columns as Columns;
 ghost use Rattle.columns.specs.Prepare as Prepare;
-ghost use Rattle.columns.specs.Contracts as Asked;
+ghost use Rattle.columns.specs.Contracts as ColumnContracts;
 ghost use Rattle.periodic.specs.Periodic as Periodic;
-ghost use Rattle.periodic.specs.Running as Run;
+ghost use Rattle.periodic.specs.Contracts as PeriodicContracts;
 ghost use Rattle.lower.specs.Lower as Lower;
-ghost use Rattle.lower.specs.Contracts as Said;
-ghost use Rattle.lower.specs.CallLaws as CallLaws;
+ghost use Rattle.lower.specs.Contracts as Contracts;
 
 // The longest shared period is 2^32.
 const MOST_PERIOD_LOG: usize = 32;
@@ -32,8 +30,8 @@ pub enum LowerAnswer {
 
 // The value of a column in this form, whose point is ZK squared k times.
 fn column_value(list: &mut [u64], n: usize, col: &[u64], form: Form, k: usize) -> Entered
-    requires { ⌜ Run.Ready (now list) n × Asked.Column p (now col) × Said.Formed (now col) form ⌝ }
-    ensures { λ r. ⌜ Run.Entering (now (list .entry)) n (Periodic.columnValue quad p felt generator half (now (col .entry)) form k) (now (list .exit)) r ⌝ }
+    requires { ⌜ PeriodicContracts.Ready (now list) n × ColumnContracts.Column p (now col) × Contracts.Formed (now col) form ⌝ }
+    ensures { λ r. ⌜ PeriodicContracts.Entering (now (list .entry)) n (Periodic.columnValue quad p felt generator half (now (col .entry)) form k) (now (list .exit)) r ⌝ }
 {
     match form {
         Form::Sparse => periodic::sparse_value(list, n, col, k),
@@ -53,8 +51,8 @@ fn column_node(
     log: usize,
     j: usize,
 ) -> Entered
-    requires { ⌜ Run.Ready (now list) n × Asked.Weighed p (now lengths) (now entries) (now gains) (now each) × Said.Covered (now lengths) (now entries) log × (j < length (now lengths)) ⌝ }
-    ensures { λ r. ⌜ Run.Entering (now (list .entry)) n (Periodic.columnNode quad p felt generator half (Prepare.columns (now (lengths .entry)) (now (entries .entry))) log j) (now (list .exit)) r ⌝ }
+    requires { ⌜ PeriodicContracts.Ready (now list) n × ColumnContracts.Weighed p (now lengths) (now entries) (now gains) (now each) × Contracts.Covered (now lengths) (now entries) log × (j < length (now lengths)) ⌝ }
+    ensures { λ r. ⌜ PeriodicContracts.Entering (now (list .entry)) n (Periodic.columnNode quad p felt generator half (Prepare.columns (now (lengths .entry)) (now (entries .entry))) log j) (now (list .exit)) r ⌝ }
 {
     let col = columns::column(lengths, entries, j);
     let form = columns::column_form(lengths, entries, gains, each, j);
@@ -70,8 +68,8 @@ fn build_periodic_nodes(
     log: usize,
     places: &mut [u64],
 ) -> usize
-    requires { ⌜ Run.Ready (now list) n × Said.Covered (now lengths) (now entries) log × (length (now lengths) ≤ length (now places)) ⌝ }
-    ensures { λ r. ⌜ Run.Listing (now (list .entry)) n (Periodic.buildPeriodicNodes quad p felt generator half (Prepare.columns (now (lengths .entry)) (now (entries .entry))) log) (now (list .exit)) r (now (places .exit)) (length (now (lengths .entry))) ⌝ }
+    requires { ⌜ PeriodicContracts.Ready (now list) n × Contracts.Covered (now lengths) (now entries) log × (length (now lengths) ≤ length (now places)) ⌝ }
+    ensures { λ r. ⌜ PeriodicContracts.Listing (now (list .entry)) n (Periodic.buildPeriodicNodes quad p felt generator half (Prepare.columns (now (lengths .entry)) (now (entries .entry))) log) (now (list .exit)) r (now (places .exit)) (length (now (lengths .entry))) ⌝ }
 {
     let gains = columns::gains(lengths, entries);
     let each = columns::savings_each(lengths, entries, &gains);
@@ -162,8 +160,8 @@ fn fill_from(from: &[u64], m: usize, to: &mut [u64])
 
 // Writes the first n records of a list and their index to a store.
 fn store_list(list: &[u64], n: usize, store: &mut [u64])
-    requires { ⌜ Sound p (now list) n × (n ≤ mostRecords) × (length (now store) ≡ Run.storeWords) ⌝ }
-    ensures { λ _. ⌜ CallLaws.Stored (now (list .entry)) n (now (store .exit)) ⌝ }
+    requires { ⌜ Sound p (now list) n × (n ≤ mostRecords) × (length (now store) ≡ PeriodicContracts.storeWords) ⌝ }
+    ensures { λ _. ⌜ Contracts.Stored (now (list .entry)) n (now (store .exit)) ⌝ }
 {
     dag::copy_words(list, 3 * n, store);
     index::index_list(list, n, &mut store[periodic::RECORD_WORDS..]);
@@ -178,7 +176,7 @@ fn hand_over(
     places: &mut [u64],
 ) -> LowerAnswer
     requires { ⌜ (3 * mostRecords ≤ length (now work)) × (length (now nodes) ≤ length (now places)) ⌝ }
-    ensures { λ r. ⌜ CallLaws.HandedOver (now (work .entry)) count (now (nodes .entry)) (now (result .entry)) (now (places .entry)) r (now (result .exit)) (now (places .exit)) ⌝ }
+    ensures { λ r. ⌜ Contracts.HandedOver (now (work .entry)) count (now (nodes .entry)) (now (result .entry)) (now (places .entry)) r (now (result .exit)) (now (places .exit)) ⌝ }
 {
     if dag::MOST_RECORDS < count {
         return LowerAnswer::Refused(Refusal::NoRoom);
@@ -202,8 +200,8 @@ fn lower_with(
     store: &mut [u64],
     places: &mut [u64],
 ) -> LowerAnswer
-    requires { ⌜ CallLaws.Passed (now list) n (now lengths) (now entries) period (length (now places)) × (length (now store) ≡ Run.storeWords) ⌝ }
-    ensures { λ r. ⌜ CallLaws.Finished (now (list .entry)) n (now (lengths .entry)) (now (entries .entry)) period (now (result .entry)) (now (places .entry)) r (now (result .exit)) (now (places .exit)) ⌝ }
+    requires { ⌜ Contracts.Passed (now list) n (now lengths) (now entries) period (length (now places)) × (length (now store) ≡ PeriodicContracts.storeWords) ⌝ }
+    ensures { λ r. ⌜ Contracts.Finished (now (list .entry)) n (now (lengths .entry)) (now (entries .entry)) period (now (result .entry)) (now (places .entry)) r (now (result .exit)) (now (places .exit)) ⌝ }
 {
     store_list(list, n, store);
     let mut nodes = [0u64; 16];
@@ -223,8 +221,8 @@ fn lower_ready(
     work: &mut [u64],
     places: &mut [u64],
 ) -> LowerAnswer
-    requires { ⌜ CallLaws.Passed (now list) n (now lengths) (now entries) period (length (now places)) ⌝ }
-    ensures { λ r. ⌜ CallLaws.Finished (now (list .entry)) n (now (lengths .entry)) (now (entries .entry)) period (now (result .entry)) (now (places .entry)) r (now (result .exit)) (now (places .exit)) × (now (work .exit) ≡ replicate (length (now (work .entry))) blank) ⌝ }
+    requires { ⌜ Contracts.Passed (now list) n (now lengths) (now entries) period (length (now places)) ⌝ }
+    ensures { λ r. ⌜ Contracts.Finished (now (list .entry)) n (now (lengths .entry)) (now (entries .entry)) period (now (result .entry)) (now (places .entry)) r (now (result .exit)) (now (places .exit)) × (now (work .exit) ≡ replicate (length (now (work .entry))) blank) ⌝ }
 {
     dag::blank_from(work, 0);
     let mut store = [0u64; 5 * dag::MOST_RECORDS];

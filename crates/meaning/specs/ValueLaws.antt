@@ -12,7 +12,7 @@ use Rattle.ring.specs.Ring.{Ops, Laws}
 use Rattle.field.specs.declared.QuadFelt.{QuadFelt}
 use Rattle.dag.specs.Nodes.{at, rename}
 use Rattle.dag.specs.NodeLaws.{at-left, at-last, length-snoc}
-use Rattle.dag.specs.Cases.{below-suc-elim}
+use Rattle.dag.specs.CaseLaws.{below-suc-elim}
 use Rattle.dag.specs.WellFormed.{Fine, WellFormed}
 use Rattle.dag.specs.declared.NodeKind.{NodeKind}
 use Rattle.dag.specs.declared.NodeKind.the-variants.{Input, Constant, Add, Sub, Mul, Neg}

@@ -12,27 +12,27 @@ use lib.ListN.{length, getD, take, replicate}
 use Rattle.field.specs.Field.{p, quad, quad-laws}
 use Rattle.dag.specs.Nodes.{blank, nodes, wordsOf, filled}
 use Rattle.dag.specs.NodeLaws.{length-nodes}
-use Rattle.dag.specs.Cases.{and-true}
+use Rattle.dag.specs.CaseLaws.{and-true}
 use Rattle.dag.specs.Refusals.{need, _then_}
 use Rattle.dag.specs.Check.{listCheck}
 use Rattle.dag.specs.CheckLaws.{then-good, need-good}
 use Rattle.dag.specs.PassLaws.{rooted}
-use Rattle.dag.specs.Store.{Sound, copied}
+use Rattle.dag.specs.Store.{Sound, copied, written}
 use Rattle.dag.specs.StoreLaws.{take-words}
 use Rattle.dag.specs.declared.NodeKind.{NodeKind}
 use Rattle.dag.specs.declared.Refusal.{Refusal}
 use Rattle.dag.specs.declared.Refusal.the-variants.{StoreTooShort}
 use Rattle.dag.specs.declared.Checked.the-variants.{Good, Refused}
 use Rattle.builder.specs.OutcomeLaws.{list-fine}
-use Rattle.builder.specs.Holds.{filled-list}
-use Rattle.compact.specs.Operands.{one-below}
+use Rattle.builder.specs.HoldLaws.{filled-list}
+use Rattle.compact.specs.OperandLaws.{one-below}
 use Rattle.compact.specs.Reach.{here}
-use Rattle.compact.specs.Written.{written, nodes-written, sound-written}
+use Rattle.dag.specs.WordLaws.{nodes-written, sound-written}
 use Rattle.normalize.specs.Rounds.{rounded, isKept, roundsFrom, normalize}
 use Rattle.normalize.specs.RoundLaws.{rounded-inside}
 use Rattle.normalize.specs.RepeatLaws.{kept-shorter, given-back}
-use Rattle.normalize.specs.OnceLaws.{Ready, Once}
 use Rattle.normalize.specs.Calls.{normalizeCheck, normalized, normalizeAnswer, normalizeResult, normalizeWork}
+use Rattle.normalize.specs.Contracts.{Ready, Once, Running, Ended, Passed, Finished}
 use Rattle.normalize.specs.declared.RoundKept.{RoundKept}
 use Rattle.normalize.specs.declared.NormalEnd.{NormalEnd}
 use Rattle.normalize.specs.declared.NormalizeAnswer.{NormalizeAnswer}
@@ -75,13 +75,6 @@ fuel-enough (suc f) g l roots k h j = go (isKept quad l roots) refl g j (λ d q.
 pub copied-list : (s d : List ℕ) (n : ℕ) → Sound p s n → copied s d (3 * n) ≡ written d (nodes s n)
 unfolding copied written
 copied-list s d n sound = rw (take-words p s n sound, length-nodes s n)
-
--- the rounds so far: the list in the result store, its root r, and k rounds kept
-pub record Running (s : List ℕ) (n root : ℕ) (result : List ℕ) (count r k : ℕ) : Type 0 where
-  pub sound : Sound p result count
-  pub inside : r < count
-  pub lost : k + count ≤ n
-  pub rounds : normalized s n root ≡ roundsFrom quad count (nodes result count) (r ∷ []) k
 
 pub running-begins : (s : List ℕ) (n root : ℕ) (d result : List ℕ) → Sound p s n → root < n → result ≡ written d (nodes s n) → Running s n root result n root 0
 unfolding normalized normalize
@@ -131,14 +124,6 @@ module _ (s : List ℕ) (n root : ℕ) (result : List ℕ) (count r k : ℕ) (h 
       pub rounds-end : normalized s n root ≡ record { list = nodes result count; roots = r ∷ []; rounds = k }
       rounds-end = h .rounds ∙ given-back quad count (nodes result count) (r ∷ []) k (sym (o .kept-is) ∙ e)
 
--- the store after the rounds
-pub record Ended (s : List ℕ) (n root : ℕ) (after : List ℕ) (e : NormalEnd) : Type 0 where
-  pub sound : Sound p after (e .count)
-  pub few : e .count ≤ n
-  pub list-is : nodes after (e .count) ≡ normalized s n root .list
-  pub root-is : e .root ≡ getD (normalized s n root .roots) 0 0
-  pub rounds-are : e .rounds ≡ normalized s n root .rounds
-
 pub ended : (s : List ℕ) (n root : ℕ) (result : List ℕ) (count r k : ℕ) → Running s n root result count r k → (after : List ℕ) (q : RoundKept) → Once result count r after q → q .kept ≡ false
     → Ended s n root after (record { count = count; root = r; rounds = k })
 ended s n root result count r k h after q o e =
@@ -151,14 +136,6 @@ ended s n root result count r k h after q o e =
       root-is = sym (ap (λ m. getD (m .roots) 0 0) z);
       rounds-are = sym (ap (λ m. m .rounds) z);
     }
-
--- what Normalise asks once its tests have passed
-pub record Passed (s : List ℕ) (n root resultWords workWords : ℕ) : Type 0 where
-  pub sound : Sound p s n
-  pub few : n ≤ 4096
-  pub inside : root < n
-  pub result-room : 3 * n ≤ resultWords
-  pub work-room : 6 * n ≤ workWords
 
 pub passed : (s : List ℕ) (n root resultWords workWords : ℕ) → normalizeCheck s n root resultWords workWords ≡ Good → Passed s n root resultWords workWords
 unfolding normalizeCheck
@@ -173,12 +150,6 @@ passed s n root resultWords workWords e =
       result-room = leb-true (3 * n) resultWords (stores .0);
       work-room = leb-true (6 * n) workWords (stores .1);
     }
-
--- the answer and the stores
-pub record Finished (s : List ℕ) (n root : ℕ) (result work : List ℕ) (a : NormalizeAnswer) (after blanked : List ℕ) : Type 0 where
-  pub answer : a ≡ NormalizeAnswer'.Done (length (normalized s n root .list)) (getD (normalized s n root .roots) 0 0) (normalized s n root .rounds)
-  pub list-is : after ≡ filled (length result) (wordsOf (normalized s n root .list))
-  pub work-is : blanked ≡ replicate (length work) blank
 
 pub finished : (s : List ℕ) (n root : ℕ) (result work mid : List ℕ) (e : NormalEnd) → Ended s n root mid e → length mid ≡ length result
     → (after last blanked : List ℕ) → after ≡ take (3 * e .count) mid ++ replicate (length mid - 3 * e .count) blank → length last ≡ length work → blanked ≡ replicate (length last - 0) blank

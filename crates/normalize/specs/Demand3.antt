@@ -12,9 +12,9 @@ use Rattle.dag.specs.NodeLaws.{getD-inside}
 use Rattle.dag.specs.WellFormed.{WellFormed}
 use Rattle.dag.specs.declared.NodeKind.{NodeKind}
 use Rattle.meaning.specs.Values.{value}
-use Rattle.compact.specs.Operands.{AllBelow}
 use Rattle.normalize.specs.Rounds.{fanout, fired, rounded, isKept, roundsFrom, normalize}
 use Rattle.normalize.specs.RepeatLaws.{not-kept-when, lost, given-back, shorter, ends, Answered, stay-well-formed, keep-values}
+use Rattle.compact.specs.Contracts.{AllBelow}
 
 module _ (F : Ops QuadFelt) (L : Laws F) (l : List NodeKind) (w : WellFormed (L .Low) l) (roots : List ℕ) (inside : AllBelow (length l) roots) where
   -- whatever element each key is given, each root answered has the value of the root given

@@ -1,53 +1,23 @@
 -- A record entered into a round's list by its plan.
-use Prim.Native.Nat.{ℕ, suc, _+_, _*_, _<_, _≤_}
+use Prim.Native.Nat.{ℕ, _<_}
 use mathlib.Core.List.{List}
-use mathlib.Core.Path.{_≡_, refl, sym, _∙_, ap, ap₂, subst}
+use mathlib.Core.Path.{_≡_, _∙_, ap, ap₂, subst}
 use native.Mathlib.Omega.{arith}
 use lib.ListN.{length}
 use Rattle.field.specs.Field.{p, quad, Below}
 use Rattle.dag.specs.Nodes.{nodes, rename, like}
-use Rattle.dag.specs.Store.{Sound}
 use Rattle.dag.specs.WellFormed.{Fine}
 use Rattle.dag.specs.WellFormedLaws.{fine-mono, fine-like, fine-rename}
 use Rattle.dag.specs.declared.NodeKind.{NodeKind}
 use Rattle.dag.specs.declared.NodeKind.the-variants.{Mul}
-use Rattle.index.specs.Index.{half, NodeIndex}
-use Rattle.builder.specs.Steps.{Built, Replay, placeOf, step}
-use Rattle.builder.specs.Contracts.{Request, Pushed, Room}
-use Rattle.builder.specs.Holds.{read}
+use Rattle.index.specs.Index.{NodeIndex}
+use Rattle.builder.specs.Steps.{placeOf, step}
+use Rattle.builder.specs.Contracts.{Request, Pushed, Room, read}
 use Rattle.builder.specs.declared.Entered.{Entered}
 use Rattle.normalize.specs.Rounds.{planned}
-use Rattle.normalize.specs.PlanLaws.{PlanFine}
+use Rattle.normalize.specs.Contracts.{Entering, Linked, held, Planned, PlanFine}
 use Rattle.normalize.specs.declared.Plan.{Plan}
 use Rattle.normalize.specs.declared.Plan.the-variants.{Factored, Rotated, Plain}
-
--- a record and its plan at place i, with earlier results inside a list of `count` records that has room for two more
-pub record Entering (work : List ℕ) (count : ℕ) (map : List ℕ) (i : ℕ) (x : NodeKind) (plan : Plan) : Type 0 where
-  pub sound : Sound p work count
-  pub places : (j : ℕ) → j < i → read map j < count
-  pub fits : i ≤ length map
-  pub fine : Fine Below i x
-  pub plan-fine : PlanFine i plan
-  pub room : 3 * count + 5 < length work
-
--- the list's index, with room for two records more
-pub record Linked (work : List ℕ) (count : ℕ) (links : List ℕ) : Type 0 where
-  pub index : NodeIndex (nodes work count) links
-  pub room : count + 1 < half links
-
--- the results so far, as two stores hold them
-abbrev pub held : List ℕ → ℕ → List ℕ → Replay
-held work count map = record { list = nodes work count; map = map }
-
--- the store holds the list that the plan gives
-pub record Planned (work : List ℕ) (count : ℕ) (b : Built) (after : List ℕ) (e : Entered) : Type 0 where
-  pub kept : length after ≡ length work
-  pub sound : Sound p after (e .count)
-  pub list-is : nodes after (e .count) ≡ b .list
-  pub place-is : e .place ≡ b .place
-  pub inside : e .place < e .count
-  pub longer : count ≤ e .count
-  pub by-two : e .count ≤ count + 2
 
 by-push : (work : List ℕ) (count : ℕ) (x : NodeKind) (after : List ℕ) (e : Entered) → Pushed work count x after e → Planned work count (step quad (nodes work count) x) after e
 by-push work count x after e h =

@@ -1,5 +1,5 @@
 -- One round on a store: whether it is kept, and what it leaves.
-use Prim.Native.Nat.{ℕ, _+_, _*_, _-_, _^_, _<_, _≤_}
+use Prim.Native.Nat.{ℕ, _+_, _*_, _-_, _<_, _≤_}
 use mathlib.Core.Bool.{Bool, true, false, _&&_, true≢false}
 use mathlib.Core.List.{List, [], _∷_, _++_, map}
 use mathlib.Core.Path.{_≡_, refl, sym, _∙_, ap, ap₂}
@@ -12,39 +12,23 @@ use Rattle.field.specs.Field.{p, quad, quad-laws}
 use Rattle.dag.specs.BlankLaws.{all-zero}
 use Rattle.dag.specs.Nodes.{nodes}
 use Rattle.dag.specs.NodeLaws.{length-nodes}
-use Rattle.dag.specs.Store.{Sound}
+use Rattle.dag.specs.Store.{Sound, written}
 use Rattle.dag.specs.declared.NodeKind.{NodeKind}
 use Rattle.index.specs.Index.{half, Usable}
 use Rattle.builder.specs.Steps.{Replay, placeOf}
 use Rattle.builder.specs.OutcomeLaws.{list-fine}
-use Rattle.builder.specs.Holds.{read, count-is, place-read}
-use Rattle.compact.specs.Operands.{one-below}
+use Rattle.builder.specs.HoldLaws.{count-is, place-read}
+use Rattle.builder.specs.Contracts.{read}
+use Rattle.compact.specs.OperandLaws.{one-below}
 use Rattle.compact.specs.Compact.{compact}
-use Rattle.compact.specs.Asked.{Markable}
+use Rattle.compact.specs.Contracts.{Markable}
 use Rattle.compact.specs.Calls.{compacted, keptOf}
-use Rattle.compact.specs.Written.{written, nodes-written, sound-written}
+use Rattle.dag.specs.WordLaws.{nodes-written, sound-written}
 use Rattle.compact.specs.declared.Kept.{Kept}
 use Rattle.normalize.specs.Rounds.{round, fanout, fired, rounded, isKept}
-use Rattle.normalize.specs.Fanouts.{Countable}
 use Rattle.normalize.specs.RoundLaws.{round-replayed, round-length, rounded-well-formed}
-use Rattle.normalize.specs.TurnLaws.{Rounding, RoundHeld}
+use Rattle.normalize.specs.Contracts.{Countable, Rounding, RoundHeld, Ready, Scratch, Once}
 use Rattle.normalize.specs.declared.RoundKept.{RoundKept}
-
--- what one round asks: a list with its root, and a work store of twice its length
-pub record Ready (s : List ℕ) (n root workWords : ℕ) : Type 0 where
-  pub sound : Sound p s n
-  pub few : n ≤ 4096
-  pub inside : root < n
-  pub room : 6 * n ≤ workWords
-
--- scratch stores for n records: counts, places, and the links of two indexes
-pub record Scratch (n fan places own links : ℕ) : Type 0 where
-  pub fan-long : n ≤ fan
-  pub places-long : n ≤ places
-  pub own-long : 2 * n ≤ own
-  pub own-few : own ≤ 2 ^ 32
-  pub links-long : 4 * n ≤ links
-  pub links-few : links ≤ 2 ^ 32
 
 -- new stores for up to k records
 pub scratch-new : (n k o l : ℕ) → n ≤ k → o ≡ 2 * k → l ≡ 4 * k → k ≤ 4096
@@ -87,14 +71,6 @@ module _ (s : List ℕ) (n root k f m o l : ℕ) (h : Ready s n root k) (c : Scr
 never : {a : Bool} (b : Bool) → a ≡ false → (b && a) ≡ false
 never true e = e
 never false e = refl
-
--- what it says of a store that was s
-pub record Once (s : List ℕ) (n root : ℕ) (after : List ℕ) (r : RoundKept) : Type 0 where
-  pub kept-is : r .kept ≡ isKept quad (nodes s n) (root ∷ [])
-  pub stays : r .kept ≡ false → after ≡ s
-  pub sound : r .kept ≡ true → Sound p after (r .count)
-  pub list-is : r .kept ≡ true → nodes after (r .count) ≡ rounded quad (nodes s n) (root ∷ []) .list
-  pub roots-are : r .kept ≡ true → r .root ∷ [] ≡ rounded quad (nodes s n) (root ∷ []) .roots
 
 module _ (s : List ℕ) (n root : ℕ) (fan : List ℕ) (sound : Sound p s n) (few : n ≤ 4096) (inside : root < n) (ef : read fan ≡ fanout (nodes s n) (root ∷ [])) where
   l : List NodeKind

@@ -15,18 +15,13 @@ use Rattle.dag.specs.declared.NodeKind.the-variants.{Input, Constant, Add, Sub,
 use Rattle.builder.specs.Steps.{isMul}
 use Rattle.normalize.specs.Rounds.{commonFactor, eitherRotation, rotationPlan, factorPlan, planOf}
 use Rattle.normalize.specs.SearchLaws.{Splits, FactorRight, factor-right, Rotates, RotationRight, rotation-right}
+use Rattle.normalize.specs.Contracts.{PlanFine}
 use Rattle.normalize.specs.declared.Factor.{Factor}
 use Rattle.normalize.specs.declared.Factor.the-variants.{Shared, NoFactor}
 use Rattle.normalize.specs.declared.Rotation.{Rotation}
 use Rattle.normalize.specs.declared.Rotation.the-variants.{Onto, NoRotation}
 use Rattle.normalize.specs.declared.Plan.{Plan}
-use Rattle.normalize.specs.declared.Plan.the-variants.{Factored, Rotated, Plain}
-
--- the places of a plan come before the record
-abbrev pub PlanFine : ℕ → Plan → Type 0
-PlanFine i (Factored f x y) = (f < i) × (x < i) × (y < i)
-PlanFine i (Rotated e y) = (e < i) × (y < i)
-PlanFine i Plain = Unit {0}
+use Rattle.normalize.specs.declared.Plan.the-variants.{Plain}
 
 -- an operation's records, by tag, with operands before their place
 abbrev pub BinaryFine : (QuadFelt → Type 0) → (ℕ → ℕ → NodeKind) → Type 0

@@ -1,11 +1,10 @@
 -- What a round's code reads off its list is what the searches say of it.
 use Prim.Native.Nat.{ℕ, _<_, _≤_}
-use mathlib.Core.Bool.{Bool, true, false, cond, _&&_, true≢false}
-use mathlib.Core.List.{List, [], _∷_}
-use mathlib.Core.Path.{_≡_, refl, sym, _∙_, ap, ap₂}
+use mathlib.Core.Bool.{true, false, _&&_, true≢false}
+use mathlib.Core.List.{List}
+use mathlib.Core.Path.{_≡_, refl, sym, _∙_, ap}
 use borrow.Author.Tests.{lt-ltb, le-ltb}
 use lib.Dec.{eqb}
-use lib.ListN.{length}
 use Rattle.dag.specs.Nodes.{tag, first, second, recordAt, nodes, at}
 use Rattle.dag.specs.NodeLaws.{at-nodes, length-nodes}
 use Rattle.dag.specs.Lookup.{lookup}
@@ -13,10 +12,9 @@ use Rattle.dag.specs.declared.NodeKind.{NodeKind}
 use Rattle.dag.specs.declared.Found.{Found}
 use Rattle.dag.specs.declared.Found.the-variants.{At, Missing}
 use Rattle.builder.specs.Steps.{isMul, lowFirst}
-use Rattle.builder.specs.Contracts.{Operands}
-use Rattle.builder.specs.Holds.{read}
+use Rattle.builder.specs.Contracts.{Operands, read}
 use Rattle.normalize.specs.Rounds.{sharedFactor, commonFactor, orElse, ontoBefore, existingRotation}
-use Rattle.normalize.specs.Asked.{sharedIn, isOnto}
+use Rattle.normalize.specs.Contracts.{isOnto}
 use Rattle.normalize.specs.declared.Factor.{Factor}
 use Rattle.normalize.specs.declared.Factor.the-variants.{NoFactor}
 use Rattle.normalize.specs.declared.Rotation.{Rotation}

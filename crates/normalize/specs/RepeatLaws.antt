@@ -10,13 +10,13 @@ use lib.ListN.{length}
 use borrow.Author.Tests.{ltb-true, ltb-false, le-ltb}
 use Rattle.ring.specs.Ring.{Ops, Laws}
 use Rattle.field.specs.declared.QuadFelt.{QuadFelt}
-use Rattle.dag.specs.Cases.{and-true, and-false, not-both}
+use Rattle.dag.specs.CaseLaws.{and-true, and-false, not-both}
 use Rattle.dag.specs.WellFormed.{WellFormed}
 use Rattle.dag.specs.declared.NodeKind.{NodeKind}
 use Rattle.meaning.specs.Values.{value}
-use Rattle.compact.specs.Operands.{AllBelow}
 use Rattle.normalize.specs.Rounds.{fanout, fired, Normal, rounded, isKept, roundsFrom}
 use Rattle.normalize.specs.RoundLaws.{rounded-well-formed, rounded-inside, rounded-values}
+use Rattle.compact.specs.Contracts.{AllBelow}
 
 -- a list with its roots after k rounds
 abbrev pub after : List NodeKind → List ℕ → ℕ → Normal

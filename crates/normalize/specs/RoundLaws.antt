@@ -15,13 +15,15 @@ use Rattle.meaning.specs.Values.{valueOf, value}
 use Rattle.meaning.specs.ValueLaws.{value-at}
 use Rattle.builder.specs.Steps.{Built, Replay, placeOf, recorded, step}
 use Rattle.builder.specs.StepLaws.{Grown, step-grown}
-use Rattle.builder.specs.StepValues.{Worth, step-worth}
+use Rattle.builder.specs.StepValueLaws.{Worth, step-worth}
 use Rattle.builder.specs.ReplayLaws.{Replayed, Faithful, nothing-replayed, recorded-replayed, recorded-faithful, renamed-fine, renamed-worth}
-use Rattle.compact.specs.Operands.{AllBelow, below-map, map-through}
+use Rattle.compact.specs.OperandLaws.{below-map, map-through}
 use Rattle.compact.specs.CompactLaws.{compact-well-formed, compact-inside, compact-values}
+use Rattle.compact.specs.Contracts.{AllBelow}
 use Rattle.normalize.specs.Rounds.{planOf, planned, round, fanout, rounded}
-use Rattle.normalize.specs.PlanLaws.{PlanFine, plan-fine}
-use Rattle.normalize.specs.PlanValues.{planValue, plan-worth}
+use Rattle.normalize.specs.PlanLaws.{plan-fine}
+use Rattle.normalize.specs.PlanValueLaws.{planValue, plan-worth}
+use Rattle.normalize.specs.Contracts.{PlanFine}
 use Rattle.normalize.specs.declared.Plan.{Plan}
 use Rattle.normalize.specs.declared.Plan.the-variants.{Factored, Rotated, Plain}
 

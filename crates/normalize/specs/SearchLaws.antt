@@ -10,7 +10,7 @@ use borrow.Author.Tests.{eqb-true, ltb-true}
 use Rattle.dag.specs.Nodes.{at, tag, first, second}
 use Rattle.dag.specs.Lookup.{lookup}
 use Rattle.dag.specs.LookupLaws.{Says, lookup-says}
-use Rattle.dag.specs.Cases.{cond-elim, and-true}
+use Rattle.dag.specs.CaseLaws.{cond-elim, and-true}
 use Rattle.dag.specs.declared.NodeKind.{NodeKind}
 use Rattle.dag.specs.declared.Found.{Found}
 use Rattle.dag.specs.declared.Found.the-variants.{At, Missing}

@@ -1,26 +1,25 @@
 -- A round's turn: the record at place i planned and entered.
-use Prim.Native.Nat.{ℕ, suc, _+_, _*_, _<_, _≤_}
+use Prim.Native.Nat.{ℕ, _+_, _<_, _≤_}
 use mathlib.Core.Bool.{Bool, true, cond}
 use mathlib.Core.List.{List}
-use mathlib.Core.Path.{_≡_, refl, sym, _∙_, ap, ap₂, subst}
+use mathlib.Core.Path.{_≡_, refl, _∙_, ap, ap₂}
 use native.Mathlib.Numerals.{add-one}
 use native.Mathlib.Omega.{arith}
 use lib.ListN.{length, set}
-use Rattle.field.specs.Field.{p, quad, quad-laws, Below}
-use Rattle.dag.specs.Nodes.{nodes, at, rename, like}
-use Rattle.dag.specs.Store.{Sound}
+use Rattle.field.specs.Field.{quad, quad-laws, Below}
+use Rattle.dag.specs.Nodes.{nodes, at, like}
 use Rattle.dag.specs.WellFormed.{Fine, WellFormed}
 use Rattle.dag.specs.declared.NodeKind.{NodeKind}
 use Rattle.dag.specs.declared.NodeKind.the-variants.{Mul}
-use Rattle.builder.specs.Steps.{Replay, placeOf, recorded, step}
+use Rattle.builder.specs.Steps.{Replay, placeOf, step}
 use Rattle.builder.specs.OutcomeLaws.{list-fine}
-use Rattle.builder.specs.Holds.{read, rename-agree, Holds, holds-nothing, count-is, place-read, holds-more}
+use Rattle.builder.specs.HoldLaws.{rename-agree, holds-nothing, count-is, place-read, holds-more}
+use Rattle.builder.specs.Contracts.{read}
 use Rattle.builder.specs.declared.Entered.{Entered}
 use Rattle.normalize.specs.Rounds.{planOf, planned, round, fires, fired}
-use Rattle.normalize.specs.PlanLaws.{PlanFine, plan-fine}
+use Rattle.normalize.specs.PlanLaws.{plan-fine}
 use Rattle.normalize.specs.RoundLaws.{round-replayed, round-length}
-use Rattle.normalize.specs.Asked.{Planning}
-use Rattle.normalize.specs.EnterLaws.{Entering, held, Planned}
+use Rattle.normalize.specs.Contracts.{Planning, Entering, held, Planned, Rounding, RoundHeld, PlanFine}
 use Rattle.normalize.specs.declared.Plan.{Plan}
 use Rattle.normalize.specs.declared.Plan.the-variants.{Factored, Rotated, Plain}
 
@@ -33,19 +32,6 @@ planned-agree r q i x (Factored f a b) l m h (k, s, t) =
     ap₂ (step quad) (ap (λ b. b .list) inner) (ap₂ Mul (m f k) (ap (λ b. b .place) inner))
 planned-agree r q i x (Rotated e y) l m h (s, t) = ap₂ (step quad) l (ap₂ (like x) (m e s) (m y t))
 planned-agree r q i x Plain l m h k = ap₂ (step quad) l (rename-agree Below (placeOf r) (placeOf q) i x h m)
-
--- what a round asks of its stores
-pub record Rounding (s : List ℕ) (n : ℕ) (fan work map : List ℕ) : Type 0 where
-  pub sound : Sound p s n
-  pub few : n ≤ 4096
-  pub fan-fits : n ≤ length fan
-  pub work-fits : 6 * n ≤ length work
-  pub map-fits : n ≤ length map
-
--- what it leaves there
-pub record RoundHeld (s : List ℕ) (n : ℕ) (fan : List ℕ) (i : ℕ) (work map : List ℕ) (count : ℕ) (t : Bool) : Type 0 where
-  pub holds : Holds (round quad (nodes s n) (read fan) i) i work map count
-  pub fired-is : t ≡ fired (nodes s n) (read fan) i
 
 pub round-begins : (s : List ℕ) (n : ℕ) (fan work map : List ℕ) → RoundHeld s n fan 0 work map 0 (mathlib.Core.Bool.false)
 unfolding round fired

@@ -6,27 +6,21 @@ use dag::NodeKind;
 use dag::Refusal;
 ghost use mathlib.Core.Path.{_≡_};
 ghost use mathlib.Core.Bool.{_&&_, cond, true};
-ghost use mathlib.Core.List.{[], _∷_, _++_};
+ghost use mathlib.Core.List.{[], _∷_};
 ghost use Prim.Native.Nat.{ℕ, _+_, _*_, _<_, _≤_};
 ghost use lib.Dec.{eqb};
-ghost use lib.ListN.{length, getD, set, take, drop};
-ghost use Rattle.field.specs.Field.{p, quad, Below};
+ghost use lib.ListN.{length, getD};
+ghost use Rattle.field.specs.Field.{p, quad};
 ghost use Rattle.dag.specs.Nodes as Nodes;
 ghost use Rattle.dag.specs.Lookup as Lookup;
 ghost use Rattle.dag.specs.Store as Store;
 ghost use Rattle.index.specs.Index.{half, Usable, NodeIndex};
 ghost use Rattle.builder.specs.Steps as Steps;
-ghost use Rattle.builder.specs.Contracts as Built;
-ghost use Rattle.builder.specs.Holds as Held;
-ghost use Rattle.compact.specs.Operands.{AllBelow};
+ghost use Rattle.builder.specs.Contracts as BuilderContracts;
 ghost use Rattle.normalize.specs.Rounds as Rounds;
-ghost use Rattle.normalize.specs.Fanouts as Fanouts;
-ghost use Rattle.normalize.specs.Asked as Asked;
-ghost use Rattle.normalize.specs.EnterLaws as Enter;
-ghost use Rattle.normalize.specs.TurnLaws as Turn;
-ghost use Rattle.normalize.specs.OnceLaws as Rounded;
+ghost use Rattle.normalize.specs.Contracts as Contracts;
 ghost use Rattle.normalize.specs.Calls as Calls;
-ghost use Rattle.normalize.specs.CallLaws as CallLaws;
+ghost use Rattle.compact.specs.Contracts.{AllBelow};
 
 // The operations whose operands may rotate.
 pub enum AssociativeOp {
@@ -67,15 +61,15 @@ pub enum Plan {
 // Counts one mention of place i.
 fn mention(fan: &mut [u64], i: usize)
     requires { ⌜ (i < length (now fan)) × (getD (now fan) i 0 ≤ 65536) ⌝ }
-    ensures { λ _. ⌜ now (fan .exit) ≡ Fanouts.mentioned (now (fan .entry)) (i ∷ []) ⌝ }
+    ensures { λ _. ⌜ now (fan .exit) ≡ Contracts.mentioned (now (fan .entry)) (i ∷ []) ⌝ }
 {
     fan[i] += 1;
 }
 
 // Counts one mention each of places a and b.
 fn mention_pair(fan: &mut [u64], a: usize, b: usize)
-    requires { ⌜ (a < length (now fan)) × (b < length (now fan)) × Fanouts.AtMost 65535 (now fan) ⌝ }
-    ensures { λ _. ⌜ now (fan .exit) ≡ Fanouts.mentioned (now (fan .entry)) (a ∷ b ∷ []) ⌝ }
+    requires { ⌜ (a < length (now fan)) × (b < length (now fan)) × Contracts.AtMost 65535 (now fan) ⌝ }
+    ensures { λ _. ⌜ now (fan .exit) ≡ Contracts.mentioned (now (fan .entry)) (a ∷ b ∷ []) ⌝ }
 {
     mention(fan, a);
     mention(fan, b);
@@ -83,8 +77,8 @@ fn mention_pair(fan: &mut [u64], a: usize, b: usize)
 
 // Counts the mentions that a record makes.
 fn mention_operands(fan: &mut [u64], x: NodeKind)
-    requires { ⌜ AllBelow (length (now fan)) (Nodes.operands x) × Fanouts.AtMost 65535 (now fan) ⌝ }
-    ensures { λ _. ⌜ now (fan .exit) ≡ Fanouts.mentioned (now (fan .entry)) (Nodes.operands x) ⌝ }
+    requires { ⌜ AllBelow (length (now fan)) (Nodes.operands x) × Contracts.AtMost 65535 (now fan) ⌝ }
+    ensures { λ _. ⌜ now (fan .exit) ≡ Contracts.mentioned (now (fan .entry)) (Nodes.operands x) ⌝ }
 {
     match x {
         NodeKind::Add(a, b) => mention_pair(fan, a, b),
@@ -98,8 +92,8 @@ fn mention_operands(fan: &mut [u64], x: NodeKind)
 
 // The fanout of each place: each mention as an operand, and one for the root.
 fn fanout(list: &[u64], n: usize, root: usize, fan: &mut [u64])
-    requires { ⌜ Fanouts.Countable (now list) n root (now fan) ⌝ }
-    ensures { λ _. ⌜ Held.read (now (fan .exit)) ≡ Rounds.fanout (Nodes.nodes (now (list .entry)) n) (root ∷ []) ⌝ }
+    requires { ⌜ Contracts.Countable (now list) n root (now fan) ⌝ }
+    ensures { λ _. ⌜ BuilderContracts.read (now (fan .exit)) ≡ Rounds.fanout (Nodes.nodes (now (list .entry)) n) (root ∷ []) ⌝ }
 {
     let mut i = 0;
     while i < n {
@@ -111,8 +105,8 @@ fn fanout(list: &[u64], n: usize, root: usize, fan: &mut [u64])
 
 // The first factor that two products share: a's first against b's first, then second; then a's second likewise.
 fn shared_factor(a: [usize; 2], b: [usize; 2]) -> Factor
-    requires { ⌜ Asked.Pair a × Asked.Pair b ⌝ }
-    ensures { λ r. ⌜ r ≡ Asked.sharedIn a b ⌝ }
+    requires { ⌜ Contracts.Pair a × Contracts.Pair b ⌝ }
+    ensures { λ r. ⌜ r ≡ Contracts.sharedIn a b ⌝ }
 {
     let mut i = 0;
     let found = 'search: loop {
@@ -153,8 +147,8 @@ fn single_muls(x: NodeKind, y: NodeKind, fan_x: u64, fan_y: u64) -> bool
 
 // Two muls, each of fanout 1, that share a factor.
 fn common_factor(list: &[u64], n: usize, fan: &[u64], a: usize, b: usize) -> Factor
-    requires { ⌜ Built.Operands (now list) n a b × (n ≤ length (now fan)) ⌝ }
-    ensures { λ r. ⌜ r ≡ Rounds.commonFactor (Nodes.nodes (now (list .entry)) n) (Held.read (now (fan .entry))) a b ⌝ }
+    requires { ⌜ BuilderContracts.Operands (now list) n a b × (n ≤ length (now fan)) ⌝ }
+    ensures { λ r. ⌜ r ≡ Rounds.commonFactor (Nodes.nodes (now (list .entry)) n) (BuilderContracts.read (now (fan .entry))) a b ⌝ }
 {
     let x = dag::node_at(list, a);
     let y = dag::node_at(list, b);
@@ -169,7 +163,7 @@ fn common_factor(list: &[u64], n: usize, fan: &[u64], a: usize, b: usize) -> Fac
 
 // The record of an operation on two places, lower place first.
 fn canonical(op: AssociativeOp, a: usize, b: usize) -> NodeKind
-    ensures { λ r. ⌜ r ≡ Steps.lowFirst (Asked.operation op) a b ⌝ }
+    ensures { λ r. ⌜ r ≡ Steps.lowFirst (Contracts.operation op) a b ⌝ }
 {
     match op {
         AssociativeOp::Add => builder::low_add(a, b),
@@ -179,7 +173,7 @@ fn canonical(op: AssociativeOp, a: usize, b: usize) -> NodeKind
 
 // The tag of an operation.
 fn op_tag(op: AssociativeOp) -> u64
-    ensures { λ r. ⌜ r ≡ Nodes.tag (Asked.operation op 0 0) ⌝ }
+    ensures { λ r. ⌜ r ≡ Nodes.tag (Contracts.operation op 0 0) ⌝ }
 {
     match op {
         AssociativeOp::Add => 2,
@@ -189,7 +183,7 @@ fn op_tag(op: AssociativeOp) -> u64
 
 // Whether an operand of this fanout holds the operation and may be taken apart.
 fn rotates(op: AssociativeOp, z: NodeKind, fan_z: u64) -> bool
-    ensures { λ r. ⌜ r ≡ (eqb «fan_z» 1 && eqb (Nodes.tag z) (Nodes.tag (Asked.operation op 0 0))) ⌝ }
+    ensures { λ r. ⌜ r ≡ (eqb «fan_z» 1 && eqb (Nodes.tag z) (Nodes.tag (Contracts.operation op 0 0))) ⌝ }
 {
     if fan_z != 1 {
         return false;
@@ -227,7 +221,7 @@ fn onto_before(
 
 // Whether a rotation was found.
 fn is_onto(r: Rotation) -> bool
-    ensures { λ t. ⌜ t ≡ Asked.isOnto r ⌝ }
+    ensures { λ t. ⌜ t ≡ Contracts.isOnto r ⌝ }
 {
     match r {
         Rotation::Onto {
@@ -249,8 +243,8 @@ fn existing_rotation(
     inner: usize,
     other: usize,
 ) -> Rotation
-    requires { ⌜ Built.Operands (now list) n inner other × (n ≤ length (now fan)) × NodeIndex (Nodes.nodes (now list) n) (now own) ⌝ }
-    ensures { λ r. ⌜ r ≡ Rounds.existingRotation (Asked.operation op) (Nodes.nodes (now (list .entry)) n) (Held.read (now (fan .entry))) i inner other ⌝ }
+    requires { ⌜ BuilderContracts.Operands (now list) n inner other × (n ≤ length (now fan)) × NodeIndex (Nodes.nodes (now list) n) (now own) ⌝ }
+    ensures { λ r. ⌜ r ≡ Rounds.existingRotation (Contracts.operation op) (Nodes.nodes (now (list .entry)) n) (BuilderContracts.read (now (fan .entry))) i inner other ⌝ }
 {
     let z = dag::node_at(list, inner);
     if !rotates(op, z, fan[inner]) {
@@ -276,8 +270,8 @@ fn either_rotation(
     a: usize,
     b: usize,
 ) -> Rotation
-    requires { ⌜ Built.Operands (now list) n a b × (n ≤ length (now fan)) × NodeIndex (Nodes.nodes (now list) n) (now own) ⌝ }
-    ensures { λ r. ⌜ r ≡ Rounds.eitherRotation (Asked.operation op) (Nodes.nodes (now (list .entry)) n) (Held.read (now (fan .entry))) i a b ⌝ }
+    requires { ⌜ BuilderContracts.Operands (now list) n a b × (n ≤ length (now fan)) × NodeIndex (Nodes.nodes (now list) n) (now own) ⌝ }
+    ensures { λ r. ⌜ r ≡ Rounds.eitherRotation (Contracts.operation op) (Nodes.nodes (now (list .entry)) n) (BuilderContracts.read (now (fan .entry))) i a b ⌝ }
 {
     let first = existing_rotation(list, n, own, fan, op, i, a, b);
     if is_onto(first) {
@@ -322,7 +316,7 @@ fn factor_plan(f: Factor, other: Plan) -> Plan
 
 // Whether a factor was found.
 fn is_shared(f: Factor) -> bool
-    ensures { λ t. ⌜ t ≡ Asked.isShared f ⌝ }
+    ensures { λ t. ⌜ t ≡ Contracts.isShared f ⌝ }
 {
     match f {
         Factor::Shared {
@@ -336,8 +330,8 @@ fn is_shared(f: Factor) -> bool
 
 // What a round does with add(a, b) at place i.
 fn add_plan(list: &[u64], n: usize, own: &[u64], fan: &[u64], i: usize, a: usize, b: usize) -> Plan
-    requires { ⌜ Built.Operands (now list) n a b × (n ≤ length (now fan)) × NodeIndex (Nodes.nodes (now list) n) (now own) ⌝ }
-    ensures { λ r. ⌜ r ≡ Rounds.planOf (Nodes.nodes (now (list .entry)) n) (Held.read (now (fan .entry))) i (NodeKind.Add a b) ⌝ }
+    requires { ⌜ BuilderContracts.Operands (now list) n a b × (n ≤ length (now fan)) × NodeIndex (Nodes.nodes (now list) n) (now own) ⌝ }
+    ensures { λ r. ⌜ r ≡ Rounds.planOf (Nodes.nodes (now (list .entry)) n) (BuilderContracts.read (now (fan .entry))) i (NodeKind.Add a b) ⌝ }
 {
     let factor = common_factor(list, n, fan, a, b);
     if is_shared(factor) {
@@ -348,8 +342,8 @@ fn add_plan(list: &[u64], n: usize, own: &[u64], fan: &[u64], i: usize, a: usize
 
 // What a round does with the record x at place i.
 fn plan_of(list: &[u64], n: usize, own: &[u64], fan: &[u64], i: usize, x: NodeKind) -> Plan
-    requires { ⌜ Asked.Planning (now list) n (now fan) i x × NodeIndex (Nodes.nodes (now list) n) (now own) ⌝ }
-    ensures { λ r. ⌜ r ≡ Rounds.planOf (Nodes.nodes (now (list .entry)) n) (Held.read (now (fan .entry))) i x ⌝ }
+    requires { ⌜ Contracts.Planning (now list) n (now fan) i x × NodeIndex (Nodes.nodes (now list) n) (now own) ⌝ }
+    ensures { λ r. ⌜ r ≡ Rounds.planOf (Nodes.nodes (now (list .entry)) n) (BuilderContracts.read (now (fan .entry))) i x ⌝ }
 {
     match x {
         NodeKind::Add(a, b) => add_plan(list, n, own, fan, i, a, b),
@@ -413,8 +407,8 @@ fn enter_factored(
     a: usize,
     b: usize,
 ) -> Entered
-    requires { ⌜ ((i : ℕ) × Enter.Entering (now work) count (now map) i x (Plan.Factored factor a b)) × Enter.Linked (now work) count (now links) ⌝ }
-    ensures { λ r. ⌜ Enter.Planned (now (work .entry)) count (Rounds.planned quad (Enter.held (now (work .entry)) count (now (map .entry))) x (Plan.Factored factor a b)) (now (work .exit)) r × NodeIndex (Nodes.nodes (now (work .exit)) (r .count)) (now (links .exit)) ⌝ }
+    requires { ⌜ ((i : ℕ) × Contracts.Entering (now work) count (now map) i x (Plan.Factored factor a b)) × Contracts.Linked (now work) count (now links) ⌝ }
+    ensures { λ r. ⌜ Contracts.Planned (now (work .entry)) count (Rounds.planned quad (Contracts.held (now (work .entry)) count (now (map .entry))) x (Plan.Factored factor a b)) (now (work .exit)) r × NodeIndex (Nodes.nodes (now (work .exit)) (r .count)) (now (links .exit)) ⌝ }
 {
     let inner = builder::push(
         work,
@@ -439,8 +433,8 @@ fn enter_planned(
     x: NodeKind,
     plan: Plan,
 ) -> Entered
-    requires { ⌜ ((i : ℕ) × Enter.Entering (now work) count (now map) i x plan) × Enter.Linked (now work) count (now links) ⌝ }
-    ensures { λ r. ⌜ Enter.Planned (now (work .entry)) count (Rounds.planned quad (Enter.held (now (work .entry)) count (now (map .entry))) x plan) (now (work .exit)) r × NodeIndex (Nodes.nodes (now (work .exit)) (r .count)) (now (links .exit)) ⌝ }
+    requires { ⌜ ((i : ℕ) × Contracts.Entering (now work) count (now map) i x plan) × Contracts.Linked (now work) count (now links) ⌝ }
+    ensures { λ r. ⌜ Contracts.Planned (now (work .entry)) count (Rounds.planned quad (Contracts.held (now (work .entry)) count (now (map .entry))) x plan) (now (work .exit)) r × NodeIndex (Nodes.nodes (now (work .exit)) (r .count)) (now (links .exit)) ⌝ }
 {
     match plan {
         Plan::Factored {
@@ -484,8 +478,8 @@ fn round(
     links: &mut [u64],
     map: &mut [u64],
 ) -> RoundEnd
-    requires { ⌜ Turn.Rounding (now list) n (now fan) (now work) (now map) × NodeIndex (Nodes.nodes (now list) n) (now own) × Usable (now links) × (2 * n ≤ half (now links)) ⌝ }
-    ensures { λ r. ⌜ Turn.RoundHeld (now (list .entry)) n (now (fan .entry)) n (now (work .exit)) (now (map .exit)) (r .count) (r .fired) ⌝ }
+    requires { ⌜ Contracts.Rounding (now list) n (now fan) (now work) (now map) × NodeIndex (Nodes.nodes (now list) n) (now own) × Usable (now links) × (2 * n ≤ half (now links)) ⌝ }
+    ensures { λ r. ⌜ Contracts.RoundHeld (now (list .entry)) n (now (fan .entry)) n (now (work .exit)) (now (map .exit)) (r .count) (r .fired) ⌝ }
 {
     index::clear(links);
     let mut count = 0;
@@ -521,8 +515,8 @@ fn once_in(
     own: &mut [u64],
     links: &mut [u64],
 ) -> RoundKept
-    requires { ⌜ Rounded.Ready (now result) n root (length (now work)) × (3 * n ≤ length (now result)) × Rounded.Scratch n (length (now fan)) (length (now map)) (length (now own)) (length (now links)) ⌝ }
-    ensures { λ r. ⌜ Rounded.Once (now (result .entry)) n root (now (result .exit)) r ⌝ }
+    requires { ⌜ Contracts.Ready (now result) n root (length (now work)) × (3 * n ≤ length (now result)) × Contracts.Scratch n (length (now fan)) (length (now map)) (length (now own)) (length (now links)) ⌝ }
+    ensures { λ r. ⌜ Contracts.Once (now (result .entry)) n root (now (result .exit)) r ⌝ }
 {
     dag::fill(fan, 0, 0);
     fanout(result, n, root, fan);
@@ -563,8 +557,8 @@ fn normalize_once(
     own: &mut [u64],
     links: &mut [u64],
 ) -> RoundKept
-    requires { ⌜ Rounded.Ready (now result) n root (length (now work)) × (3 * n ≤ length (now result)) × Rounded.Scratch n (length (now fan)) (length (now map)) (length (now own)) (length (now links)) ⌝ }
-    ensures { λ r. ⌜ Rounded.Once (now (result .entry)) n root (now (result .exit)) r ⌝ }
+    requires { ⌜ Contracts.Ready (now result) n root (length (now work)) × (3 * n ≤ length (now result)) × Contracts.Scratch n (length (now fan)) (length (now map)) (length (now own)) (length (now links)) ⌝ }
+    ensures { λ r. ⌜ Contracts.Once (now (result .entry)) n root (now (result .exit)) r ⌝ }
 {
     once_in(
         result,
@@ -607,8 +601,8 @@ fn normalize_rounds(
     own: &mut [u64],
     links: &mut [u64],
 ) -> NormalEnd
-    requires { ⌜ CallLaws.Passed (now list) n root (length (now result)) (length (now work)) × CallLaws.Running (now list) n root (now result) n root 0 × Rounded.Scratch n (length (now fan)) (length (now map)) (length (now own)) (length (now links)) ⌝ }
-    ensures { λ r. ⌜ CallLaws.Ended (now (list .entry)) n root (now (result .exit)) r ⌝ }
+    requires { ⌜ Contracts.Passed (now list) n root (length (now result)) (length (now work)) × Contracts.Running (now list) n root (now result) n root 0 × Contracts.Scratch n (length (now fan)) (length (now map)) (length (now own)) (length (now links)) ⌝ }
+    ensures { λ r. ⌜ Contracts.Ended (now (list .entry)) n root (now (result .exit)) r ⌝ }
 {
     let mut count = n;
     let mut place = root;
@@ -636,8 +630,8 @@ fn normalize_with(
     result: &mut [u64],
     work: &mut [u64],
 ) -> NormalEnd
-    requires { ⌜ CallLaws.Passed (now list) n root (length (now result)) (length (now work)) × CallLaws.Running (now list) n root (now result) n root 0 ⌝ }
-    ensures { λ r. ⌜ CallLaws.Ended (now (list .entry)) n root (now (result .exit)) r ⌝ }
+    requires { ⌜ Contracts.Passed (now list) n root (length (now result)) (length (now work)) × Contracts.Running (now list) n root (now result) n root 0 ⌝ }
+    ensures { λ r. ⌜ Contracts.Ended (now (list .entry)) n root (now (result .exit)) r ⌝ }
 {
     let mut fan = [0u64; 4096];
     let mut map = [0u64; 4096];
@@ -664,8 +658,8 @@ fn normalize_few(
     result: &mut [u64],
     work: &mut [u64],
 ) -> NormalEnd
-    requires { ⌜ CallLaws.Passed (now list) n root (length (now result)) (length (now work)) × CallLaws.Running (now list) n root (now result) n root 0 × (n ≤ 256) ⌝ }
-    ensures { λ r. ⌜ CallLaws.Ended (now (list .entry)) n root (now (result .exit)) r ⌝ }
+    requires { ⌜ Contracts.Passed (now list) n root (length (now result)) (length (now work)) × Contracts.Running (now list) n root (now result) n root 0 × (n ≤ 256) ⌝ }
+    ensures { λ r. ⌜ Contracts.Ended (now (list .entry)) n root (now (result .exit)) r ⌝ }
 {
     let mut fan = [0u64; 256];
     let mut map = [0u64; 256];
@@ -686,8 +680,8 @@ fn normalize_few(
 
 // The rounds, with scratch stores for the list's length.
 fn rounds_of(list: &[u64], n: usize, root: usize, result: &mut [u64], work: &mut [u64]) -> NormalEnd
-    requires { ⌜ CallLaws.Passed (now list) n root (length (now result)) (length (now work)) × CallLaws.Running (now list) n root (now result) n root 0 ⌝ }
-    ensures { λ r. ⌜ CallLaws.Ended (now (list .entry)) n root (now (result .exit)) r ⌝ }
+    requires { ⌜ Contracts.Passed (now list) n root (length (now result)) (length (now work)) × Contracts.Running (now list) n root (now result) n root 0 ⌝ }
+    ensures { λ r. ⌜ Contracts.Ended (now (list .entry)) n root (now (result .exit)) r ⌝ }
 {
     if n <= dag::FEW_RECORDS {
         return normalize_few(list, n, root, result, work);
@@ -726,8 +720,8 @@ fn normalize_ready(
     result: &mut [u64],
     work: &mut [u64],
 ) -> NormalizeAnswer
-    requires { ⌜ CallLaws.Passed (now list) n root (length (now result)) (length (now work)) ⌝ }
-    ensures { λ r. ⌜ CallLaws.Finished (now (list .entry)) n root (now (result .entry)) (now (work .entry)) r (now (result .exit)) (now (work .exit)) ⌝ }
+    requires { ⌜ Contracts.Passed (now list) n root (length (now result)) (length (now work)) ⌝ }
+    ensures { λ r. ⌜ Contracts.Finished (now (list .entry)) n root (now (result .entry)) (now (work .entry)) r (now (result .exit)) (now (work .exit)) ⌝ }
 {
     dag::copy_words(list, 3 * n, result);
     let end = rounds_of(list, n, root, result, work);

@@ -7,7 +7,7 @@ use native.Mathlib.Numerals.{add-one}
 use native.Mathlib.Omega.{arith}
 use lib.ListN.{length}
 use Rattle.field.specs.Field.{p, quad, Below, new}
-use Rattle.dag.specs.Cases.{below-suc}
+use Rattle.dag.specs.CaseLaws.{below-suc}
 use Rattle.dag.specs.Keys.{isKey, ZK}
 use Rattle.dag.specs.Nodes.{mostRecords, nodes}
 use Rattle.dag.specs.NodeLaws.{length-nodes, length-snoc}
@@ -17,13 +17,13 @@ use Rattle.dag.specs.declared.NodeKind.{NodeKind}
 use Rattle.dag.specs.declared.NodeKind.the-variants.{Input, Constant, Add, Sub, Mul}
 use Rattle.index.specs.Index.{NodeIndex}
 use Rattle.builder.specs.Steps as Steps
-use Rattle.builder.specs.Contracts.{Request, resolved, Pushed}
-use Rattle.builder.specs.RequestLaws.{pushed-place, step-appended, appended}
+use Rattle.builder.specs.Contracts.{Request, resolved, Pushed, appended}
+use Rattle.builder.specs.RequestLaws.{pushed-place, step-appended}
 use Rattle.builder.specs.declared.Outcome.{Outcome}
 use Rattle.builder.specs.declared.Outcome.the-variants.{Place, Node}
 use Rattle.builder.specs.declared.Entered.{Entered}
 use Rattle.periodic.specs.Builder.{Builder, enter}
-use Rattle.periodic.specs.Running.{storeWords, links, noted, Holds, Ready, Inside, Ran, Entering, Appended}
+use Rattle.periodic.specs.Contracts.{storeWords, links, noted, Holds, Ready, Inside, Ran, Entering, Appended}
 use Rattle.periodic.specs.RunLaws.{stays-long}
 use Rattle.periodic.specs.StoreLaws.{entered-noted}
 

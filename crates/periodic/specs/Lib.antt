@@ -1,6 +1,6 @@
 pub mod Builder
 pub mod Periodic
-pub mod Running
+pub mod Contracts
 pub mod RunLaws
 pub mod StoreLaws
 pub mod EnterLaws

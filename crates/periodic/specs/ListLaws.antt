@@ -7,10 +7,10 @@ use native.Mathlib.Numerals.{add-one}
 use native.Mathlib.Omega.{arith}
 use lib.ListN.{getD, length, take, set, length-append, length-set, List·getD-append}
 use lib.Seq.{getD-take, getD-at, take-suc-set, length-take-le}
-use Rattle.dag.specs.Cases.{below-suc}
+use Rattle.dag.specs.CaseLaws.{below-suc}
 use Rattle.builder.specs.declared.Entered.{Entered}
 use Rattle.periodic.specs.Builder.{Builder, done, _>>=_, turns, also}
-use Rattle.periodic.specs.Running.{Holds, Ready, Inside, AllInside, Ran, Entering, Listing}
+use Rattle.periodic.specs.Contracts.{Holds, Ready, Inside, AllInside, Ran, Entering, Listing}
 use Rattle.periodic.specs.RunLaws.{ready-after, ran-is, ran-done, then-ran, turn-none, turn-next, turn-all, inside-later}
 
 inside-snoc : (k : ℕ) (ps : List ℕ) (v : ℕ) → AllInside k ps → Inside k v → AllInside k (ps ++ (v ∷ []))

@@ -18,7 +18,7 @@ use Rattle.columns.specs.CostLaws.{log-length-le}
 use Rattle.columns.specs.ClassLaws.{below-snoc}
 use Rattle.coefficients.specs.Terms.{rootInverse, sizeInverse, dense, scaledValue, twiddle}
 use Rattle.coefficients.specs.Arrays.{coefficients, twiddles, sparseTwiddles, sparseValues}
-use Rattle.periodic.specs.Running.{Row, Rows}
+use Rattle.periodic.specs.Contracts.{Row, Rows}
 
 module _ (c : List ℕ) where
   dense-low : (j : ℕ) → dense felt generator half c j < p

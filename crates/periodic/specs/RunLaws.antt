@@ -7,13 +7,13 @@ use native.Mathlib.Nat.{le-trans, lt-of-lt-of-le}
 use native.Mathlib.Numerals.{add-one}
 use native.Mathlib.Omega.{arith}
 use lib.ListN.{length, replicate, length-append, length-replicate}
-use Rattle.dag.specs.Cases.{le-or-lt}
+use Rattle.dag.specs.CaseLaws.{le-or-lt}
 use Rattle.dag.specs.Nodes.{mostRecords, nodes}
 use Rattle.dag.specs.declared.NodeKind.{NodeKind}
 use Rattle.dag.specs.declared.NodeKind.the-variants.{Input}
 use Rattle.builder.specs.declared.Entered.{Entered}
 use Rattle.periodic.specs.Builder.{Builder, done, _>>=_, turns}
-use Rattle.periodic.specs.Running.{Holds, Ready, Inside, Ran, Entering}
+use Rattle.periodic.specs.Contracts.{Holds, Ready, Inside, Ran, Entering}
 
 -- a longer list is still too long
 grows : {A : Type 0} (m : Builder A) (l : List NodeKind) → length l ≤ length (m .run l .list)

@@ -10,7 +10,7 @@ use Rattle.dag.specs.declared.NodeKind.{NodeKind}
 use Rattle.builder.specs.declared.Entered.{Entered}
 use Rattle.periodic.specs.Builder.{Builder, Run, done, _>>=_, turns, also, constant, mul, add}
 use Rattle.periodic.specs.Periodic.{sparseTurn, sparseFactor, sparseTerm, sumTurn, sparseSum, constants}
-use Rattle.periodic.specs.Running.{Ran, Entering, Listing}
+use Rattle.periodic.specs.Contracts.{Ran, Entering, Listing}
 use Rattle.periodic.specs.RunLaws.{ran-as, ran-bind}
 
 pub record Same {A : Type 0} (m q : Builder A) : Type 0 where

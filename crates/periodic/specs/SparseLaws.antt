@@ -10,7 +10,7 @@ use Rattle.dag.specs.declared.NodeKind.{NodeKind}
 use Rattle.builder.specs.declared.Entered.{Entered}
 use Rattle.periodic.specs.Builder.{Builder, done, _>>=_, turns, also, enter, constant}
 use Rattle.periodic.specs.Periodic.{sparseTurn, sparseFactor, sparseTerm, sumTurn, sparseSum, constants}
-use Rattle.periodic.specs.Running.{Entering, Listing}
+use Rattle.periodic.specs.Contracts.{Entering, Listing}
 
 module _ (F : Ops QuadFelt) (zpow : List ℕ) (twiddle : ℕ → ℕ → ℕ) (n : ℕ) (value : ℕ → ℕ) where
   pub sum-none : (t : ℕ) → t ≡ 0 → constant F 0 ≡ sparseSum F zpow twiddle n value t

@@ -19,7 +19,7 @@ use Rattle.builder.specs.RequestLaws.{noted-node}
 use Rattle.builder.specs.declared.Outcome.{Outcome}
 use Rattle.builder.specs.declared.Outcome.the-variants.{Node}
 use Rattle.builder.specs.declared.Entered.{Entered}
-use Rattle.periodic.specs.Running.{storeWords, links, noted}
+use Rattle.periodic.specs.Contracts.{storeWords, links, noted}
 
 -- stores that begin with the same words hold the same records
 module _ (s u : List ℕ) where

@@ -12,7 +12,7 @@ use Rattle.coefficients.specs.Arrays.{coefficients, sparseTwiddles, sparseValue
 use Rattle.builder.specs.declared.Entered.{Entered}
 use Rattle.periodic.specs.Builder.{Builder, _>>=_}
 use Rattle.periodic.specs.Periodic.{constants, sparseSum}
-use Rattle.periodic.specs.Running.{Entering, Listing}
+use Rattle.periodic.specs.Contracts.{Entering, Listing}
 use Rattle.periodic.specs.SameLaws.{Same, same-constants, same-sum, entering-like, listing-like}
 use Rattle.periodic.specs.NumberLaws.{dense-at, length-dense, twiddle-at, value-at}
 

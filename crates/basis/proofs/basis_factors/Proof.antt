@@ -1,18 +1,17 @@
 -- The invariant: the places after k turns.
 use Prim.Native.Nat.{_-_, _<_, _≤_}
+use mathlib.Core.Path.{_≡_, refl}
 use mathlib.Core.List.{[]}
-use mathlib.Core.Path.{_≡_, refl, ap}
 use native.Mathlib.Omega.{arith}
 use lib.ListN.{length}
 use Rattle.field.specs.Field.{p, quad, felt}
 use Rattle.field.specs.Generators.{generator, half}
 use Rattle.periodic.specs.Builder as Builder
 use Rattle.periodic.specs.Periodic as Periodic
-use Rattle.periodic.specs.Running as Run
+use Rattle.periodic.specs.Contracts as Run
 use Rattle.periodic.specs.RunLaws.{entered-ready, inside-later}
 use Rattle.periodic.specs.ListLaws.{list-none, list-next, list-all, set-length, none-inside}
 use Rattle.periodic.specs.SparseLaws.{entering-same}
-use Rattle.basis.specs.Contracts as Said
 use Rattle.basis.specs.BasisLaws.{factor-at}
 use Rattle.basis.proofs.basis_factors.Statement.{statement}
 use Rattle.basis.proofs.basis_factors.Tie as tie

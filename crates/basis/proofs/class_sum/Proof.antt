@@ -8,7 +8,7 @@ use lib.ListN.{length}
 use Rattle.field.specs.Field.{p, quad}
 use Rattle.periodic.specs.Builder as Builder
 use Rattle.periodic.specs.Periodic as Periodic
-use Rattle.periodic.specs.Running as Said
+use Rattle.periodic.specs.Contracts as Said
 use Rattle.periodic.specs.RunLaws.{entered-ready, then-enter, enter-none, enter-next, enter-all}
 use Rattle.field.specs.Field.{felt}
 use Rattle.field.specs.Generators.{generator, half}

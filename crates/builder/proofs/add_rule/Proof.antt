@@ -1,8 +1,8 @@
 use Rattle.builder.specs.declared.Rule.the-variants.{Use, Make, HandOver}
 use Rattle.builder.specs.Steps as Steps
 use Rattle.dag.specs.declared.NodeKind.the-variants.{Constant}
-use Rattle.dag.specs.Cases.{and-true}
-use Rattle.dag.specs.Told.{told, skip, into}
+use Rattle.dag.specs.CaseLaws.{and-true}
+use Rattle.dag.specs.BranchLaws.{told, skip, into}
 use Rattle.field.specs.Field.{quad}
 use mathlib.Core.Path.{refl, _∙_, ap, ap₂}
 use borrow.Author.Needs.{needs}

@@ -4,7 +4,7 @@ use Rattle.builder.proofs.append.Statement.{statement}
 use Rattle.builder.proofs.append.Tie as tie
 
 returns : tie.Need-returns
-returns c = list-full (c .before .before .args .list .now) (c .before .before .args .n) (c .before .before .args .y) (c .if1 .taken)
+returns c = let a = c .before .before in list-full (a .args .list .now) (a .args .n) (a .pre .0) (a .args .y) (c .if1 .taken)
 
 add-if2 : tie.Need-add-if2
 add-if2 c = search needs
@@ -13,7 +13,9 @@ mul-if2 : tie.Need-mul-if2
 mul-if2 c = search needs
 
 returns-2 : tie.Need-returns-2
-returns-2 c = store-short (c .before .before .before .args .list .now) (c .before .before .before .args .n) (c .before .before .before .args .y) (c .before .if1 .left) (c .if2 .taken)
+returns-2 c =
+    let a = c .before .before .before in
+    store-short (a .args .list .now) (a .args .n) (a .pre .0) (a .args .y) (c .before .if1 .left) (c .if2 .taken)
 
 put-node-requires : tie.Need-put-node-requires
 put-node-requires c κs = search needs
@@ -25,7 +27,10 @@ same-length : tie.Need-same-length
 same-length c = search needs
 
 returns-3 : tie.Need-returns-3
-returns-3 c = appends (c .before .before .before .before .before .before .before .args .list .now) (c .before .before .before .before .before .before .before .args .n) (c .before .before .before .before .before .before .before .args .y) _ (c .before .before .before .before .before .if1 .left) (c .before .before .before .before .if2 .left) (c .before .before .put-node .ensures)
+returns-3 c =
+    let at-if2 = c .before .before .before .before in
+    let a = at-if2 .before .before .before in
+    appends (a .args .list .now) (a .args .n) (a .pre .0) (a .args .y) _ (at-if2 .before .if1 .left) (at-if2 .if2 .left) (c .before .before .put-node .ensures)
 
 pub append-spec : {M : Type 1} → statement M
 append-spec =

@@ -1,6 +1,6 @@
-use Rattle.dag.specs.Told.{and-when, and-never}
+use Rattle.dag.specs.BranchLaws.{and-when, and-never}
 use Rattle.builder.specs.Steps as Steps
-use Rattle.dag.specs.Told.{told}
+use Rattle.dag.specs.BranchLaws.{told}
 use mathlib.Core.Path.{_∙_}
 use borrow.Author.Needs.{needs}
 use Rattle.builder.proofs.both_constant.Statement.{statement}

@@ -1,5 +1,5 @@
 use Rattle.builder.specs.BuildLaws.{ready, build-refused, build-done}
-use Rattle.dag.specs.Told.{told}
+use Rattle.dag.specs.BranchLaws.{told}
 use lib.ListN.{length}
 use borrow.Author.Needs.{needs}
 use Rattle.builder.proofs.build.Statement.{statement}

@@ -1,5 +1,4 @@
-use Rattle.builder.specs.CallLaws.{stays, stepped-as}
-use Rattle.dag.specs.Told.{told}
+use Rattle.builder.specs.CallLaws.{stays, stepped-as, step-resolved}
 use borrow.Author.Needs.{needs}
 use Rattle.builder.proofs.enter.Statement.{statement}
 use Rattle.builder.proofs.enter.Tie as tie
@@ -20,13 +19,23 @@ same-length : tie.Need-same-length
 same-length c = search needs
 
 returns : tie.Need-returns
-returns c = stays (c .before .before .before .before .before .before .args .list .now) (c .before .before .before .before .before .before .args .n) _ _ (told (c .before .before .before .resolve-searching .ensures) (c .before .result .given .1))
+returns c =
+    let searched = c .before .before .before in
+    let a = searched .before .before .before in
+    stays (a .args .list .now) (a .args .n) (a .pre .0 .sound) _ _
+    (step-resolved (a .args .list .now) (a .args .n) (a .args .x) _ _ (searched .resolve-searching .ensures) (c .before .result .given .1))
 
 same-length-2 : tie.Need-same-length-2
 same-length-2 c = search needs
 
 returns-2 : tie.Need-returns-2
-returns-2 c = stepped-as (c .before .before .before .before .before .before .before .before .before .before .args .list .now) (c .before .before .before .before .before .before .before .before .before .before .args .n) _ _ _ _ (told (c .before .before .before .before .before .before .before .resolve-searching .ensures) (c .before .before .before .before .before .result2 .given .1)) (c .before .before .append .ensures)
+returns-2 c =
+    let told = c .before .before .before .before .before in
+    let searched = told .before .before in
+    let a = searched .before .before .before in
+    stepped-as (a .args .list .now) (a .args .n) _ _ _ _
+    (step-resolved (a .args .list .now) (a .args .n) (a .args .x) _ _ (searched .resolve-searching .ensures) (told .result2 .given .1))
+    (c .before .before .append .ensures)
 
 pub enter-spec : {M : Type 1} → statement M
 enter-spec =

@@ -2,7 +2,7 @@ use Rattle.builder.specs.declared.Outcome.the-variants.{Node}
 use Rattle.dag.specs.declared.NodeKind.the-variants.{Constant}
 use Rattle.field.specs.Field.{quad}
 use Rattle.builder.specs.Steps as Steps
-use Rattle.dag.specs.Told.{told}
+use Rattle.dag.specs.BranchLaws.{told}
 use mathlib.Core.Path.{_∙_, ap}
 use borrow.Author.Needs.{needs}
 use Rattle.builder.proofs.neg_outcome.Statement.{statement}

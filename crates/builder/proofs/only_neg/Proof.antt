@@ -1,7 +1,7 @@
-use Rattle.dag.specs.Told.{and-when, and-never}
+use Rattle.dag.specs.BranchLaws.{and-when, and-never}
 use mathlib.Core.Bool.{not}
 use Rattle.builder.specs.Steps as Steps
-use Rattle.dag.specs.Told.{told}
+use Rattle.dag.specs.BranchLaws.{told}
 use mathlib.Core.Path.{_∙_, ap}
 use borrow.Author.Needs.{needs}
 use Rattle.builder.proofs.only_neg.Statement.{statement}

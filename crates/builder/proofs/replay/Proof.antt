@@ -10,13 +10,13 @@ use Rattle.dag.specs.NodeLaws.{at-nodes}
 use Rattle.index.specs.Index.{NodeIndex}
 use Rattle.builder.specs.Steps as Steps
 use Rattle.builder.specs.OutcomeLaws.{list-fine}
-use Rattle.builder.specs.Holds as Held
-use Rattle.builder.specs.Holds.{holds-nothing, turn-fine, turn-request, turn-short, turn-holds}
+use Rattle.builder.specs.Contracts as Contracts
+use Rattle.builder.specs.HoldLaws.{holds-nothing, turn-fine, turn-request, turn-short, turn-holds}
 use Rattle.builder.proofs.replay.Statement.{statement}
 use Rattle.builder.proofs.replay.Tie as tie
 
 abbrev Inv-loop : tie.InvT-loop
-Inv-loop list n result₀ map₀ links₀ count₀ i₀ result map links count i = (i ≤ n) × (length result ≡ length result₀) × (length map ≡ length map₀) × Held.Holds (Steps.replay quad (Nodes.nodes list n) i) i result map count × (length links ≡ length links₀) × NodeIndex (Nodes.nodes result count) links
+Inv-loop list n result₀ map₀ links₀ count₀ i₀ result map links count i = (i ≤ n) × (length result ≡ length result₀) × (length map ≡ length map₀) × Contracts.Holds (Steps.replay quad (Nodes.nodes list n) i) i result map count × (length links ≡ length links₀) × NodeIndex (Nodes.nodes result count) links
 
 abbrev μ-loop : tie.MeasureT-loop
 μ-loop list n result₀ map₀ links₀ count₀ i₀ result map links count i = n - i

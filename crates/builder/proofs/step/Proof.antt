@@ -1,5 +1,5 @@
 use Rattle.builder.specs.CallLaws.{step-request, step-refused, step-done}
-use Rattle.dag.specs.Told.{told}
+use Rattle.dag.specs.BranchLaws.{told}
 use borrow.Author.Needs.{needs}
 use Rattle.builder.proofs.step.Statement.{statement}
 use Rattle.builder.proofs.step.Tie as tie
@@ -17,19 +17,34 @@ decode-requires : tie.Need-decode-requires
 decode-requires c κs = search needs
 
 enter-requires : tie.Need-enter-requires
-enter-requires c κs = rw (c .decode .ensures) (step-request (c .before .before .before .before .before .before .before .args .list .now) (c .before .before .before .before .before .before .before .args .n) (c .before .before .before .before .before .before .before .args .tag) (c .before .before .before .before .before .before .before .args .first) (c .before .before .before .before .before .before .before .args .second) (told (c .before .before .before .before .step-check .ensures) (c .before .before .enum-told .given .1)))
+enter-requires c κs =
+    let checked = c .before .before .before .before in
+    let a = checked .before .before .before .args in
+    rw (c .decode .ensures)
+    (step-request (a .list .now) (a .n) (a .tag) (a .first) (a .second) (told (checked .step-check .ensures) (c .before .before .enum-told .given .1)))
 
 same-length : tie.Need-same-length
 same-length c = search needs
 
 returns : tie.Need-returns
-returns c = let h = step-refused (c .before .before .before .before .before .before .args .list .now) (c .before .before .before .before .before .before .args .n) (c .before .before .before .before .before .before .args .tag) (c .before .before .before .before .before .before .args .first) (c .before .before .before .before .before .before .args .second) _ (told (c .before .before .before .step-check .ensures) (c .before .checked .given .1)) in (h .answer, h .store)
+returns c =
+    let checked = c .before .before .before in
+    let a = checked .before .before .before .args in
+    let h = step-refused (a .list .now) (a .n) (a .tag) (a .first) (a .second) _ (told (checked .step-check .ensures) (c .before .checked .given .1)) in
+    (h .answer, h .store)
 
 same-length-2 : tie.Need-same-length-2
 same-length-2 c = search needs
 
 returns-2 : tie.Need-returns-2
-returns-2 c = let h = step-done (c .before .before .before .before .before .before .before .before .before .before .args .list .now) (c .before .before .before .before .before .before .before .before .before .before .args .n) (c .before .before .before .before .before .before .before .before .before .before .args .tag) (c .before .before .before .before .before .before .before .before .before .before .args .first) (c .before .before .before .before .before .before .before .before .before .before .args .second) _ _ (told (c .before .before .before .before .before .before .before .step-check .ensures) (c .before .before .before .before .before .enum-told .given .1)) (rw (c .before .before .before .decode .ensures) at (c .before .before .enter .ensures)) in (h .answer, h .store)
+returns-2 c =
+    let good = c .before .before .before .before .before in
+    let checked = good .before .before in
+    let a = checked .before .before .before .args in
+    let h =
+    step-done (a .list .now) (a .n) (a .tag) (a .first) (a .second) _ _ (told (checked .step-check .ensures) (good .enum-told .given .1))
+    (rw (c .before .before .before .decode .ensures) at (c .before .before .enter .ensures)) in
+    (h .answer, h .store)
 
 pub step-spec : {M : Type 1} → statement M
 step-spec =

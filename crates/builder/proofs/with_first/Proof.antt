@@ -1,6 +1,6 @@
-use Rattle.dag.specs.Told.{and-when, and-never}
+use Rattle.dag.specs.BranchLaws.{and-when, and-never}
 use lib.Dec.{eqb}
-use Rattle.dag.specs.Told.{told}
+use Rattle.dag.specs.BranchLaws.{told}
 use mathlib.Core.Path.{_∙_, ap}
 use borrow.Author.Needs.{needs}
 use Rattle.builder.proofs.with_first.Statement.{statement}

@@ -1,4 +1,4 @@
-use Rattle.dag.specs.Told.{told}
+use Rattle.dag.specs.BranchLaws.{told}
 use borrow.Author.Needs.{needs}
 use Rattle.columns.proofs.alone.Statement.{statement}
 use Rattle.columns.proofs.alone.Tie as tie

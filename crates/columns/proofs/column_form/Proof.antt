@@ -1,7 +1,7 @@
 use mathlib.Core.Path.{_∙_}
 use borrow.Author.Tests.{not-true, not-false}
 use Rattle.field.specs.Field.{p}
-use Rattle.dag.specs.Told.{told}
+use Rattle.dag.specs.BranchLaws.{told}
 use Rattle.columns.specs.PrepareLaws.{column-short}
 use Rattle.columns.specs.SavingLaws.{weighed-asks, weighed-room, weighed-alone, weighed-dear, weighed-basis}
 use borrow.Author.Needs.{needs}

@@ -6,7 +6,7 @@ use native.Mathlib.Omega.{arith}
 use borrow.Author.Needs.{needs}
 use lib.ListN.{length}
 use Rattle.field.specs.Field.{p}
-use Rattle.dag.specs.Told.{told}
+use Rattle.dag.specs.BranchLaws.{told}
 use Rattle.dag.specs.declared.Checked.the-variants.{Good}
 use Rattle.columns.specs.Prepare as Prepare
 use Rattle.columns.specs.PrepareLaws.{first-none, first-next, first-stop, first-all, entries-good, entries-bad}

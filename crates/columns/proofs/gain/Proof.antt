@@ -1,7 +1,7 @@
 use mathlib.Core.Path.{sym, _∙_}
 use native.Mathlib.Omega.{arith}
 use lib.Seq.{length-take-le}
-use Rattle.dag.specs.Told.{told}
+use Rattle.dag.specs.BranchLaws.{told}
 use Rattle.columns.specs.ClassLaws.{gain-equal, gain-told}
 use borrow.Author.Needs.{needs}
 use Rattle.columns.proofs.gain.Statement.{statement}

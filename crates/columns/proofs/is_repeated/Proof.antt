@@ -3,7 +3,7 @@ use Prim.Native.Nat.{_≤_}
 use mathlib.Core.Path.{_≡_, refl, sym, _∙_, ap₂}
 use native.Mathlib.Omega.{arith}
 use borrow.Author.Needs.{needs}
-use Rattle.dag.specs.Told.{told}
+use Rattle.dag.specs.BranchLaws.{told}
 use Rattle.columns.specs.Columns as Columns
 use Rattle.columns.specs.Prepare as Prepare
 use Rattle.columns.specs.ColumnLaws.{among-hit, among-on, among-none}

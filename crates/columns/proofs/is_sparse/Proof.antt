@@ -1,7 +1,7 @@
 use Rattle.columns.specs.CostLaws.{sparse-told}
 use native.Mathlib.Omega.{arith}
 use borrow.Author.Tests.{eq-eqb}
-use Rattle.dag.specs.Told.{told}
+use Rattle.dag.specs.BranchLaws.{told}
 use Rattle.columns.specs.Columns as Columns
 use borrow.Author.Needs.{needs}
 use Rattle.columns.proofs.is_sparse.Statement.{statement}

@@ -5,7 +5,7 @@ use mathlib.Core.Path.{_≡_}
 use native.Mathlib.Omega.{arith}
 use borrow.Author.Needs.{needs}
 use lib.ListN.{length}
-use Rattle.dag.specs.Told.{told}
+use Rattle.dag.specs.BranchLaws.{told}
 use Rattle.dag.specs.declared.Checked.the-variants.{Good}
 use Rattle.columns.specs.Prepare as Prepare
 use Rattle.columns.specs.PrepareLaws.{first-none, first-next, first-stop, first-all, length-good, length-bad}

@@ -1,4 +1,4 @@
-use Rattle.dag.specs.Told.{told}
+use Rattle.dag.specs.BranchLaws.{told}
 use Rattle.columns.specs.Contracts as Said
 use borrow.Author.Needs.{needs}
 use Rattle.columns.proofs.saving.Statement.{statement}

@@ -5,7 +5,7 @@ use mathlib.Core.Path.{_≡_}
 use native.Mathlib.Omega.{arith}
 use lib.ListN.{length, drop}
 use Rattle.field.specs.Field.{p}
-use Rattle.dag.specs.Told.{told}
+use Rattle.dag.specs.BranchLaws.{told}
 use Rattle.columns.specs.Columns as Columns
 use Rattle.columns.specs.ClassLaws.{below-at, scaled-hit, scaled-miss, scaled-end}
 use Rattle.columns.proofs.scalings.Statement.{statement}

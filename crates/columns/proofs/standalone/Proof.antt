@@ -1,5 +1,5 @@
 use Rattle.columns.specs.CostLaws.{standalone-sparse, standalone-dense}
-use Rattle.dag.specs.Told.{told}
+use Rattle.dag.specs.BranchLaws.{told}
 use native.Mathlib.Omega.{arith}
 use Rattle.columns.specs.CostLaws.{ops-fit}
 use borrow.Author.Needs.{needs}

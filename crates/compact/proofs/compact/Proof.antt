@@ -1,6 +1,6 @@
 use native.Mathlib.Omega.{arith}
 use Rattle.compact.specs.CallLaws.{answer-refused, result-refused, may-compact, may-blank, answer-done, result-done}
-use Rattle.dag.specs.Told.{told}
+use Rattle.dag.specs.BranchLaws.{told}
 use borrow.Author.Needs.{needs}
 use Rattle.compact.proofs.compact.Statement.{statement}
 use Rattle.compact.proofs.compact.Tie as tie

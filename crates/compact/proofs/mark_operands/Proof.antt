@@ -9,7 +9,7 @@ use Rattle.dag.specs.Nodes.{operands}
 use Rattle.dag.specs.declared.NodeKind.{NodeKind}
 use Rattle.dag.specs.declared.NodeKind.the-variants.{Input, Constant, Add, Sub, Mul, Neg}
 use Rattle.compact.specs.Reach.{marked}
-use Rattle.compact.specs.Operands.{add-operands, sub-operands, mul-operands, neg-operands, first-below, second-below}
+use Rattle.compact.specs.OperandLaws.{add-operands, sub-operands, mul-operands, neg-operands, first-below, second-below}
 use borrow.Author.Needs.{needs}
 use Rattle.compact.proofs.mark_operands.Statement.{statement}
 use Rattle.compact.proofs.mark_operands.Tie as tie

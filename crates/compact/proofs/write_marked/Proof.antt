@@ -6,7 +6,8 @@ use lib.ListN.{length}
 use Rattle.dag.specs.Nodes.{nodes}
 use Rattle.compact.specs.Compact.{kept}
 use Rattle.compact.specs.LoopLaws.{record-fine, place-room, write-kept, write-skipped}
-use Rattle.compact.specs.Written.{written, written-nil}
+use Rattle.dag.specs.Store.{written}
+use Rattle.dag.specs.WordLaws.{written-nil}
 use Rattle.compact.proofs.write_marked.Statement.{statement}
 use Rattle.compact.proofs.write_marked.Tie as tie
 

@@ -1,6 +1,6 @@
 use mathlib.Core.Path.{_∙_, ap}
 use Rattle.compact.specs.CallLaws.{kept-list, root-place, may-write}
-use Rattle.compact.specs.Written.{written}
+use Rattle.dag.specs.Store.{written}
 use borrow.Author.Needs.{needs}
 use Rattle.compact.proofs.write_numbered.Statement.{statement}
 use Rattle.compact.proofs.write_numbered.Tie as tie

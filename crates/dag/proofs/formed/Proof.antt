@@ -1,5 +1,5 @@
 use borrow.Author.Tests.{lt-ltb, le-ltb, eq-eqb, ne-eqb}
-use Rattle.dag.specs.Told.{told}
+use Rattle.dag.specs.BranchLaws.{told}
 use Rattle.dag.specs.Check as Check
 use borrow.Author.Needs.{needs}
 use Rattle.dag.proofs.formed.Statement.{statement}

@@ -1,5 +1,5 @@
 use Rattle.field.specs.Field.{p}
-use Rattle.dag.specs.Told.{told}
+use Rattle.dag.specs.BranchLaws.{told}
 use Rattle.dag.specs.StoreLaws.{search-on, search-hit, search-none}
 use Prim.Native.Nat.{_≤_}
 use native.Mathlib.Omega.{arith}

@@ -1,5 +1,5 @@
 use borrow.Author.Tests.{not-true, not-false}
-use Rattle.dag.specs.Told.{told}
+use Rattle.dag.specs.BranchLaws.{told}
 use borrow.Author.Tests.{le-leb, lt-leb}
 use Rattle.dag.specs.Check as Check
 use borrow.Author.Needs.{needs}

@@ -1,4 +1,4 @@
-use Rattle.dag.specs.Told.{and-rest}
+use Rattle.dag.specs.BranchLaws.{and-rest}
 use borrow.Author.Tests.{eq-eqb, ne-eqb}
 use Rattle.dag.specs.Store as Store
 use borrow.Author.Needs.{needs}

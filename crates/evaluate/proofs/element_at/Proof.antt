@@ -1,4 +1,4 @@
-use Rattle.evaluate.specs.Asked.{elementAt}
+use Rattle.evaluate.specs.Contracts.{elementAt}
 use mathlib.Core.Path.{refl}
 use borrow.Author.Needs.{needs}
 use Rattle.evaluate.proofs.element_at.Statement.{statement}

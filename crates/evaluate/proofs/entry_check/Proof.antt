@@ -1,7 +1,7 @@
 use Rattle.evaluate.specs.EntryLaws.{bad-key, bad-words, good-entry}
 use Rattle.dag.specs.Keys.{isKey}
 use borrow.Author.Tests.{not-true, not-false}
-use Rattle.dag.specs.Told.{told}
+use Rattle.dag.specs.BranchLaws.{told}
 use mathlib.Core.Path.{_∙_, ap}
 use borrow.Author.Needs.{needs}
 use Rattle.evaluate.proofs.entry_check.Statement.{statement}

@@ -2,7 +2,7 @@
 use mathlib.Core.Path.{_∙_}
 use native.Mathlib.Omega.{arith}
 use borrow.Author.Needs.{needs}
-use Rattle.dag.specs.Told.{told}
+use Rattle.dag.specs.BranchLaws.{told}
 use Rattle.evaluate.specs.EntryLaws.{key-room}
 use Rattle.evaluate.specs.KeyIndexLaws.{Standing, standing-below, find-begin, find-on, find-down, find-hit, find-none, find-plain, lent-first}
 use Rattle.evaluate.proofs.entry_of.Statement.{statement}
@@ -32,8 +32,8 @@ entry-search-requires c κs = let h = standing-below _ _ _ _ _ _ (c .before .bef
 returns : tie.Need-returns Inv-loop μ-loop
 returns c = find-plain (c .before .before .before .before .before .before .before .before .args .width) (c .before .before .before .before .before .before .before .before .args .entries .now) (c .before .before .before .before .before .before .before .before .args .m) (c .before .before .before .before .before .before .before .before .args .links .now) (c .before .before .before .before .before .before .before .before .args .key) _ (c .before .before .before .loop .inv) (c .entry-search .ensures)
 
-sub-i : tie.Need-sub-i Inv-loop μ-loop
-sub-i c = omega (arith, (c .before .loop-test .taken))
+sub-entry : tie.Need-sub-entry Inv-loop μ-loop
+sub-entry c = omega (arith, (c .before .loop-test .taken))
 
 key-at-requires : tie.Need-key-at-requires Inv-loop μ-loop
 key-at-requires c κs = let h = standing-below _ _ _ _ _ _ (c .before .before .loop .inv) in key-room _ _ _ (c .before .before .before .before .before .before .before .pre .0) _ (omega (arith, h, (c .before .loop-test .taken)))
@@ -74,7 +74,7 @@ entry-of-spec =
     loop-holds
     entry-search-requires
     returns
-    sub-i
+    sub-entry
     key-at-requires
     returns-2
     add-link

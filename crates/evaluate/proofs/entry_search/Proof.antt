@@ -1,6 +1,6 @@
 use Rattle.evaluate.specs.EntryLaws.{key-room, entry-hit, entry-miss, entry-none}
 use Rattle.evaluate.specs.Entries as Entries
-use Rattle.dag.specs.Told.{told}
+use Rattle.dag.specs.BranchLaws.{told}
 use native.Mathlib.Omega.{arith}
 use mathlib.Core.Path.{_≡_, refl, _∙_}
 use Prim.Native.Nat.{_≤_}

@@ -1,5 +1,5 @@
 -- `evaluate::evaluate` meets its contract.
-use Rattle.dag.specs.Told.{told}
+use Rattle.dag.specs.BranchLaws.{told}
 use Rattle.evaluate.specs.CallLaws.{words-refused, words-tested}
 use borrow.Author.Needs.{needs}
 use Rattle.evaluate.proofs.evaluate.Statement.{statement}

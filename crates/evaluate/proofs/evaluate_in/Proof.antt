@@ -2,7 +2,7 @@
 use mathlib.Core.Path.{_∙_}
 use native.Mathlib.Omega.{arith}
 use lib.ListN.{length}
-use Rattle.dag.specs.Told.{told}
+use Rattle.dag.specs.BranchLaws.{told}
 use Rattle.evaluate.specs.CallLaws.{root-inside, may-fill, inputs-refused, inputs-value}
 use Rattle.evaluate.specs.KeyIndexLaws.{keyed-none}
 use borrow.Author.Needs.{needs}

@@ -6,13 +6,13 @@ use native.Mathlib.Omega.{arith}
 use borrow.Author.Needs.{needs}
 use lib.ListN.{length}
 use Rattle.dag.specs.Nodes.{nodes}
-use Rattle.dag.specs.Told.{told}
+use Rattle.dag.specs.BranchLaws.{told}
 use Rattle.dag.specs.declared.Checked.the-variants.{Good, Refused}
 use Rattle.dag.specs.declared.Refusal.{Refusal}
 use Rattle.evaluate.specs.Entries.{inputsCheck, firstRefused, entryOf}
 use Rattle.evaluate.specs.Calls.{entryWords}
-use Rattle.evaluate.specs.Asked.{Filled}
-use Rattle.evaluate.specs.ValueSteps.{may-value, filled-more, input-more, input-none}
+use Rattle.evaluate.specs.Contracts.{Filled}
+use Rattle.evaluate.specs.ValueStepLaws.{may-value, filled-more, input-more, input-none}
 use Rattle.evaluate.proofs.fill_values.Statement.{statement}
 use Rattle.evaluate.proofs.fill_values.Tie as tie
 

@@ -1,7 +1,7 @@
 -- `evaluate::given` meets its contract: the element of the entry that is found.
 use Rattle.evaluate.specs.EntryLaws.{entry-inside}
 use Rattle.evaluate.specs.Calls as Calls
-use Rattle.dag.specs.Told.{told}
+use Rattle.dag.specs.BranchLaws.{told}
 use native.Mathlib.Omega.{arith}
 use borrow.Author.Needs.{needs}
 use Rattle.evaluate.proofs.given.Statement.{statement}

@@ -1,6 +1,6 @@
 -- `evaluate::value_of` meets its contract, record by record.
 use Rattle.evaluate.specs.RecordLaws.{input-value, constant-value, add-value, sub-value, mul-value, neg-value, add-before, sub-before, mul-before, neg-before, low-read}
-use Rattle.evaluate.specs.Asked.{elementAt}
+use Rattle.evaluate.specs.Contracts.{elementAt}
 use native.Mathlib.Omega.{arith}
 use borrow.Author.Needs.{needs}
 use Rattle.evaluate.proofs.value_of.Statement.{statement}

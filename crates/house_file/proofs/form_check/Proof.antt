@@ -1,6 +1,6 @@
 use native.Mathlib.Omega.{arith}
 use borrow.Author.Tests.{not-true, not-false}
-use Rattle.dag.specs.Told.{told}
+use Rattle.dag.specs.BranchLaws.{told}
 use Rattle.house_file.specs.FileLaws.{count-range}
 use Rattle.house_file.specs.File as File
 use borrow.Author.Tests.{lt-leb, le-leb, ne-eqb, eq-eqb}

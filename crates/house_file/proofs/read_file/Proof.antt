@@ -1,5 +1,5 @@
 use lib.ListN.{length}
-use Rattle.dag.specs.Told.{told}
+use Rattle.dag.specs.BranchLaws.{told}
 use Rattle.house_file.specs.FileLaws.{passed, told-refused, told-done}
 use borrow.Author.Needs.{needs}
 use Rattle.house_file.proofs.read_file.Statement.{statement}

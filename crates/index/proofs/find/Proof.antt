@@ -1,7 +1,7 @@
 use native.Mathlib.Omega.{arith}
 use borrow.Author.Needs.{needs}
 use Rattle.field.specs.Field.{p}
-use Rattle.dag.specs.Told.{told}
+use Rattle.dag.specs.BranchLaws.{told}
 use Rattle.dag.specs.NodeLaws.{length-nodes}
 use Rattle.index.specs.NodeIndexLaws.{Standing, sound-first, standing-below, find-begin, find-on, find-down, find-hit, find-none, find-plain}
 use Rattle.index.proofs.find.Statement.{statement}

@@ -2,7 +2,7 @@ use mathlib.Core.Path.{refl, sym}
 use native.Mathlib.Omega.{arith}
 use lib.Seq.{length-take-le}
 use lib.ListN.{length}
-use Rattle.dag.specs.Told.{told}
+use Rattle.dag.specs.BranchLaws.{told}
 use Rattle.listing.specs.CallLaws.{laid-as, few, file-refused, file-done}
 use borrow.Author.Needs.{needs}
 use Rattle.listing.proofs.list_in.Statement.{statement}

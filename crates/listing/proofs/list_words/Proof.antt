@@ -1,5 +1,5 @@
 use lib.ListN.{length}
-use Rattle.dag.specs.Told.{told}
+use Rattle.dag.specs.BranchLaws.{told}
 use Rattle.listing.specs.CallLaws.{laid-as, words-refused, words-listed, may-list}
 use borrow.Author.Needs.{needs}
 use Rattle.listing.proofs.list_words.Statement.{statement}

@@ -1,13 +1,13 @@
 -- The invariant: the places after j turns.
 use Prim.Native.Nat.{_-_, _<_, _≤_}
-use mathlib.Core.List.{[]}
 use mathlib.Core.Path.{_≡_, refl, sym, _∙_, ap}
+use mathlib.Core.List.{[]}
 use native.Mathlib.Omega.{arith}
 use lib.ListN.{length}
 use Rattle.field.specs.Field.{p, quad}
 use Rattle.periodic.specs.Builder as Builder
 use Rattle.periodic.specs.Periodic as Periodic
-use Rattle.periodic.specs.Running as Said
+use Rattle.periodic.specs.Contracts as Said
 use Rattle.periodic.specs.RunLaws.{entered-ready}
 use Rattle.periodic.specs.ListLaws.{list-none, list-next, list-all, set-length}
 use Rattle.field.specs.Field.{felt}

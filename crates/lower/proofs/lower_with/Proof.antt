@@ -1,4 +1,4 @@
-use mathlib.Core.Path.{sym, _∙_, subst}
+use mathlib.Core.Path.{sym, subst}
 use native.Mathlib.Nat.{le-trans, le-of-eq}
 use native.Mathlib.Omega.{arith}
 use lib.Seq.{length-take-le}

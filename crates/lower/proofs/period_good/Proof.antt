@@ -1,5 +1,5 @@
 use borrow.Author.Tests.{not-true, not-false}
-use Rattle.dag.specs.Told.{told}
+use Rattle.dag.specs.BranchLaws.{told}
 use Rattle.lower.specs.CallLaws.{period-none, period-odd, period-told}
 use borrow.Author.Needs.{needs}
 use Rattle.lower.proofs.period_good.Statement.{statement}

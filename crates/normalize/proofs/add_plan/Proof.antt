@@ -1,10 +1,10 @@
-use Rattle.builder.specs.Holds.{read}
 use Rattle.dag.specs.Nodes.{nodes}
-use Rattle.normalize.specs.PlanReads.{add-factored, add-rotated}
-use Rattle.dag.specs.Told.{told}
+use Rattle.normalize.specs.PlanReadLaws.{add-factored, add-rotated}
+use Rattle.dag.specs.BranchLaws.{told}
 use borrow.Author.Needs.{needs}
 use Rattle.normalize.proofs.add_plan.Statement.{statement}
 use Rattle.normalize.proofs.add_plan.Tie as tie
+use Rattle.builder.specs.Contracts.{read}
 
 common-factor-requires : tie.Need-common-factor-requires
 common-factor-requires c κs = search needs

@@ -1,5 +1,5 @@
 use Rattle.normalize.specs.ReadLaws.{no-factor, factor-read}
-use Rattle.dag.specs.Told.{told}
+use Rattle.dag.specs.BranchLaws.{told}
 use borrow.Author.Tests.{not-true, not-false}
 use borrow.Author.Needs.{needs}
 use Rattle.normalize.proofs.common_factor.Statement.{statement}

@@ -1,8 +1,8 @@
-use Rattle.normalize.specs.Asked as Asked
+use Rattle.normalize.specs.Contracts as Asked
 use Rattle.normalize.specs.Rounds as Rounds
 use Rattle.normalize.specs.ReadLaws.{first-found, then-other}
 use mathlib.Core.Path.{sym, _∙_, ap}
-use Rattle.dag.specs.Told.{told}
+use Rattle.dag.specs.BranchLaws.{told}
 use borrow.Author.Needs.{needs}
 use Rattle.normalize.proofs.either_rotation.Statement.{statement}
 use Rattle.normalize.proofs.either_rotation.Tie as tie

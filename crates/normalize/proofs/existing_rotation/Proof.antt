@@ -1,6 +1,6 @@
-use Rattle.normalize.specs.Asked as Asked
+use Rattle.normalize.specs.Contracts as Asked
 use Rattle.normalize.specs.ReadLaws.{no-rotation, rotation-first, rotation-other}
-use Rattle.dag.specs.Told.{told}
+use Rattle.dag.specs.BranchLaws.{told}
 use borrow.Author.Tests.{not-true, not-false}
 use borrow.Author.Needs.{needs}
 use Rattle.normalize.proofs.existing_rotation.Statement.{statement}

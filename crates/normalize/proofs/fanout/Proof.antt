@@ -1,7 +1,6 @@
-use Rattle.builder.specs.Holds.{read}
 use native.Mathlib.Nat.{le-antisymm}
 use mathlib.Core.Path.{ap}
-use Rattle.normalize.specs.Fanouts as Fanouts
+use Rattle.normalize.specs.FanoutLaws as Fanouts
 use Rattle.dag.specs.NodeLaws.{at-nodes}
 use Rattle.dag.specs.Nodes as Nodes
 use lib.ListN.{length}
@@ -10,6 +9,7 @@ use mathlib.Core.Path.{_≡_, refl, sym, _∙_}
 use Prim.Native.Nat.{_≤_, _-_}
 use Rattle.normalize.proofs.fanout.Statement.{statement}
 use Rattle.normalize.proofs.fanout.Tie as tie
+use Rattle.builder.specs.Contracts.{read}
 
 abbrev Inv-loop : tie.InvT-loop
 Inv-loop list n root fan₀ i₀ fan i = (i ≤ n) × (length fan ≡ length fan₀) × Fanouts.Counted (Nodes.nodes list n) i fan

@@ -1,4 +1,4 @@
-use Rattle.normalize.specs.Fanouts as Fanouts
+use Rattle.normalize.specs.Contracts as Contracts
 use mathlib.Core.Path.{refl}
 use borrow.Author.Needs.{needs}
 use Rattle.normalize.proofs.mention.Statement.{statement}
@@ -20,7 +20,7 @@ same-length : tie.Need-same-length
 same-length c = search needs
 
 returns : tie.Need-returns
-unfolding Fanouts.mentioned
+unfolding Contracts.mentioned
 returns c = refl
 
 pub mention-spec : {M : Type 1} → statement M

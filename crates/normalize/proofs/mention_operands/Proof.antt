@@ -1,6 +1,7 @@
 use Rattle.compact.specs.Reach.{here, there}
 use Rattle.dag.specs.Nodes as Nodes
-use Rattle.normalize.specs.Fanouts as Fanouts
+use Rattle.normalize.specs.FanoutLaws as Fanouts
+use Rattle.normalize.specs.Contracts as Contracts
 use native.Mathlib.Omega.{arith}
 use mathlib.Core.Path.{refl}
 use borrow.Author.Needs.{needs}
@@ -70,11 +71,11 @@ unfolding Nodes.operands
 returns-4 c = Fanouts.mentioned-as _ _ (c .before .before .before .before .before .x4 .given .1) (c .before .before .mention .ensures)
 
 returns-5 : tie.Need-returns-5
-unfolding Nodes.operands Fanouts.mentioned
+unfolding Nodes.operands Contracts.mentioned
 returns-5 c = Fanouts.mentioned-as _ _ (c .enum-told .given .1) refl
 
 returns-6 : tie.Need-returns-6
-unfolding Nodes.operands Fanouts.mentioned
+unfolding Nodes.operands Contracts.mentioned
 returns-6 c = Fanouts.mentioned-as _ _ (c .enum-told2 .given .1) refl
 
 pub mention-operands-spec : {M : Type 1} → statement M

@@ -1,4 +1,4 @@
-use Rattle.normalize.specs.Fanouts as Fanouts
+use Rattle.normalize.specs.FanoutLaws as Fanouts
 use native.Mathlib.Omega.{arith}
 use borrow.Author.Needs.{needs}
 use Rattle.normalize.proofs.mention_pair.Statement.{statement}

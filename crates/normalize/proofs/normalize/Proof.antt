@@ -1,5 +1,5 @@
 use Rattle.normalize.specs.CallLaws.{passed, normalize-refused, normalize-done}
-use Rattle.dag.specs.Told.{told}
+use Rattle.dag.specs.BranchLaws.{told}
 use lib.ListN.{length}
 use borrow.Author.Needs.{needs}
 use Rattle.normalize.proofs.normalize.Statement.{statement}

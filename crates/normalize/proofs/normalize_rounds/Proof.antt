@@ -3,7 +3,8 @@ use native.Mathlib.Omega.{arith}
 use borrow.Author.Tests.{not-true, not-false}
 use lib.ListN.{length}
 use Rattle.normalize.specs.OnceLaws.{scratch-fewer}
-use Rattle.normalize.specs.CallLaws.{Running, running-ready, running-on, fewer, ended}
+use Rattle.normalize.specs.CallLaws.{running-ready, running-on, fewer, ended}
+use Rattle.normalize.specs.Contracts.{Running}
 use Rattle.normalize.proofs.normalize_rounds.Statement.{statement}
 use Rattle.normalize.proofs.normalize_rounds.Tie as tie
 

@@ -1,5 +1,5 @@
 use Rattle.normalize.specs.ReadLaws.{onto-hit, onto-late, onto-none}
-use Rattle.dag.specs.Told.{told}
+use Rattle.dag.specs.BranchLaws.{told}
 use borrow.Author.Needs.{needs}
 use Rattle.normalize.proofs.onto_before.Statement.{statement}
 use Rattle.normalize.proofs.onto_before.Tie as tie

@@ -1,9 +1,9 @@
-use Rattle.builder.specs.Holds.{read}
 use Rattle.dag.specs.Nodes.{nodes}
-use Rattle.normalize.specs.PlanReads.{plan-add, plan-sub, plan-mul, plan-neg, plan-input, plan-constant, planned-add, planned-sub, planned-mul}
+use Rattle.normalize.specs.PlanReadLaws.{plan-add, plan-sub, plan-mul, plan-neg, plan-input, plan-constant, planned-add, planned-sub, planned-mul}
 use borrow.Author.Needs.{needs}
 use Rattle.normalize.proofs.plan_of.Statement.{statement}
 use Rattle.normalize.proofs.plan_of.Tie as tie
+use Rattle.builder.specs.Contracts.{read}
 
 enum-known-x : tie.Need-enum-known-x
 enum-known-x c = search needs

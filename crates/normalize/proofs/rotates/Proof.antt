@@ -1,6 +1,6 @@
 use lib.Dec.{eqb}
 use mathlib.Core.Path.{_∙_, ap₂}
-use Rattle.dag.specs.Told.{and-when, and-never}
+use Rattle.dag.specs.BranchLaws.{and-when, and-never}
 use borrow.Author.Tests.{eq-eqb, ne-eqb}
 use borrow.Author.Needs.{needs}
 use Rattle.normalize.proofs.rotates.Statement.{statement}

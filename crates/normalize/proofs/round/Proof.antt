@@ -1,6 +1,7 @@
 use Rattle.index.specs.Index.{NodeIndex}
 use Rattle.dag.specs.Nodes as Nodes
 use Rattle.normalize.specs.TurnLaws as Turn
+use Rattle.normalize.specs.Contracts as Contracts
 use Rattle.dag.specs.NodeLaws.{at-nodes}
 use lib.ListN.{length, length-set}
 use native.Mathlib.Omega.{arith}
@@ -11,7 +12,7 @@ use Rattle.normalize.proofs.round.Statement.{statement}
 use Rattle.normalize.proofs.round.Tie as tie
 
 abbrev Inv-loop : tie.InvT-loop
-Inv-loop list n own fan work₀ links₀ map₀ count₀ fired₀ i₀ work links map count fired i = (i ≤ n) × (length work ≡ length work₀) × (length map ≡ length map₀) × Turn.RoundHeld list n fan i work map count fired × (length links ≡ length links₀) × NodeIndex (Nodes.nodes work count) links
+Inv-loop list n own fan work₀ links₀ map₀ count₀ fired₀ i₀ work links map count fired i = (i ≤ n) × (length work ≡ length work₀) × (length map ≡ length map₀) × Contracts.RoundHeld list n fan i work map count fired × (length links ≡ length links₀) × NodeIndex (Nodes.nodes work count) links
 
 abbrev μ-loop : tie.MeasureT-loop
 μ-loop list n own fan work₀ links₀ map₀ count₀ fired₀ i₀ work links map count fired i = n - i

@@ -1,5 +1,5 @@
-use Rattle.normalize.specs.FactorSearch.{left, search-hit, search-miss, search-begins, search-ends, search-next}
-use Rattle.normalize.specs.Asked.{sharedIn}
+use Rattle.normalize.specs.FactorLaws.{left, search-hit, search-miss, search-begins, search-ends, search-next}
+use Rattle.normalize.specs.Contracts.{sharedIn}
 use lib.ListN.{length}
 use native.Mathlib.Omega.{arith}
 use mathlib.Core.Path.{_≡_, sym, _∙_}

@@ -1,6 +1,6 @@
 use Rattle.builder.specs.Steps as Steps
 use mathlib.Core.Path.{_∙_}
-use Rattle.dag.specs.Told.{told, and-when}
+use Rattle.dag.specs.BranchLaws.{told, and-when}
 use borrow.Author.Tests.{eq-eqb, ne-eqb}
 use borrow.Author.Needs.{needs}
 use Rattle.normalize.proofs.single_muls.Statement.{statement}

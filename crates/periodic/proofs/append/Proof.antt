@@ -1,6 +1,6 @@
 use mathlib.Core.Path.{refl, _∙_, ap}
 use native.Mathlib.Omega.{arith}
-use Rattle.periodic.specs.Running.{noted}
+use Rattle.periodic.specs.Contracts.{noted}
 use borrow.Author.Needs.{needs}
 use Rattle.periodic.proofs.append.Statement.{statement}
 use Rattle.periodic.proofs.append.Tie as tie

@@ -7,7 +7,7 @@ use lib.ListN.{length, getD}
 use Rattle.field.specs.Field.{p, quad}
 use Rattle.periodic.specs.Builder as Builder
 use Rattle.periodic.specs.Periodic as Periodic
-use Rattle.periodic.specs.Running as Said
+use Rattle.periodic.specs.Contracts as Said
 use Rattle.periodic.specs.RunLaws.{entered-ready}
 use Rattle.periodic.specs.ListLaws.{list-none, list-next, list-all, set-length}
 use Rattle.columns.specs.ClassLaws.{below-at}

@@ -7,7 +7,7 @@ use lib.ListN.{length, getD}
 use Rattle.field.specs.Field.{quad}
 use Rattle.periodic.specs.Builder as Builder
 use Rattle.periodic.specs.Periodic as Periodic
-use Rattle.periodic.specs.Running as Said
+use Rattle.periodic.specs.Contracts as Said
 use Rattle.periodic.specs.RunLaws.{entered-ready, then-enter, enter-none, enter-next, enter-all}
 use Rattle.periodic.specs.ListLaws.{all-later}
 use Rattle.periodic.proofs.sparse_factor.Statement.{statement}

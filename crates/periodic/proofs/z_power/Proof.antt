@@ -6,7 +6,7 @@ use native.Mathlib.Omega.{arith}
 use Rattle.field.specs.Field.{quad}
 use Rattle.periodic.specs.Builder as Builder
 use Rattle.periodic.specs.Periodic as Periodic
-use Rattle.periodic.specs.Running as Said
+use Rattle.periodic.specs.Contracts as Said
 use Rattle.periodic.specs.RunLaws.{entered-ready, enter-none, enter-next, enter-all, then-enter}
 use Rattle.periodic.proofs.z_power.Statement.{statement}
 use Rattle.periodic.proofs.z_power.Tie as tie

@@ -8,7 +8,7 @@ use Rattle.field.specs.Field.{p}
 use Rattle.dag.specs.Nodes.{nodes}
 use Rattle.dag.specs.Store.{Sound}
 use Rattle.compact.specs.Compact.{rank, ranks}
-use Rattle.compact.specs.Reach.{marked, sweep}
+use Rattle.compact.specs.Reach.{marked, sweep, _∈_}
 
 -- a mark for each record of a round's list
 abbrev pub mostMarks : ℕ
@@ -44,3 +44,7 @@ pub record Numbered (s : List ℕ) (n root : ℕ) (m : List Bool) (map : List �
   pub behind : List ℕ
   pub places-are : map ≡ ranks m n ++ drop n behind
   pub places-fit : n ≤ length map
+
+-- all places of a list are below n
+abbrev pub AllBelow : ℕ → List ℕ → Type 0
+AllBelow n is = (i : ℕ) → i ∈ is → i < n

@@ -13,10 +13,7 @@ use Rattle.dag.specs.declared.NodeKind.the-variants.{Input, Constant, Add, Sub,
 use Rattle.meaning.specs.Values.{valueOf}
 use Rattle.compact.specs.Reach.{_∈_}
 use Rattle.compact.specs.Reach._∈_.{here, there}
-
--- all places of a list are below n
-abbrev pub AllBelow : ℕ → List ℕ → Type 0
-AllBelow n is = (i : ℕ) → i ∈ is → i < n
+use Rattle.compact.specs.Contracts.{AllBelow}
 
 pub in-nil : {i : ℕ} → i ∈ [] → ⊥
 in-nil = elim [ ]

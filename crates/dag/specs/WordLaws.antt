@@ -6,20 +6,16 @@ use native.Mathlib.Omega.{arith}
 use lib.ListN.{getD, length, take, drop, set, replicate, length-append, length-drop}
 use lib.Seq.{drop-cons, set-at, take-at, append-snoc, ext-getD}
 use borrow.Author.Tests.{le-leb, lt-ltb}
 use Rattle.dag.specs.Nodes.{tag, first, second, recordAt, nodes, at, words, wordsOf, filled, blank, mostRecords}
 use Rattle.dag.specs.NodeLaws.{decode-words, length-nodes, at-nodes, length-snoc}
 use Rattle.dag.specs.Check.{checkAt, recordsCheck, rootlessCheck, listCheck}
 use Rattle.dag.specs.CheckLaws.{Within, passes, fine-passes}
-use Rattle.dag.specs.Store.{put, Sound}
+use Rattle.dag.specs.Store.{put, written, Sound}
 use Rattle.dag.specs.StoreLaws.{words-snoc, length-words}
 use Rattle.dag.specs.WellFormed.{WellFormed}
 use Rattle.dag.specs.declared.NodeKind.{NodeKind}
 use Rattle.dag.specs.declared.NodeKind.the-variants.{Input}
 use Rattle.dag.specs.declared.Checked.the-variants.{Good}
-
--- a store that begins with a list's words, and is as it was behind them
-unfoldable pub written : List ℕ → List NodeKind → List ℕ
-written s l = wordsOf l ++ drop (3 * length l) s
 
 pub written-nil : (s : List ℕ) → written s [] ≡ s
 unfolding written wordsOf
@@ -72,11 +68,15 @@ module _ (t : List ℕ) where
           good = checks-words (length l) (omega arith);
         }
 
+    -- the store passes the tests of a list of at least `least` records
+    pub words-rootless : (least : ℕ) → least ≤ length l → length l ≤ mostRecords → rootlessCheck m least (wordsOf l ++ t) (length l) ≡ Good
+    unfolding rootlessCheck
+    words-rootless least h k = simp (le-leb least (length l) h, le-leb (length l) mostRecords k, le-leb _ _ (sound-words .room), sound-words .good)
+
     -- the store passes the list check
     pub words-pass : (root : ℕ) → root < length l → length l ≤ mostRecords → listCheck m (wordsOf l ++ t) (length l) root ≡ Good
-    unfolding listCheck rootlessCheck
-    words-pass root h k =
-        simp (le-leb 1 (length l) (omega arith), le-leb (length l) mostRecords k, le-leb _ _ (sound-words .room), sound-words .good, lt-ltb root (length l) h)
+    unfolding listCheck
+    words-pass root h k = rw (words-rootless 1 (omega arith) k, lt-ltb root (length l) h)
 
 -- three words stored one after the other
 set-three : (p ys : List ℕ) (a b c x y z n : ℕ) → length p ≡ n

@@ -19,7 +19,7 @@ use Rattle.dag.specs.declared.Found.the-variants.{At, Missing}
 use Rattle.meaning.specs.Values.{valueOf, value}
 use Rattle.meaning.specs.ValueLaws.{value-at, value-snoc, value-last, value-low}
 use Rattle.builder.specs.Steps.{isConstant, isAdd, isSub, isNeg, isThe, element, addRule, subRule, mulOutcome, negOutcome, follow, addWithin, subWithin, addOutcome, subOutcome, outcome, Built, interned, intern, enter, step}
-use Rattle.builder.specs.RuleCases.{constant-is, the-is, add-is, sub-is, neg-is, low-first, add-cases, sub-cases, mul-cases, neg-cases}
+use Rattle.builder.specs.RuleLaws.{constant-is, the-is, add-is, sub-is, neg-is, low-first, add-cases, sub-cases, mul-cases, neg-cases}
 use Rattle.builder.specs.StepLaws.{RuleFine, add-fine, sub-fine}
 use Rattle.builder.specs.declared.Rule.{Rule}
 use Rattle.builder.specs.declared.Rule.the-variants.{Use, Make, HandOver}

@@ -1,21 +1,19 @@
 -- What a round's code plans is the plan of the record.
 use Prim.Native.Nat.{ℕ, _<_, _≤_}
-use mathlib.Core.Bool.{Bool, true, false, true≢false}
+use mathlib.Core.Bool.{true, false, true≢false}
 use mathlib.Core.List.{List}
-use mathlib.Core.Path.{_≡_, refl, sym, _∙_, ap, ap₂}
+use mathlib.Core.Path.{_≡_, refl, sym, _∙_, ap}
 use native.Mathlib.Omega.{arith}
 use lib.ListN.{length}
 use Rattle.field.specs.declared.QuadFelt.{QuadFelt}
 use Rattle.field.specs.Field.{Below}
-use Rattle.dag.specs.Nodes.{nodes}
 use Rattle.dag.specs.WellFormed.{Fine}
 use Rattle.dag.specs.declared.NodeKind.{NodeKind}
 use Rattle.dag.specs.declared.NodeKind.the-variants.{Input, Constant, Add, Sub, Mul, Neg}
 use Rattle.builder.specs.Contracts.{Operands}
 use Rattle.dag.specs.WellFormedLaws.{fine-as}
-use Rattle.builder.specs.Holds.{read}
 use Rattle.normalize.specs.Rounds.{commonFactor, eitherRotation, rotationPlan, factorPlan, planOf}
-use Rattle.normalize.specs.Asked.{isShared, Planning}
+use Rattle.normalize.specs.Contracts.{isShared, Planning}
 use Rattle.normalize.specs.declared.Factor.{Factor}
 use Rattle.normalize.specs.declared.Factor.the-variants.{Shared, NoFactor}
 use Rattle.normalize.specs.declared.Rotation.{Rotation}

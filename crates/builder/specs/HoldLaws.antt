@@ -1,11 +1,11 @@
 -- Two stores that hold a replay: the list built and the result places so far.
-use Prim.Native.Nat.{ℕ, zero, suc, _+_, _*_, _-_, _<_, _≤_}
+use Prim.Native.Nat.{ℕ, suc, _+_, _*_, _-_, _<_, _≤_}
 use mathlib.Core.List.{List, [], _∷_, _++_}
-use mathlib.Core.Path.{_≡_, refl, sym, _∙_, ap, ap₂, subst}
+use mathlib.Core.Path.{_≡_, refl, sym, _∙_, ap, ap₂}
 use native.Mathlib.Numerals.{add-one}
 use native.Mathlib.Omega.{arith}
-use lib.ListN.{length, getD, take, set, replicate, length-set}
-use lib.Seq.{getD-take, take-suc-set, length-take-le}
+use lib.ListN.{length, getD, take, set, replicate}
+use lib.Seq.{getD-take, take-suc-set}
 use Rattle.field.specs.Field.{p, quad, quad-laws, Below}
 use Rattle.field.specs.declared.QuadFelt.{QuadFelt}
 use Rattle.dag.specs.Nodes.{blank, nodes, at, rename, wordsOf, filled}
@@ -19,7 +19,7 @@ use Rattle.dag.specs.declared.NodeKind.{NodeKind}
 use Rattle.dag.specs.declared.NodeKind.the-variants.{Input, Constant, Add, Sub, Mul, Neg}
 use Rattle.builder.specs.Steps.{Built, Replay, placeOf, recorded, step, replay}
 use Rattle.builder.specs.ReplayLaws.{Replayed, replay-replayed, renamed-fine}
-use Rattle.builder.specs.Contracts.{Request, Pushed}
+use Rattle.builder.specs.Contracts.{Request, Pushed, read, Holds}
 use Rattle.builder.specs.declared.Entered.{Entered}
 
 -- places that agree rename a record alike
@@ -31,15 +31,6 @@ rename-agree Low m k i (Add a b) f h = ap₂ Add (h a (f .0)) (h b (f .1))
 rename-agree Low m k i (Sub a b) f h = ap₂ Sub (h a (f .0)) (h b (f .1))
 rename-agree Low m k i (Mul a b) f h = ap₂ Mul (h a (f .0)) (h b (f .1))
 rename-agree Low m k i (Neg a) f h = ap Neg (h a f)
-
--- the places that a map store holds
-abbrev pub read : List ℕ → ℕ → ℕ
-read map j = getD map j 0
-
-pub record Holds (r : Replay) (i : ℕ) (result map : List ℕ) (count : ℕ) : Type 0 where
-  pub sound : Sound p result count
-  pub list-is : nodes result count ≡ r .list
-  pub map-is : take i map ≡ r .map
 
 -- nothing yet
 pub holds-nothing : (result map : List ℕ) → Holds (record { list = []; map = [] }) 0 result map 0

@@ -15,7 +15,7 @@ use Rattle.dag.specs.declared.NodeKind.the-variants.{Input, Constant, Add, Sub,
 use Rattle.meaning.specs.Values.{valueOf, value}
 use Rattle.meaning.specs.ValueLaws.{value-at}
 use Rattle.builder.specs.Steps.{lowFirst}
-use Rattle.builder.specs.RuleCases.{low-first}
+use Rattle.builder.specs.RuleLaws.{low-first}
 use Rattle.normalize.specs.Rounds.{commonFactor, eitherRotation, rotationPlan, factorPlan, planOf}
 use Rattle.normalize.specs.SearchLaws.{Splits, FactorRight, factor-right, Rotates, RotationRight, rotation-right}
 use Rattle.normalize.specs.PlanLaws.{tag-add, tag-mul, mul-tag}

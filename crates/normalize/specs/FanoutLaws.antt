@@ -2,43 +2,27 @@
 use Prim.Native.Nat.{ℕ, zero, suc, _+_, _*_, _<_, _≤_}
 use mathlib.Core.Bool.{Bool, true, false, cond}
 use mathlib.Core.List.{List, [], _∷_}
-use mathlib.Core.Path.{_≡_, refl, sym, _∙_, ap, fun-ext}
+use mathlib.Core.Path.{_≡_, refl, _∙_, ap, fun-ext}
 use native.Mathlib.Numerals.{add-one}
 use native.Mathlib.Omega.{arith}
-use borrow.Author.Tests.{eq-eqb, ne-eqb, eqb-true, eqb-false}
+use borrow.Author.Tests.{eqb-true, eqb-false}
 use lib.Dec.{eqb}
 use lib.ListN.{length, getD, set, length-set}
 use lib.Seq.{getD-set-same, getD-set-other}
 use Rattle.field.specs.Field.{p, Below}
 use Rattle.dag.specs.Nodes.{nodes, at, operands}
 use Rattle.dag.specs.NodeLaws.{length-nodes}
-use Rattle.dag.specs.Store.{Sound}
-use Rattle.dag.specs.WellFormed.{Fine, WellFormed}
+use Rattle.dag.specs.WellFormed.{WellFormed}
 use Rattle.dag.specs.WellFormedLaws.{fine-mono}
 use Rattle.dag.specs.declared.NodeKind.{NodeKind}
 use Rattle.dag.specs.declared.NodeKind.the-variants.{Input, Constant, Add, Sub, Mul, Neg}
-use Rattle.builder.specs.Holds.{read}
 use Rattle.builder.specs.OutcomeLaws.{list-fine}
-use Rattle.compact.specs.Reach.{_∈_, here, there}
-use Rattle.compact.specs.Operands.{AllBelow, operands-below}
+use Rattle.builder.specs.Contracts.{read}
+use Rattle.compact.specs.Reach.{here, there}
+use Rattle.compact.specs.OperandLaws.{operands-below}
+use Rattle.compact.specs.Contracts.{AllBelow}
 use Rattle.normalize.specs.Rounds.{count, mentions, fanout}
-
--- each mention adds one at its place
-unfoldable pub mentioned : List ℕ → List ℕ → List ℕ
-mentioned f [] = f
-mentioned f (i ∷ is) = mentioned (set f i (getD f i 0 + 1)) is
-
--- every count is at most k
-abbrev pub AtMost : ℕ → List ℕ → Type 0
-AtMost k f = (j : ℕ) → getD f j 0 ≤ k
-
--- n records that pass the list check, a root among them, and a count of 0 for each
-pub record Countable (s : List ℕ) (n root : ℕ) (f : List ℕ) : Type 0 where
-  pub sound : Sound p s n
-  pub inside : root < n
-  pub few : n ≤ 4096
-  pub fits : n ≤ length f
-  pub zeros : (j : ℕ) → getD f j 0 ≡ 0
+use Rattle.normalize.specs.Contracts.{mentioned, AtMost, Countable}
 
 -- one mention more
 module _ (f : List ℕ) (i : ℕ) (h : i < length f) where

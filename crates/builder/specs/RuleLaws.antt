@@ -10,7 +10,7 @@ use Rattle.field.specs.Field.{same}
 use Rattle.field.specs.declared.QuadFelt.{QuadFelt}
 use Rattle.dag.specs.Nodes.{tag, first, second, decode}
 use Rattle.dag.specs.NodeLaws.{decode-words}
-use Rattle.dag.specs.Cases.{cond-elim, and-true, or-true}
+use Rattle.dag.specs.CaseLaws.{cond-elim, and-true, or-true}
 use Rattle.dag.specs.declared.NodeKind.{NodeKind}
 use Rattle.dag.specs.declared.NodeKind.the-variants.{Constant, Add, Sub, Mul, Neg}
 use Rattle.builder.specs.Steps.{isConstant, isAdd, isSub, isMul, isNeg, isThe, element, lowFirst, addRule, subRule, mulOutcome, negOutcome}

@@ -14,7 +14,7 @@ use Rattle.field.specs.declared.QuadFelt.{QuadFelt}
 use Rattle.dag.specs.Keys.{isKey}
 use Rattle.dag.specs.Nodes.{nodes, at, recordAt}
 use Rattle.dag.specs.NodeLaws.{length-nodes, at-nodes}
-use Rattle.dag.specs.Cases.{and-true, below-suc-elim}
+use Rattle.dag.specs.CaseLaws.{and-true, below-suc-elim}
 use Rattle.dag.specs.CheckLaws.{Within, need-good}
 use Rattle.dag.specs.StoreLaws.{sound-well-formed}
 use Rattle.dag.specs.WellFormed.{Fine, WellFormed}
@@ -27,7 +27,7 @@ use Rattle.meaning.specs.ValueLaws.{value-at, value-low, valueOf-cong}
 use Rattle.evaluate.specs.Entries.{firstRefused, keyAt, wordsBelow, entryCheck, entryOf, inputsCheck}
 use Rattle.evaluate.specs.EntryLaws.{good-below, word-below, entry-inside, an-entry, no-entry}
 use Rattle.evaluate.specs.Calls.{entryWords, elementOf, given}
-use Rattle.evaluate.specs.Asked.{elementAt, recordAnswer, Valued, Ready, Filled}
+use Rattle.evaluate.specs.Contracts.{elementAt, recordAnswer, Valued, Ready, Filled}
 use Rattle.evaluate.specs.RecordLaws.{answered, unanswered}
 use Rattle.evaluate.specs.declared.Assigned.the-variants.{Element, Absent}
 

@@ -8,7 +8,7 @@ use borrow.Author.Tests.{eq-eqb, ne-eqb}
 use lib.Dec.{eqb}
 use lib.ListN.{getD}
 use Rattle.normalize.specs.Rounds.{sharedFactor}
-use Rattle.normalize.specs.Asked.{sharedIn}
+use Rattle.normalize.specs.Contracts.{sharedIn}
 use Rattle.normalize.specs.declared.Factor.{Factor}
 use Rattle.normalize.specs.declared.Factor.the-variants.{Shared, NoFactor}
 

@@ -1,0 +1,74 @@
+-- Accepted is 0: an answer's first word is 0 exactly where the call's tests pass.
+use Prim.Native.Nat.{ℕ}
+use mathlib.Core.List.{List, []}
+use mathlib.Core.Logic.{_↔_}
+use mathlib.Core.Path.{_≡_, refl}
+use lib.ListN.{getD, length}
+use Rattle.field.specs.Field.{p}
+use Rattle.dag.specs.Refusals.{unlessRefused}
+use Rattle.dag.specs.RefusalLaws.{zero-accepts}
+use Rattle.dag.specs.declared.Refusal.{Refusal}
+use Rattle.dag.specs.declared.Checked.{Checked}
+use Rattle.dag.specs.declared.Checked.the-variants.{Good}
+use Rattle.dag.specs.declared.Checked.the-variants as Checked'
+use Rattle.builder.specs.Calls.{stepped, stepWholeCheck, stepAnswer, buildCheck, buildAnswer}
+use Rattle.builder.specs.declared.StepAnswer.the-variants as StepAnswer'
+use Rattle.builder.specs.declared.BuildAnswer.the-variants as BuildAnswer'
+use Rattle.compact.specs.Calls.{compactCheck, compactAnswer}
+use Rattle.compact.specs.declared.Compacted.the-variants as Compacted'
+use Rattle.normalize.specs.Calls.{normalizeCheck, normalizeAnswer}
+use Rattle.normalize.specs.declared.NormalizeAnswer.the-variants as NormalizeAnswer'
+use Rattle.evaluate.specs.Calls.{evaluateCheck, evaluateAnswer}
+use Rattle.evaluate.specs.declared.Evaluated.the-variants as Evaluated'
+use Rattle.columns.specs.Prepare.{columns, prepareCheck, answer, prepare}
+use Rattle.lower.specs.Lower.{wholeCheck, lowerAnswer}
+use Rattle.lower.specs.declared.LowerAnswer.the-variants as LowerAnswer'
+use Rattle.ace.specs.Answers.{stepWords, buildWords, compactWords, normalizeWords, evaluateWords, prepareWords, lowerWords}
+
+-- an answer's first word
+abbrev pub outcome : List ℕ → ℕ
+outcome ws = getD ws 0 0
+
+module _ (s : List ℕ) (n : ℕ) where
+  pub step-accepts : (t a b : ℕ) → (outcome (stepWords (stepAnswer s n t a b)) ≡ 0) ↔ (stepWholeCheck s n t a b ≡ Good)
+  unfolding stepAnswer
+  step-accepts t a b = zero-accepts (λ w. outcome (stepWords w)) StepAnswer'.Refused _ (λ r. refl) refl (stepWholeCheck s n t a b)
+
+  module _ (root resultWords : ℕ) where
+    pub build-accepts : (mapWords : ℕ) → (outcome (buildWords (buildAnswer s n root resultWords mapWords)) ≡ 0) ↔ (buildCheck s n root resultWords mapWords ≡ Good)
+    unfolding buildAnswer
+    build-accepts mapWords = zero-accepts (λ w. outcome (buildWords w)) BuildAnswer'.Refused _ (λ r. refl) refl (buildCheck s n root resultWords mapWords)
+
+    pub compact-accepts : (outcome (compactWords (compactAnswer s n root resultWords)) ≡ 0) ↔ (compactCheck s n root resultWords ≡ Good)
+    unfolding compactAnswer
+    compact-accepts = zero-accepts (λ w. outcome (compactWords w)) Compacted'.Refused _ (λ r. refl) refl (compactCheck s n root resultWords)
+
+    pub normalize-accepts : (workWords : ℕ) → (outcome (normalizeWords (normalizeAnswer s n root resultWords workWords)) ≡ 0) ↔ (normalizeCheck s n root resultWords workWords ≡ Good)
+    unfolding normalizeAnswer
+    normalize-accepts workWords =
+        zero-accepts (λ w. outcome (normalizeWords w)) NormalizeAnswer'.Refused _ (λ r. refl) refl (normalizeCheck s n root resultWords workWords)
+
+  pub evaluate-accepts : (root : ℕ) (a : List ℕ) (m : ℕ) → (outcome (evaluateWords (evaluateAnswer s n root a m)) ≡ 0) ↔ (evaluateCheck s n root a m ≡ Good)
+  unfolding evaluateAnswer
+  evaluate-accepts root a m = zero-accepts (λ w. outcome (evaluateWords w)) Evaluated'.Refused _ (λ r. refl) refl (evaluateCheck s n root a m)
+
+  pub lower-accepts : (ls es : List ℕ) (period : ℕ) (result work places : List ℕ)
+      → (outcome (lowerWords (lowerAnswer s n ls es period result work places)) ≡ 0) ↔ (wholeCheck s n ls es period result work places ≡ Good)
+  unfolding lowerAnswer
+  lower-accepts ls es period result work places =
+      zero-accepts (λ w. outcome (lowerWords w)) LowerAnswer'.Refused _ (λ r. refl) refl (wholeCheck s n ls es period result work places)
+
+module _ (cs : List (List ℕ)) where
+  by-tests : (c : Checked) → answer p cs c ≡ unlessRefused c (λ r. answer p cs (Checked'.Refused r)) (answer p cs Good)
+  by-tests Good = refl
+  by-tests (Checked'.Refused r) = refl
+
+  prepared-accepts : (c : Checked) → (outcome (prepareWords (answer p cs c)) ≡ 0) ↔ (c ≡ Good)
+  unfolding answer
+  prepared-accepts c =
+      rw (by-tests c)
+      (zero-accepts (λ w. outcome (prepareWords w)) (λ r. answer p cs (Checked'.Refused r)) (answer p cs Good) (λ r. refl) refl c)
+
+pub prepare-accepts : (ls es : List ℕ) → (outcome (prepareWords (prepare p ls es)) ≡ 0) ↔ (prepareCheck p ls es ≡ Good)
+unfolding prepare
+prepare-accepts ls es = prepared-accepts (columns ls es) (prepareCheck p ls es)

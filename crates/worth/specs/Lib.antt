@@ -1,0 +1,5 @@
+pub mod Keeps
+pub mod Worth
+pub mod KeepsLaws
+pub mod PeriodicLaws
+pub mod LowerLaws
