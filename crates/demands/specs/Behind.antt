@@ -8,7 +8,8 @@ use borrow.Author.Tests.{le-leb}
 use lib.Dec.{eqb}
 use lib.ListN.{getD, length, take, drop}
 use lib.Seq.{drop-append-seam, length-take-le, take-add, take-take}
-use Rattle.field.specs.Field.{p}
+use Rattle.field.specs.Field.{p, felt, quad}
+use Rattle.field.specs.Generators.{generator, half}
 use Rattle.dag.specs.Nodes.{nodes, wordsOf}
 use Rattle.dag.specs.Refusals.{_then_}
 use Rattle.dag.specs.Check.{rootlessCheck, listCheck}
@@ -22,6 +23,8 @@ use Rattle.compact.specs.Calls.{compacted, compactCheck, compactAnswer, compact
 use Rattle.normalize.specs.Calls.{normalizeCheck, normalized, normalizeAnswer, normalizeResult, normalizeWork}
 use Rattle.evaluate.specs.Entries.{firstRefused, wordsBelow, entryCheck, entriesCheck, entryOf, inputsCheck}
 use Rattle.evaluate.specs.Calls.{entryWords, elementOf, given, evaluateCheck, evaluateAnswer}
+use Rattle.columns.specs.Columns.{logWithin}
+use Rattle.periodic.specs.Periodic.{buildPeriodicNodes}
 use Rattle.columns.specs.Prepare.{total, columns, prepareCheck, prepare}
 use Rattle.lower.specs.Lower.{lowerCheck, lowered, roomCheck, wholeCheck, lowerAnswer, lowerResult, lowerWork, lowerPlaces}
 use Rattle.demands.specs.Stepping.{begins}
@@ -114,7 +117,7 @@ module _ (s u : List ℕ) (n : ℕ) (h : SameList s u n) where
   module _ (ls es : List ℕ) (period : ℕ) where
     same-lowered : lowered s n ls es period ≡ lowered u n ls es period
     unfolding lowered
-    same-lowered = rw same-nodes
+    same-lowered = ap (λ l. buildPeriodicNodes quad p felt generator half (columns ls es) (logWithin 32 period) .run l) same-nodes
 
     same-tests : (workWords placeWords : ℕ) → lowerCheck s n ls es period workWords placeWords ≡ lowerCheck u n ls es period workWords placeWords
     unfolding lowerCheck
@@ -212,7 +215,7 @@ module _ (s : List ℕ) (n : ℕ) (ls es fs : List ℕ) (left : total ls ≤ len
 
   entries-lowered : lowered s n ls es period ≡ lowered s n ls fs period
   unfolding lowered
-  entries-lowered = rw (same-columns ls es fs same)
+  entries-lowered = ap (λ cs. buildPeriodicNodes quad p felt generator half cs (logWithin 32 period) .run (nodes s n)) (same-columns ls es fs same)
 
   module _ (result work places : List ℕ) where
     entries-whole : wholeCheck s n ls es period result work places ≡ wholeCheck s n ls fs period result work places

@@ -2,7 +2,7 @@
 use Prim.Native.Nat.{ℕ, zero, suc, _+_, _*_, _≤_, _<_}
 use mathlib.Core.Bool.{Bool, true, false}
 use mathlib.Core.List.{List}
-use mathlib.Core.Path.{_≡_, refl, ap, ap₂}
+use mathlib.Core.Path.{_≡_, refl, sym, _∙_, ap, ap₂}
 use native.Mathlib.Decide.{decLe}
 use native.Mathlib.Omega.{arith}
 use borrow.Author.Tests.{le-leb, ne-eqb}
@@ -15,7 +15,7 @@ use Rattle.dag.specs.declared.Checked.{Checked}
 use Rattle.dag.specs.declared.Checked.the-variants.{Refused}
 use Rattle.house_file.specs.File.{number, fileCount, recordPlace, isCount, formCheck, fileCheck, heldCheck}
 use Rattle.house_file.specs.FileLaws.{count-range}
-use Rattle.listing.specs.Listing.{refusedLine, listing}
+use Rattle.listing.specs.Listing.{refusedLine, listing, enough, Read}
 
 -- the tests of a file too long for every count: 22, 23, else 24
 longCheck : ℕ → ℕ → Checked
@@ -50,8 +50,8 @@ unfolding number
 number-take k file at zero h = refl
 number-take k file at (suc j) h = ap₂ (λ a b. a * 256 + b) (number-take k file at j (omega arith)) (getD-take k file (at + j) 0 (omega arith))
 
--- 17,418 bytes of an input decide its listing
-pub cut : (k : ℕ) → 17418 ≤ k → (file : List ℕ) → listing (take k file) ≡ listing file
+-- enough bytes of an input decide its listing
+pub cut : (k : ℕ) → enough ≤ k → (file : List ℕ) → listing (take k file) ≡ listing file
 unfolding listing fileCheck
 cut k h file = go (decLe (length file) k)
   where
@@ -61,3 +61,7 @@ cut k h file = go (decLe (length file) k)
         let len : length (take k file) ≡ k = length-take-le k file (omega arith) in
         rw (long-form (take k file) (omega arith), long-form file (omega arith), getD-take k file 0 0 (omega arith), number-take k file 1 4 (omega arith))
         (long-refused (getD file 0 0) (fileCount file) (heldCheck (take k file)) (heldCheck file) _ _)
+
+-- the listing of what was read is the input's
+pub read-listing : (input buffer : List ℕ) (n : ℕ) → enough ≤ length buffer → Read input buffer n → listing (take n buffer) ≡ listing input
+read-listing input buffer n h e = ap listing (sym e) ∙ cut (length buffer) h input

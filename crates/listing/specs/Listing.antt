@@ -1,7 +1,8 @@
 -- The installers' listing (document 01) as a list of bytes: of an answer, of a refusal, and of a whole house file.
 use Prim.Native.Nat.{ℕ, zero, suc, _+_, _*_}
 use mathlib.Core.List.{List, [], _∷_, _++_, map}
-use lib.ListN.{length}
+use mathlib.Core.Path.{_≡_}
+use lib.ListN.{length, take}
 use Rattle.dag.specs.Nodes.{at, first, second}
 use Rattle.dag.specs.Refusals.{number, place, unlessRefused}
 use Rattle.dag.specs.declared.NodeKind.{NodeKind}
@@ -10,7 +11,7 @@ use Rattle.dag.specs.declared.Refusal.{Refusal}
 use Rattle.normalize.specs.Rounds.{Normal}
 use Rattle.normalize.specs.Calls.{normalizeCheck, normalized}
 use Rattle.text.specs.Text.{ascii, decimal, line}
-use Rattle.house_file.specs.File.{fileCount, fileRoot, fileWords, fileCheck}
+use Rattle.house_file.specs.File.{mostFiled, recordPlace, fileCount, fileRoot, fileWords, fileCheck}
 
 -- the word of a record's kind
 unfoldable pub kind : NodeKind → List ℕ
@@ -55,3 +56,11 @@ listing file = unlessRefused (fileCheck file) refusedLine (listed (normalized (f
 -- the most bytes of a listing of n records: 81 in its first line, 53 in each other
 abbrev pub longest : ℕ → ℕ
 longest n = 81 + 53 * n
+
+-- so many bytes of an input decide its listing: one more than the longest file of good form has
+abbrev pub enough : ℕ
+enough = recordPlace mostFiled + 1
+
+-- the first n bytes of a buffer are an input's: all of them, or as many as the buffer holds
+abbrev pub Read : List ℕ → List ℕ → ℕ → Type 0
+Read input buffer n = take (length buffer) input ≡ take n buffer

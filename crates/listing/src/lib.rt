@@ -3,14 +3,13 @@ use dag::NodeKind;
 use dag::Refusal;
 use house_file::FileAnswer;
 use normalize::NormalizeAnswer;
-use text::NEWLINE;
-use text::SPACE;
+use text::End;
 ghost use mathlib.Core.Path.{_≡_};
-ghost use mathlib.Core.List.{[], _∷_};
-ghost use Prim.Native.Nat.{_+_, _*_, _<_, _≤_};
+ghost use mathlib.Core.List.{List, [], _∷_};
+ghost use Prim.Native.Nat.{ℕ, _+_, _*_, _<_, _≤_};
 ghost use lib.ListN.{length};
 ghost use Rattle.dag.specs.Nodes as Nodes;
-ghost use Rattle.text.specs.Text.{ended, decimal, space, laid};
+ghost use Rattle.text.specs.Text.{ended, endByte, decimal, space, laid};
 ghost use Rattle.text.specs.Writing.{Wrote, Laid};
 ghost use Rattle.listing.specs.Listing as Listing;
 ghost use Rattle.listing.specs.LineLaws as LineLaws;
@@ -19,18 +18,21 @@ ghost use Rattle.listing.specs.CallLaws as CallLaws;
 // The longest listing of a house file, in bytes.
 pub const LONGEST: usize = 54353;
 
+// So many bytes of an input decide its listing: one more than the longest file of good form has.
+pub const ENOUGH: usize = 17418;
+
 // Writes a record's kind and a space.
 fn put_kind(out: &mut [u8], at: usize, x: NodeKind) -> usize
     requires { ⌜ at + 6 ≤ length (now out) ⌝ }
     ensures { λ r. ⌜ Wrote (now (out .entry)) at (ended (Listing.kind x) space) (now (out .exit)) r ⌝ }
 {
     match x {
-        NodeKind::Input(_) => text::put_word(out, at, b"in", SPACE),
-        NodeKind::Constant(_) => text::put_word(out, at, b"const", SPACE),
-        NodeKind::Add(_, _) => text::put_word(out, at, b"add", SPACE),
-        NodeKind::Sub(_, _) => text::put_word(out, at, b"sub", SPACE),
-        NodeKind::Mul(_, _) => text::put_word(out, at, b"mul", SPACE),
-        NodeKind::Neg(_) => text::put_word(out, at, b"neg", SPACE),
+        NodeKind::Input(_) => text::put_word(out, at, b"in", End::Space),
+        NodeKind::Constant(_) => text::put_word(out, at, b"const", End::Space),
+        NodeKind::Add(_, _) => text::put_word(out, at, b"add", End::Space),
+        NodeKind::Sub(_, _) => text::put_word(out, at, b"sub", End::Space),
+        NodeKind::Mul(_, _) => text::put_word(out, at, b"mul", End::Space),
+        NodeKind::Neg(_) => text::put_word(out, at, b"neg", End::Space),
     }
 }
 
@@ -39,10 +41,10 @@ fn put_record(out: &mut [u8], at: usize, i: usize, x: NodeKind) -> usize
     requires { ⌜ (i < 10000) × (at + 53 ≤ length (now out)) ⌝ }
     ensures { λ r. ⌜ Wrote (now (out .entry)) at (Listing.recordLine i x) (now (out .exit)) r × (r ≤ at + 53) ⌝ }
 {
-    let kind = text::put_number(out, at, i as u64, SPACE);
+    let kind = text::put_number(out, at, i as u64, End::Space);
     let first = put_kind(out, kind, x);
-    let second = text::put_number(out, first, dag::first_of(x), SPACE);
-    text::put_number(out, second, dag::second_of(x), NEWLINE)
+    let second = text::put_number(out, first, dag::first_of(x), End::Space);
+    text::put_number(out, second, dag::second_of(x), End::Newline)
 }
 
 // Writes the lines of the first n records of a list.
@@ -60,11 +62,11 @@ fn put_records(out: &mut [u8], at: usize, list: &[u64], n: usize) -> usize
 }
 
 // Writes a word, a space, a number and the byte that ends it.
-fn put_named(out: &mut [u8], at: usize, name: &[u8], n: u64, end: u8) -> usize
-    requires { ⌜ at + length (LineLaws.named (now name) n end) ≤ length (now out) ⌝ }
-    ensures { λ r. ⌜ Wrote (now (out .entry)) at (LineLaws.named (now (name .entry)) n end) (now (out .exit)) r ⌝ }
+fn put_named(out: &mut [u8], at: usize, name: &[u8], n: u64, end: End) -> usize
+    requires { ⌜ at + length (LineLaws.named (now name) n (endByte end)) ≤ length (now out) ⌝ }
+    ensures { λ r. ⌜ Wrote (now (out .entry)) at (LineLaws.named (now (name .entry)) n (endByte end)) (now (out .exit)) r ⌝ }
 {
-    let number = text::put_word(out, at, name, SPACE);
+    let number = text::put_word(out, at, name, End::Space);
     text::put_number(out, number, n, end)
 }
 
@@ -73,9 +75,9 @@ fn put_first(out: &mut [u8], count: usize, root: usize, rounds: usize) -> usize
     requires { ⌜ 81 ≤ length (now out) ⌝ }
     ensures { λ r. ⌜ Wrote (now (out .entry)) 0 (Listing.firstLine count (root ∷ []) rounds) (now (out .exit)) r × (r ≤ 81) ⌝ }
 {
-    let a = put_named(out, 0, b"nodes", count as u64, SPACE);
-    let b = put_named(out, a, b"root", root as u64, SPACE);
-    put_named(out, b, b"rounds", rounds as u64, NEWLINE)
+    let a = put_named(out, 0, b"nodes", count as u64, End::Space);
+    let b = put_named(out, a, b"root", root as u64, End::Space);
+    put_named(out, b, b"rounds", rounds as u64, End::Newline)
 }
 
 // Writes the listing of an answer: a first line, then a line a record. Answers its length.
@@ -100,8 +102,8 @@ pub fn write_refused(r: Refusal, out: &mut [u8]) -> usize
     requires { ⌜ 81 ≤ length (now out) ⌝ }
     ensures { λ q. ⌜ Laid (now (out .entry)) (Listing.refusedLine r) (now (out .exit)) q ⌝ }
 {
-    let place = put_named(out, 0, b"refused", dag::number_of(r), SPACE);
-    let end = text::put_number(out, place, dag::place_of(r) as u64, NEWLINE);
+    let place = put_named(out, 0, b"refused", dag::number_of(r), End::Space);
+    let end = text::put_number(out, place, dag::place_of(r) as u64, End::Newline);
     text::blank_text(out, end);
     end
 }
@@ -161,4 +163,13 @@ pub fn list_file(file: &[u8], out: &mut [u8]) -> usize
     let mut result = [0u64; 3072];
     let mut work = [0u64; 6144];
     list_in(file, &mut list, &mut result, &mut work, out)
+}
+
+// Writes the listing of an input of which the first n bytes of a buffer are read. Answers its length.
+pub fn list_input(buffer: &[u8], n: usize, out: &mut [u8]) -> usize
+    requires { ⌜ (Listing.enough ≤ length (now buffer)) × (n ≤ length (now buffer)) × (Listing.longest 1024 ≤ length (now out)) ⌝ }
+    ensures listed { λ r. ⌜ (input : List ℕ) → Listing.Read input (now (buffer .entry)) n → Laid (now (out .entry)) (Listing.listing input) (now (out .exit)) r ⌝ }
+    ensures fits { λ r. ⌜ r ≤ length (now (out .exit)) ⌝ }
+{
+    list_file(&buffer[..n], out)
 }

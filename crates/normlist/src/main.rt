@@ -2,13 +2,10 @@
 use libc::STDIN_FILENO;
 use libc::STDOUT_FILENO;
 
-// One byte more than the longest file of good form, so that a longer one is seen to be too long.
-const ROOM: usize = 17418;
-
 fn main() {
-    let mut file = [0u8; ROOM];
-    let n = io::read_full(STDIN_FILENO, &mut file);
+    let mut buffer = [0u8; listing::ENOUGH];
+    let n = io::read_full(STDIN_FILENO, &mut buffer);
     let mut text = [0u8; listing::LONGEST];
-    let length = listing::list_file(&file[..n], &mut text);
+    let length = listing::list_input(&buffer, n, &mut text);
     io::write_all(STDOUT_FILENO, &text[..length]);
 }

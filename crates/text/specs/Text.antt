@@ -6,6 +6,8 @@ use mathlib.Core.Bool.{true, false}
 use mathlib.Core.List.{List, [], _∷_, _++_}
 use lib.Dec.{ltb}
 use lib.ListN.{length, replicate}
+use Rattle.text.specs.declared.End.{End}
+use Rattle.text.specs.declared.End.the-variants.{Space, Newline}
 
 -- the bytes of a plain text
 unfoldable pub ascii : String → List ℕ
@@ -17,6 +19,11 @@ space = 32
 
 abbrev pub newline : ℕ
 newline = 10
+
+-- the byte that ends a word
+abbrev pub endByte : End → ℕ
+endByte Space = space
+endByte Newline = newline
 
 -- the last k digits of n, or all where n has fewer, highest first
 unfoldable pub digits : ℕ → ℕ → List ℕ

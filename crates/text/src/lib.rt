@@ -3,14 +3,24 @@ ghost use mathlib.Core.Path.{_≡_};
 ghost use mathlib.Core.List.{[], _∷_, _++_};
 ghost use Prim.Native.Nat.{_+_, _-_, _<_, _≤_};
 ghost use lib.ListN.{length, take, replicate};
-ghost use Rattle.text.specs.Text.{decimal, ended};
+ghost use Rattle.text.specs.Text.{decimal, endByte, ended};
 ghost use Rattle.text.specs.Writing.{Wrote};
 
-// Between the words of a line.
-pub const SPACE: u8 = 32;
+// What ends a word: a space before the next one, or the line's newline.
+pub enum End {
+    Space,
+    Newline,
+}
 
-// Behind the last word of a line.
-pub const NEWLINE: u8 = 10;
+// The byte that ends a word.
+fn end_byte(end: End) -> u8
+    ensures { λ r. ⌜ r ≡ endByte end ⌝ }
+{
+    match end {
+        End::Space => b' ',
+        End::Newline => b'\n',
+    }
+}
 
 // Writes a byte at a place, and answers the place behind it.
 fn put_byte(out: &mut [u8], at: usize, byte: u8) -> usize
@@ -19,6 +29,14 @@ fn put_byte(out: &mut [u8], at: usize, byte: u8) -> usize
 {
     out[at] = byte;
     at + 1
+}
+
+// Writes the byte that ends a word, and answers the place behind it.
+fn put_end(out: &mut [u8], at: usize, end: End) -> usize
+    requires { ⌜ at < length (now out) ⌝ }
+    ensures { λ r. ⌜ Wrote (now (out .entry)) at (endByte end ∷ []) (now (out .exit)) r ⌝ }
+{
+    put_byte(out, at, end_byte(end))
 }
 
 // Writes bytes from a place on, and answers the place behind them.
@@ -55,21 +73,21 @@ fn put_decimal(out: &mut [u8], at: usize, n: u64) -> usize
 }
 
 // Writes a word and the byte that ends it.
-pub fn put_word(out: &mut [u8], at: usize, word: &[u8], end: u8) -> usize
-    requires { ⌜ at + length (ended (now word) end) ≤ length (now out) ⌝ }
-    ensures { λ r. ⌜ Wrote (now (out .entry)) at (ended (now (word .entry)) end) (now (out .exit)) r ⌝ }
+pub fn put_word(out: &mut [u8], at: usize, word: &[u8], end: End) -> usize
+    requires { ⌜ at + length (ended (now word) (endByte end)) ≤ length (now out) ⌝ }
+    ensures { λ r. ⌜ Wrote (now (out .entry)) at (ended (now (word .entry)) (endByte end)) (now (out .exit)) r ⌝ }
 {
     let next = put_bytes(out, at, word);
-    put_byte(out, next, end)
+    put_end(out, next, end)
 }
 
 // Writes a number in decimal and the byte that ends it.
-pub fn put_number(out: &mut [u8], at: usize, n: u64, end: u8) -> usize
-    requires { ⌜ at + length (ended (decimal n) end) ≤ length (now out) ⌝ }
-    ensures { λ r. ⌜ Wrote (now (out .entry)) at (ended (decimal n) end) (now (out .exit)) r ⌝ }
+pub fn put_number(out: &mut [u8], at: usize, n: u64, end: End) -> usize
+    requires { ⌜ at + length (ended (decimal n) (endByte end)) ≤ length (now out) ⌝ }
+    ensures { λ r. ⌜ Wrote (now (out .entry)) at (ended (decimal n) (endByte end)) (now (out .exit)) r ⌝ }
 {
     let next = put_decimal(out, at, n);
-    put_byte(out, next, end)
+    put_end(out, next, end)
 }
 
 // Fills a text store with 0 bytes from a place on.

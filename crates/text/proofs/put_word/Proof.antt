@@ -1,22 +1,22 @@
 use native.Mathlib.Omega.{arith}
-use Rattle.text.specs.Text.{ended}
+use Rattle.text.specs.Text.{endByte, ended}
 use Rattle.text.specs.Writing.{length-ended, and-then}
 use borrow.Author.Needs.{needs}
 use Rattle.text.proofs.put_word.Statement.{statement}
 use Rattle.text.proofs.put_word.Tie as tie
 
 put-bytes-requires : tie.Need-put-bytes-requires
-put-bytes-requires c κs = omega (arith, length-ended (c .before .before .before .args .word .now) (c .before .before .before .args .end), c .before .before .before .pre)
+put-bytes-requires c κs = omega (arith, length-ended (c .before .before .before .args .word .now) (endByte (c .before .before .before .args .end)), c .before .before .before .pre)
 
-put-byte-requires : tie.Need-put-byte-requires
-put-byte-requires c κs = omega (arith, length-ended (c .before .before .before .before .before .before .before .args .word .now) (c .before .before .before .before .before .before .before .args .end), c .before .before .before .before .before .before .before .pre, c .before .before .before .put-bytes .ensures .end-is, c .before .before .before .put-bytes .kept .0)
+put-end-requires : tie.Need-put-end-requires
+put-end-requires c κs = omega (arith, length-ended (c .before .before .before .before .before .before .before .args .word .now) (endByte (c .before .before .before .before .before .before .before .args .end)), c .before .before .before .before .before .before .before .pre, c .before .before .before .put-bytes .ensures .end-is, c .before .before .before .put-bytes .kept .0)
 
 same-length : tie.Need-same-length
 same-length c = search needs
 
 returns : tie.Need-returns
 unfolding ended
-returns c = and-then (c .before .before .before .before .before .before .put-bytes .ensures) (c .before .before .put-byte .ensures)
+returns c = and-then (c .before .before .before .before .before .before .put-bytes .ensures) (c .before .before .put-end .ensures)
 
 pub put-word-spec : {M : Type 1} → statement M
-put-word-spec = tie.close (tie.spec put-bytes-requires put-byte-requires same-length returns)
+put-word-spec = tie.close (tie.spec put-bytes-requires put-end-requires same-length returns)
