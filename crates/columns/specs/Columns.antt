@@ -137,9 +137,13 @@ unfoldable pub savings : ℕ → List (List ℕ) → ℕ → ℕ → ℕ
 savings m cs P zero = 0
 savings m cs P (suc n) = savings m cs P n + cond (eqb (length (column cs n)) P) (saving m cs n) 0
 
+-- what the savings of period P must exceed
+abbrev pub threshold : ℕ → ℕ
+threshold P = 7 * P + 2
+
 -- period P goes over to the basis
 unfoldable pub goesOver : ℕ → List (List ℕ) → ℕ → Bool
-goesOver m cs P = leb 2 P && ltb (7 * P + 2) (savings m cs P (length cs))
+goesOver m cs P = leb 2 P && ltb (threshold P) (savings m cs P (length cs))
 
 unfoldable pub form : ℕ → List (List ℕ) → ℕ → Form
 form m cs j =

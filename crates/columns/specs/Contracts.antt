@@ -5,7 +5,7 @@ use mathlib.Core.List.{List}
 use mathlib.Core.Path.{_≡_}
 use lib.Dec.{leb, ltb, eqb}
 use lib.ListN.{getD, length}
-use Rattle.columns.specs.Columns.{isPower, values, column, gain, isAmong, saving}
+use Rattle.columns.specs.Columns.{isPower, values, column, gain, isAmong, saving, threshold}
 use Rattle.columns.specs.Prepare.{total, columns, allBelow, mostColumns, upTo, padded}
 
 -- a column that was tested
@@ -56,7 +56,7 @@ savingsOf ls each P zero = 0
 savingsOf ls each P (suc n) = savingsOf ls each P n + cond (eqb (getD ls n 0) P) (getD each n 0) 0
 
 unfoldable pub over : List ℕ → List ℕ → ℕ → Bool
-over ls each P = leb 2 P && ltb (7 * P + 2) (savingsOf ls each P (length ls))
+over ls each P = leb 2 P && ltb (threshold P) (savingsOf ls each P (length ls))
 
 -- columns that passed, with what they save
 pub record Weighed (m : ℕ) (ls es gs each : List ℕ) : Type 0 where

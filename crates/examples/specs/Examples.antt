@@ -1,27 +1,31 @@
 -- Examples A to L of document 01: each is an answer of a definition and the answer that the document gives.
-use Prim.Native.Nat.{ℕ, _-_}
-use mathlib.Core.List.{List, [], _∷_, _++_}
+use Prim.Native.Nat.{ℕ, zero, suc, _-_}
+use mathlib.Core.List.{List, [], _∷_, _++_, map}
 use mathlib.Core.Path.{_≡_, refl}
 use lib.ListN.{length, replicate}
 use Rattle.field.specs.Field.{p, felt, quad, same, new}
 use Rattle.field.specs.declared.QuadFelt.{QuadFelt}
 use Rattle.dag.specs.declared.NodeKind.{NodeKind}
 use Rattle.dag.specs.declared.NodeKind.the-variants.{Input, Constant, Add, Sub, Mul, Neg}
-use Rattle.dag.specs.Nodes.{at, sameNode, operands, rename, recordAt, nodes, decode}
+use Rattle.dag.specs.Nodes.{blank, at, sameNode, operands, rename, recordAt, nodes, decode, words, wordsOf, filled}
 use Rattle.dag.specs.Lookup.{lookup}
 use Rattle.builder.specs.Steps.{isConstant, isAdd, isSub, isMul, isNeg, element, isThe, lowFirst, addRule, subRule, mulOutcome, negOutcome, follow, addWithin, subWithin, addOutcome, subOutcome, outcome, interned, intern, enter, step, Built, placeOf, recorded}
 use Rattle.compact.specs.Reach.{marked, sweep, marks}
 use Rattle.compact.specs.Compact.{rank, kept, compact, Rooted}
 use Rattle.normalize.specs.Rounds.{count, mentions, fanout, sharedFactor, commonFactor, orElse, ontoBefore, existingRotation, eitherRotation, planOf, planned, round, fired, rounded, isKept, roundsFrom, normalize, Normal}
-use Rattle.columns.specs.Columns.{logWithin, logLength, count as occurrences, isSparse, standalone, placesFrom, withNew, valuesFrom, values, weight, heaviest, dominant, isScaled, scalings, combinationCost, offset, equalEntries, gain, sameEntries, isAmong, saving, savings, goesOver, form, formNumber}
+use Rattle.columns.specs.Columns.{logWithin, logLength, count as occurrences, isSparse, standalone, placesFrom, withNew, valuesFrom, values, weight, heaviest, dominant, isScaled, scalings, combinationCost, offset, equalEntries, gain, sameEntries, isAmong, saving, savings, threshold, goesOver, form, formNumber}
 use Rattle.columns.specs.Prepare.{upTo, firstOf, total, columns, prepareCheck}
 use Rattle.dag.specs.Keys.{isKey}
-use Rattle.dag.specs.Check.{formed, earlier, recordCheck, checkAt, recordsCheck, rootlessCheck}
-use Rattle.dag.specs.declared.Checked.{Checked}
-use Rattle.dag.specs.declared.Checked.the-variants.{Good}
+use Rattle.dag.specs.Check.{formed, earlier, recordCheck, checkAt, recordsCheck, rootlessCheck, listCheck}
 use Rattle.periodic.specs.Builder.{turns, done}
 use Rattle.periodic.specs.Periodic.{buildPeriodicNodes}
-use Rattle.lower.specs.Lower.{periodGood, lowerCheck, lowered}
+use Rattle.lower.specs.Lower.{periodGood, lowerCheck, lowered, roomCheck, wholeCheck, lowerAnswer, lowerResult}
+use Rattle.lower.specs.declared.LowerAnswer.{LowerAnswer}
+use Rattle.lower.specs.declared.LowerAnswer.the-variants.{Done}
+use Rattle.normalize.specs.Calls.{normalized}
+use Rattle.text.specs.Text.{ascii, digits, decimal, ended, line}
+use Rattle.house_file.specs.File.{number, wordsAt, wordsOfFirst, fileWords, isCount, formCheck, heldCheck, fileCheck}
+use Rattle.listing.specs.Listing.{kind, firstLine, recordLine, recordLines, listed, refusedLine, listing}
 
 -- the two sides of an example
 pub record Example : Type 1 where
@@ -40,11 +44,24 @@ normal l root rounds = record { list = l; roots = root ∷ []; rounds = rounds }
 abbrev built : List NodeKind → ℕ → Built
 built l place = record { list = l; place = place }
 
+-- the 17 bytes of a record with words below 256
+abbrev filed : ℕ → ℕ → ℕ → List ℕ
+filed t a b = t ∷ 0 ∷ 0 ∷ 0 ∷ 0 ∷ 0 ∷ 0 ∷ 0 ∷ a ∷ 0 ∷ 0 ∷ 0 ∷ 0 ∷ 0 ∷ 0 ∷ 0 ∷ b ∷ []
+
+-- inputs 0, 1, 2, mul 0 1, mul 0 2, add 3 4, root 5: the listing, byte for byte
 abbrev A : Example
 A = record {
-  Answer = Normal;
-  computed = normalize quad (Input 0 ∷ Input 1 ∷ Input 2 ∷ Mul 0 1 ∷ Mul 0 2 ∷ Add 3 4 ∷ []) (5 ∷ []);
-  stated = normal (Input 0 ∷ Input 1 ∷ Input 2 ∷ Add 1 2 ∷ Mul 0 3 ∷ []) 4 1;
+  Answer = List ℕ;
+  computed = listing ((1 ∷ 0 ∷ 0 ∷ 0 ∷ 6 ∷ 0 ∷ 0 ∷ 0 ∷ 5 ∷ []) ++ filed 0 0 0 ++ filed 0 1 0 ++ filed 0 2 0 ++ filed 4 0 1 ++ filed 4 0 2 ++ filed 2 3 4);
+  stated = ascii "nodes 5 root 4 rounds 1\n0 in 0 0\n1 in 1 0\n2 in 2 0\n3 add 1 2\n4 mul 0 3\n";
+}
+
+-- an operand that isn't earlier: the refused line
+abbrev A-refused : Example
+A-refused = record {
+  Answer = List ℕ;
+  computed = listing ((1 ∷ 0 ∷ 0 ∷ 0 ∷ 2 ∷ 0 ∷ 0 ∷ 0 ∷ 0 ∷ []) ++ filed 0 0 0 ++ filed 5 1 0);
+  stated = ascii "refused 5 1\n";
 }
 
 abbrev B : Example
@@ -122,32 +139,81 @@ J = record { Answer = ℕ; computed = felt .add (p - 1) (p - 1); stated = p - 2 
 unfoldable unit : ℕ → List ℕ
 unit j = replicate j 0 ++ (1 ∷ replicate (7 - j) 0)
 
--- the savings of period 8, and the columns' forms
+-- every choice of k places below n
+unfoldable choices : ℕ → ℕ → List (List ℕ)
+choices zero n = [] ∷ []
+choices (suc k) zero = []
+choices (suc k) (suc n) = choices (suc k) n ++ map (λ js. n ∷ js) (choices k n)
+
+-- the savings of period 8, what they must exceed, and the columns' forms
 abbrev savingsAndForms : List (List ℕ) → List ℕ
-savingsAndForms cs = savings p cs 8 (length cs) ∷ upTo (λ j. formNumber (form p cs j)) (length cs)
+savingsAndForms cs = savings p cs 8 (length cs) ∷ threshold 8 ∷ upTo (λ j. formNumber (form p cs j)) (length cs)
 
--- three unit columns of period 8 stay sparse: they save 51, and 7 · 8 + 2 is 58
+-- any three distinct unit columns of period 8 stay sparse: 51 against 7 · 8 + 2 = 58
 abbrev K-three : Example
-K-three = record { Answer = List ℕ; computed = savingsAndForms (unit 0 ∷ unit 1 ∷ unit 2 ∷ []); stated = 51 ∷ 0 ∷ 0 ∷ 0 ∷ [] }
+K-three = record {
+  Answer = List (List ℕ);
+  computed = map (λ js. savingsAndForms (map unit js)) (choices 3 8);
+  stated = replicate 56 (51 ∷ 58 ∷ 0 ∷ 0 ∷ 0 ∷ []);
+}
 
--- four go to basis
-abbrev K-four : Example
-K-four = record { Answer = List ℕ; computed = savingsAndForms (unit 0 ∷ unit 1 ∷ unit 2 ∷ unit 3 ∷ []); stated = 68 ∷ 2 ∷ 2 ∷ 2 ∷ 2 ∷ [] }
+-- any four go to basis: those without place 7, and those with it
+abbrev K-four-below : Example
+K-four-below = record {
+  Answer = List (List ℕ);
+  computed = map (λ js. savingsAndForms (map unit js)) (choices 4 7);
+  stated = replicate 35 (68 ∷ 58 ∷ 2 ∷ 2 ∷ 2 ∷ 2 ∷ []);
+}
 
--- four copies of one stay sparse
+abbrev K-four-with : Example
+K-four-with = record {
+  Answer = List (List ℕ);
+  computed = map (λ js. savingsAndForms (map unit (7 ∷ js))) (choices 3 7);
+  stated = replicate 35 (68 ∷ 58 ∷ 2 ∷ 2 ∷ 2 ∷ 2 ∷ []);
+}
+
+-- four copies of any one stay sparse
 abbrev K-copies : Example
-K-copies = record { Answer = List ℕ; computed = savingsAndForms (unit 5 ∷ unit 5 ∷ unit 5 ∷ unit 5 ∷ []); stated = 17 ∷ 0 ∷ 0 ∷ 0 ∷ 0 ∷ [] }
+K-copies = record {
+  Answer = List (List ℕ);
+  computed = map (λ js. savingsAndForms (map unit (js ++ js ++ js ++ js))) (choices 1 8);
+  stated = replicate 8 (17 ∷ 58 ∷ 0 ∷ 0 ∷ 0 ∷ 0 ∷ []);
+}
 
--- without columns the shared period 3 isn't read: all tests pass, and the list is copied
-abbrev L-accepted : Example
-L-accepted = record { Answer = Checked; computed = lowerCheck (0 ∷ 0 ∷ 0 ∷ []) 1 [] [] 3 12288 0; stated = Good }
+-- without columns the shared period 3 isn't read: Lower accepts, and copies the list
+abbrev L : Example
+L = record {
+  Answer = LowerAnswer;
+  computed = lowerAnswer (0 ∷ 0 ∷ 0 ∷ []) 1 [] [] 3 (7 ∷ 7 ∷ 7 ∷ 7 ∷ []) (replicate 12288 7) [];
+  stated = Done 1;
+}
 
 abbrev L-copied : Example
-L-copied = record { Answer = List NodeKind; computed = lowered (0 ∷ 0 ∷ 0 ∷ []) 1 [] [] 3 .list; stated = Input 0 ∷ [] }
+L-copied = record {
+  Answer = List ℕ;
+  computed = lowerResult (0 ∷ 0 ∷ 0 ∷ []) 1 [] [] 3 (7 ∷ 7 ∷ 7 ∷ 7 ∷ []) (replicate 12288 7) [];
+  stated = 0 ∷ 0 ∷ 0 ∷ blank ∷ [];
+}
+
+three-sparse : K-three .computed ≡ K-three .stated
+unfolding unit choices logWithin logLength occurrences isSparse standalone placesFrom withNew valuesFrom values weight heaviest dominant isScaled scalings combinationCost offset equalEntries gain sameEntries isAmong saving savings goesOver form upTo
+three-sparse = refl
+
+four-below : K-four-below .computed ≡ K-four-below .stated
+unfolding unit choices logWithin logLength occurrences isSparse standalone placesFrom withNew valuesFrom values weight heaviest dominant isScaled scalings combinationCost offset equalEntries gain sameEntries isAmong saving savings goesOver form upTo
+four-below = refl
+
+four-with : K-four-with .computed ≡ K-four-with .stated
+unfolding unit choices logWithin logLength occurrences isSparse standalone placesFrom withNew valuesFrom values weight heaviest dominant isScaled scalings combinationCost offset equalEntries gain sameEntries isAmong saving savings goesOver form upTo
+four-with = refl
+
+copies-sparse : K-copies .computed ≡ K-copies .stated
+unfolding unit choices logWithin logLength occurrences isSparse standalone placesFrom withNew valuesFrom values weight heaviest dominant isScaled scalings combinationCost offset equalEntries gain sameEntries isAmong saving savings goesOver form upTo
+copies-sparse = refl
 
 pub examples : List Example
-examples = A ∷ B ∷ C-normalized ∷ C-compacted ∷ D ∷ E ∷ F ∷ G ∷ H ∷ I ∷ J ∷ K-three ∷ K-four ∷ K-copies ∷ L-accepted ∷ L-copied ∷ []
+examples = A ∷ A-refused ∷ B ∷ C-normalized ∷ C-compacted ∷ D ∷ E ∷ F ∷ G ∷ H ∷ I ∷ J ∷ K-three ∷ K-four-below ∷ K-four-with ∷ K-copies ∷ L ∷ L-copied ∷ []
 
 pub all-examples : All examples
-unfolding examples felt quad same at sameNode operands rename lookup isConstant isAdd isSub isMul isNeg element isThe lowFirst addRule subRule mulOutcome negOutcome follow addWithin subWithin addOutcome subOutcome outcome interned intern enter step placeOf recorded marked sweep marks rank kept compact count mentions fanout sharedFactor commonFactor orElse ontoBefore existingRotation eitherRotation planOf planned round fired rounded isKept roundsFrom normalize unit logWithin logLength occurrences isSparse standalone placesFrom withNew valuesFrom values weight heaviest dominant isScaled scalings combinationCost offset equalEntries gain sameEntries isAmong saving savings goesOver form upTo lowerCheck rootlessCheck recordsCheck checkAt recordCheck formed earlier isKey prepareCheck firstOf total columns periodGood lowered buildPeriodicNodes turns done recordAt nodes decode
-all-examples = (refl, (refl, (refl, (refl, (refl, (refl, (refl, (refl, (refl, (refl, (refl, (refl, (refl, (refl, (refl, (refl, tt))))))))))))))))
+unfolding examples felt quad same at sameNode operands rename lookup isConstant isAdd isSub isMul isNeg element isThe lowFirst addRule subRule mulOutcome negOutcome follow addWithin subWithin addOutcome subOutcome outcome interned intern enter step placeOf recorded marked sweep marks rank kept compact count mentions fanout sharedFactor commonFactor orElse ontoBefore existingRotation eitherRotation planOf planned round fired rounded isKept roundsFrom normalize unit logWithin logLength occurrences isSparse standalone placesFrom withNew valuesFrom values weight heaviest dominant isScaled scalings combinationCost offset equalEntries gain sameEntries isAmong saving savings goesOver form upTo lowerCheck rootlessCheck recordsCheck checkAt recordCheck formed earlier isKey prepareCheck firstOf total columns periodGood lowered buildPeriodicNodes turns done recordAt nodes decode words wordsOf filled choices listCheck roomCheck wholeCheck lowerAnswer lowerResult normalized ascii digits decimal ended line number wordsAt wordsOfFirst fileWords isCount formCheck heldCheck fileCheck kind firstLine recordLine recordLines listed refusedLine listing
+all-examples = (refl, (refl, (refl, (refl, (refl, (refl, (refl, (refl, (refl, (refl, (refl, (refl, (three-sparse, (four-below, (four-with, (copies-sparse, (refl, (refl, tt))))))))))))))))))

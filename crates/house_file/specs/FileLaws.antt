@@ -29,17 +29,12 @@ use Rattle.dag.specs.declared.Checked.the-variants.{Good, Refused}
 use Rattle.house_file.specs.declared.Words.{Words}
 use Rattle.house_file.specs.declared.FileAnswer.{FileAnswer}
 use Rattle.house_file.specs.declared.FileAnswer.the-variants as FileAnswer'
+use Rattle.house_file.specs.Contracts.{Formed, Passed, Ready, Put, Done}
 use Rattle.house_file.specs.File.{number, fileCount, fileRoot, mostFiled, recordPlace, wordsAt, wordsOfFirst, fileWords, isCount, formCheck, heldCheck, fileCheck, readCheck, readAnswer, readList}
 
 pub count-range : (n : ℕ) → isCount n ≡ true → (1 ≤ n) × (n ≤ mostFiled)
 unfolding isCount
 count-range n e = let both = and-true (leb 1 n) (leb n mostFiled) e in (leb-true 1 n (both .0), leb-true n mostFiled (both .1))
-
--- a file of good form
-pub record Formed (file : List ℕ) : Type 0 where
-  pub some : 1 ≤ fileCount file
-  pub most : fileCount file ≤ mostFiled
-  pub whole : length file ≡ recordPlace (fileCount file)
 
 pub formed : (file : List ℕ) → formCheck file ≡ Good → Formed file
 unfolding formCheck
@@ -135,13 +130,6 @@ module _ (file : List ℕ) (f : Formed file) (n : ℕ) (e : n ≡ fileCount file
     pub held-outside : n ≤ root → Refused RootOutside ≡ heldCheck file
     held-outside h = rw (le-ltb root n h) at rest
 
--- what a file that has passed its tests is known to be
-pub record Passed (file : List ℕ) (room : ℕ) : Type 0 where
-  pub form : Formed file
-  pub sound : Sound p (wordsOfFirst file (fileCount file)) (fileCount file)
-  pub fits : 3 * fileCount file ≤ room
-  pub held-is : heldCheck file ≡ Good
-
 pub passed : (file : List ℕ) (room : ℕ) → readCheck file room ≡ Good → Passed file room
 unfolding readCheck heldCheck fileWords
 passed file room e =
@@ -185,19 +173,8 @@ read-done file room count root = go (readCheck file room) refl
     go Good g e = record { good = g; count-is = cc; root-is = cc }
     go (Refused q) g e = let z : _≡_ {A = ℕ} 0 1 = cc in absurd (omega arith)
 
--- what writing n records asks
-pub record Ready (file : List ℕ) (n : ℕ) (list : List ℕ) : Type 0 where
-  pub whole : recordPlace n ≤ length file
-  pub sound : Sound p (wordsOfFirst file n) n
-  pub fits : 3 * n ≤ length list
-
 pub ready : (file list : List ℕ) (n : ℕ) → Passed file (length list) → n ≡ fileCount file → Ready file n list
 ready file list n h e = let w = h .form .whole in let f = h .fits in record { whole = omega arith; sound = rw e (h .sound); fits = omega arith }
-
--- the first i of n records written
-pub record Put (file : List ℕ) (n i : ℕ) (list : List ℕ) : Type 0 where
-  pub sound : Sound p list i
-  pub nodes-are : nodes list i ≡ nodes (wordsOfFirst file n) i
 
 pub put-none : (file : List ℕ) (n : ℕ) (list : List ℕ) → Put file n 0 list
 unfolding recordsCheck nodes
@@ -215,11 +192,6 @@ put-more file n i list w x after sound h k fits e d f =
       sound = sound-put list i x (omega arith) p (h .sound) fine;
       nodes-are = nodes-put list i x (omega arith) ∙ ap₂ (λ l y. l ++ (y ∷ [])) (h .nodes-are) same;
     })
-
--- a file read
-pub record Done (file list : List ℕ) (a : FileAnswer) (after : List ℕ) : Type 0 where
-  pub answer : a ≡ FileAnswer'.Read (fileCount file) (fileRoot file)
-  pub list-is : after ≡ filled (length list) (fileWords file)
 
 pub done : (file list mid after : List ℕ) (n root : ℕ) → Passed file (length list) → Put file n n mid → length mid ≡ length list
     → after ≡ take (3 * n) mid ++ replicate (length mid - 3 * n) blank → n ≡ fileCount file → root ≡ fileRoot file → Done file list (FileAnswer'.Read n root) after

@@ -7,7 +7,7 @@ ghost use lib.ListN.{length};
 ghost use Rattle.field.specs.Field.{p};
 ghost use Rattle.dag.specs.Check as Check;
 ghost use Rattle.house_file.specs.File as File;
-ghost use Rattle.house_file.specs.FileLaws as FileLaws;
+ghost use Rattle.house_file.specs.Contracts as Contracts;
 
 // The most records that a file has.
 pub const MOST_FILED: u64 = 1024;
@@ -124,7 +124,7 @@ fn records_check(file: &[u8], n: usize) -> Checked
 
 // The tests of the list that a file of good form holds.
 fn held_check(file: &[u8]) -> Checked
-    requires { ⌜ FileLaws.Formed (now file) ⌝ }
+    requires { ⌜ Contracts.Formed (now file) ⌝ }
     ensures { λ r. ⌜ r ≡ File.heldCheck (now (file .entry)) ⌝ }
 {
     let n = file_count(file);
@@ -154,8 +154,8 @@ fn read_check(file: &[u8], room: usize) -> Checked
 
 // Writes the records of a file at the start of a store.
 fn put_records(file: &[u8], n: usize, list: &mut [u64])
-    requires { ⌜ FileLaws.Ready (now file) n (now list) ⌝ }
-    ensures { λ _. ⌜ FileLaws.Put (now (file .entry)) n n (now (list .exit)) ⌝ }
+    requires { ⌜ Contracts.Ready (now file) n (now list) ⌝ }
+    ensures { λ _. ⌜ Contracts.Put (now (file .entry)) n n (now (list .exit)) ⌝ }
 {
     let mut i = 0;
     while i < n {
@@ -167,8 +167,8 @@ fn put_records(file: &[u8], n: usize, list: &mut [u64])
 
 // Reads a file that has passed its tests.
 fn read_good(file: &[u8], list: &mut [u64]) -> FileAnswer
-    requires { ⌜ FileLaws.Passed (now file) (length (now list)) ⌝ }
-    ensures { λ r. ⌜ FileLaws.Done (now (file .entry)) (now (list .entry)) r (now (list .exit)) ⌝ }
+    requires { ⌜ Contracts.Passed (now file) (length (now list)) ⌝ }
+    ensures { λ r. ⌜ Contracts.Done (now (file .entry)) (now (list .entry)) r (now (list .exit)) ⌝ }
 {
     let n = file_count(file);
     put_records(file, n, list);

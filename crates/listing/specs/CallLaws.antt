@@ -22,13 +22,13 @@ use Rattle.normalize.specs.CallLaws.{passed}
 use Rattle.normalize.specs.Contracts.{Passed}
 use Rattle.normalize.specs.declared.NormalizeAnswer.{NormalizeAnswer}
 use Rattle.normalize.specs.declared.NormalizeAnswer.the-variants as NormalizeAnswer'
-use Rattle.text.specs.Writing.{Laid}
+use Rattle.text.specs.Contracts.{Laid}
 use Rattle.house_file.specs.File.{fileCount, fileWords, heldCheck, fileCheck, readAnswer, readList}
 use Rattle.house_file.specs.declared.FileAnswer.the-variants as FileAnswer'
-use Rattle.house_file.specs.FileLaws as FileLaws
-use Rattle.house_file.specs.FileLaws.{length-words, room-enough, read-refused, Read, read-done}
+use Rattle.house_file.specs.Contracts as FileContracts
+use Rattle.house_file.specs.FileLaws.{passed as file-passed, length-words, room-enough, read-refused, Read, read-done}
 use Rattle.listing.specs.Listing.{listed, refusedLine, wordsListing, listing, longest}
-use Rattle.listing.specs.LineLaws.{answerText}
+use Rattle.listing.specs.Contracts.{answerText}
 
 pub laid-as : {s a b u : List ℕ} {r : ℕ} → a ≡ b → Laid s a u r → Laid s b u r
 laid-as e w = rw (← e) w
@@ -98,21 +98,14 @@ module _ (s : List ℕ) (n root : ℕ) (result : List ℕ) (workWords : ℕ) whe
         let list-is : nodes after count ≡ l = ap₂ nodes held (accepted .count-is) ∙ nodes-words (replicate (length result - length (wordsOf l)) blank) l in
         ap listed (λ i. record { list = list-is i; roots = roots-are i; rounds = accepted .rounds-are i }) ∙ rw (accepted .good)
 
--- the stores that a file's listing takes
-pub record Lent (list result work out : List ℕ) : Type 0 where
-  pub list-room : 3072 ≤ length list
-  pub result-room : 3072 ≤ length result
-  pub work-room : 6144 ≤ length work
-  pub out-room : longest 1024 ≤ length out
-
 module _ (file : List ℕ) (room : ℕ) (h : 3072 ≤ room) where
   pub file-refused : (r : Refusal) → readAnswer file room ≡ FileAnswer'.Refused r → refusedLine r ≡ listing file
   unfolding listing
   file-refused r e = rw (← room-enough file room h, read-refused file room r e)
 
   module _ (count root : ℕ) (e : readAnswer file room ≡ FileAnswer'.Read count root) where
-    ready : FileLaws.Passed file room
-    ready = FileLaws.passed file room (read-done file room count root e .good)
+    ready : FileContracts.Passed file room
+    ready = file-passed file room (read-done file room count root e .good)
 
     pub few : count ≤ 1024
     few = let c = read-done file room count root e .count-is in let m = ready .form .most in omega arith

@@ -13,9 +13,11 @@ use Rattle.dag.specs.Refusals.{need, _then_, unlessRefused}
 use Rattle.dag.specs.declared.Refusal.the-variants.{FileVersion, FileCount, FileLength}
 use Rattle.dag.specs.declared.Checked.{Checked}
 use Rattle.dag.specs.declared.Checked.the-variants.{Refused}
+use Rattle.text.specs.Text.{laid}
 use Rattle.house_file.specs.File.{number, fileCount, recordPlace, isCount, formCheck, fileCheck, heldCheck}
 use Rattle.house_file.specs.FileLaws.{count-range}
-use Rattle.listing.specs.Listing.{refusedLine, listing, enough, Read}
+use Rattle.listing.specs.Listing.{refusedLine, listing, enough}
+use Rattle.listing.specs.Contracts.{Read, Lists}
 
 -- the tests of a file too long for every count: 22, 23, else 24
 longCheck : ℕ → ℕ → Checked
@@ -62,6 +64,9 @@ cut k h file = go (decLe (length file) k)
         rw (long-form (take k file) (omega arith), long-form file (omega arith), getD-take k file 0 0 (omega arith), number-take k file 1 4 (omega arith))
         (long-refused (getD file 0 0) (fileCount file) (heldCheck (take k file)) (heldCheck file) _ _)
 
--- the listing of what was read is the input's
-pub read-listing : (input buffer : List ℕ) (n : ℕ) → enough ≤ length buffer → Read input buffer n → listing (take n buffer) ≡ listing input
-read-listing input buffer n h e = ap listing (sym e) ∙ cut (length buffer) h input
+-- what is written of the bytes that were read is the input's listing
+pub lists : (buffer : List ℕ) (n : ℕ) (before after : List ℕ) (r : ℕ) → enough ≤ length buffer
+    → r ≡ length (listing (take n buffer)) → after ≡ laid (length before) (listing (take n buffer)) → r ≤ length before → Lists buffer n before after r
+lists buffer n before after r h e f fits input read =
+    let same : listing (take n buffer) ≡ listing input = ap listing (sym read) ∙ cut (length buffer) h input in
+    rw (← same) (record { store-is = f; length-is = e; fits = omega arith })

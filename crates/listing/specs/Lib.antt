@@ -1,5 +1,5 @@
 pub mod Listing
+pub mod Contracts
 pub mod LineLaws
 pub mod CallLaws
 pub mod CutLaws
-pub mod Example

@@ -15,12 +15,10 @@ use Rattle.dag.specs.declared.NodeKind.the-variants.{Input, Constant, Add, Sub,
 use Rattle.dag.specs.declared.Refusal.{Refusal}
 use Rattle.text.specs.Text.{ascii, decimal, ended, line, space, newline}
 use Rattle.text.specs.DecimalLaws.{decimal-short}
-use Rattle.text.specs.Writing.{Wrote, and-then, wrote-as, length-ended}
+use Rattle.text.specs.WritingLaws.{and-then, wrote-as, length-ended}
+use Rattle.text.specs.Contracts.{Wrote}
+use Rattle.listing.specs.Contracts.{named, answerText}
 use Rattle.listing.specs.Listing.{kind, firstLine, recordLine, recordLines, listed, refusedLine}
-
--- a word, a space, a number and the byte that ends it
-unfoldable pub named : List ℕ → ℕ → ℕ → List ℕ
-named word n end = ended word space ++ ended (decimal n) end
 
 pub length-named : (word : List ℕ) (n end : ℕ) → length (named word n end) ≡ length (ended word space) + length (ended (decimal n) end)
 unfolding named
@@ -71,10 +69,6 @@ pub lines-more : (list : List ℕ) (n i : ℕ) {s u v : List ℕ} {at q r : ℕ}
     → Wrote s at (recordLines (nodes list n) (i + 1)) v r
 unfolding recordLines
 lines-more list n i before h e w = rw (add-one i) (and-then before (wrote-as (ap (recordLine i) (e ∙ sym (at-nodes list n i h))) w))
-
--- the listing of the list that a store holds, with one root
-unfoldable pub answerText : List ℕ → ℕ → ℕ → ℕ → List ℕ
-answerText s count root rounds = listed (record { list = nodes s count; roots = root ∷ []; rounds = rounds })
 
 pub answer-is : (s : List ℕ) (count root rounds : ℕ) → firstLine count (root ∷ []) rounds ++ recordLines (nodes s count) count ≡ answerText s count root rounds
 unfolding answerText listed

@@ -1,8 +1,7 @@
 -- The installers' listing (document 01) as a list of bytes: of an answer, of a refusal, and of a whole house file.
 use Prim.Native.Nat.{ℕ, zero, suc, _+_, _*_}
 use mathlib.Core.List.{List, [], _∷_, _++_, map}
-use mathlib.Core.Path.{_≡_}
-use lib.ListN.{length, take}
+use lib.ListN.{length}
 use Rattle.dag.specs.Nodes.{at, first, second}
 use Rattle.dag.specs.Refusals.{number, place, unlessRefused}
 use Rattle.dag.specs.declared.NodeKind.{NodeKind}
@@ -60,7 +59,3 @@ longest n = 81 + 53 * n
 -- so many bytes of an input decide its listing: one more than the longest file of good form has
 abbrev pub enough : ℕ
 enough = recordPlace mostFiled + 1
-
--- the first n bytes of a buffer are an input's: all of them, or as many as the buffer holds
-abbrev pub Read : List ℕ → List ℕ → ℕ → Type 0
-Read input buffer n = take (length buffer) input ≡ take n buffer

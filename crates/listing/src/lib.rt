@@ -5,15 +5,14 @@ use house_file::FileAnswer;
 use normalize::NormalizeAnswer;
 use text::End;
 ghost use mathlib.Core.Path.{_≡_};
-ghost use mathlib.Core.List.{List, [], _∷_};
-ghost use Prim.Native.Nat.{ℕ, _+_, _*_, _<_, _≤_};
+ghost use mathlib.Core.List.{[], _∷_};
+ghost use Prim.Native.Nat.{_+_, _*_, _<_, _≤_};
 ghost use lib.ListN.{length};
 ghost use Rattle.dag.specs.Nodes as Nodes;
 ghost use Rattle.text.specs.Text.{ended, endByte, decimal, space, laid};
-ghost use Rattle.text.specs.Writing.{Wrote, Laid};
+ghost use Rattle.text.specs.Contracts.{Wrote, Laid};
 ghost use Rattle.listing.specs.Listing as Listing;
-ghost use Rattle.listing.specs.LineLaws as LineLaws;
-ghost use Rattle.listing.specs.CallLaws as CallLaws;
+ghost use Rattle.listing.specs.Contracts as Contracts;
 
 // The longest listing of a house file, in bytes.
 pub const LONGEST: usize = 54353;
@@ -63,8 +62,8 @@ fn put_records(out: &mut [u8], at: usize, list: &[u64], n: usize) -> usize
 
 // Writes a word, a space, a number and the byte that ends it.
 fn put_named(out: &mut [u8], at: usize, name: &[u8], n: u64, end: End) -> usize
-    requires { ⌜ at + length (LineLaws.named (now name) n (endByte end)) ≤ length (now out) ⌝ }
-    ensures { λ r. ⌜ Wrote (now (out .entry)) at (LineLaws.named (now (name .entry)) n (endByte end)) (now (out .exit)) r ⌝ }
+    requires { ⌜ at + length (Contracts.named (now name) n (endByte end)) ≤ length (now out) ⌝ }
+    ensures { λ r. ⌜ Wrote (now (out .entry)) at (Contracts.named (now (name .entry)) n (endByte end)) (now (out .exit)) r ⌝ }
 {
     let number = text::put_word(out, at, name, End::Space);
     text::put_number(out, number, n, end)
@@ -89,7 +88,7 @@ pub fn write_listing(
     out: &mut [u8],
 ) -> usize
     requires { ⌜ (3 * count ≤ length (now list)) × (count ≤ 4096) × (Listing.longest count ≤ length (now out)) ⌝ }
-    ensures { λ r. ⌜ Laid (now (out .entry)) (LineLaws.answerText (now (list .entry)) count root rounds) (now (out .exit)) r ⌝ }
+    ensures { λ r. ⌜ Laid (now (out .entry)) (Contracts.answerText (now (list .entry)) count root rounds) (now (out .exit)) r ⌝ }
 {
     let lines = put_first(out, count, root, rounds);
     let end = put_records(out, lines, list, count);
@@ -139,7 +138,7 @@ fn list_in(
     work: &mut [u64],
     out: &mut [u8],
 ) -> usize
-    requires { ⌜ CallLaws.Lent (now list) (now result) (now work) (now out) ⌝ }
+    requires { ⌜ Contracts.Lent (now list) (now result) (now work) (now out) ⌝ }
     ensures { λ r. ⌜ Laid (now (out .entry)) (Listing.listing (now (file .entry))) (now (out .exit)) r ⌝ }
 {
     let answer = house_file::read_file(file, list);
@@ -168,7 +167,7 @@ pub fn list_file(file: &[u8], out: &mut [u8]) -> usize
 // Writes the listing of an input of which the first n bytes of a buffer are read. Answers its length.
 pub fn list_input(buffer: &[u8], n: usize, out: &mut [u8]) -> usize
     requires { ⌜ (Listing.enough ≤ length (now buffer)) × (n ≤ length (now buffer)) × (Listing.longest 1024 ≤ length (now out)) ⌝ }
-    ensures listed { λ r. ⌜ (input : List ℕ) → Listing.Read input (now (buffer .entry)) n → Laid (now (out .entry)) (Listing.listing input) (now (out .exit)) r ⌝ }
+    ensures listed { λ r. ⌜ Contracts.Lists (now (buffer .entry)) n (now (out .entry)) (now (out .exit)) r ⌝ }
     ensures fits { λ r. ⌜ r ≤ length (now (out .exit)) ⌝ }
 {
     list_file(&buffer[..n], out)

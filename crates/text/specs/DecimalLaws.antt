@@ -8,7 +8,7 @@ use native.Mathlib.Omega.{arith}
 use borrow.Author.Tests.{lt-ltb, le-ltb}
 use lib.ListN.{length, length-append}
 use Rattle.text.specs.Text.{digits, decimal, ended}
-use Rattle.text.specs.Writing.{length-ended}
+use Rattle.text.specs.WritingLaws.{length-ended}
 
 -- one digit, or those of a tenth and one more
 module _ (k n : ℕ) where

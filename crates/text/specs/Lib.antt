@@ -1,3 +1,4 @@
 pub mod Text
 pub mod DecimalLaws
-pub mod Writing
+pub mod Contracts
+pub mod WritingLaws

@@ -4,7 +4,7 @@ ghost use mathlib.Core.List.{[], _∷_, _++_};
 ghost use Prim.Native.Nat.{_+_, _-_, _<_, _≤_};
 ghost use lib.ListN.{length, take, replicate};
 ghost use Rattle.text.specs.Text.{decimal, endByte, ended};
-ghost use Rattle.text.specs.Writing.{Wrote};
+ghost use Rattle.text.specs.Contracts.{Wrote};
 
 // What ends a word: a space before the next one, or the line's newline.
 pub enum End {

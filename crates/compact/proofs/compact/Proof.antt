@@ -21,7 +21,7 @@ mul-blank-from : tie.Need-mul-blank-from
 mul-blank-from c = omega (arith, may-blank (c .before .before .before .before .before .before .before .before .before .before .before .args .list .now) (c .before .before .before .before .before .before .before .before .before .before .before .args .n) (c .before .before .before .before .before .before .before .before .before .before .before .args .root) (c .before .before .before .before .before .before .before .before .before .before .before .args .result .now) (told (c .before .before .before .before .before .before .before .before .compact-check .ensures) (c .before .before .before .before .before .before .enum-told .given .1)) _ (c .before .before .before .before .compact-sized .ensures .0) _ (c .before .before .before .before .compact-sized .ensures .1), (c .before .before .before .before .compact-sized .kept .1 .1 .1 .0), (c .before .before .before .before .before .before .before .before .before .before .before .good .1 .1 .1 .0 .1))
 
 blank-from-requires : tie.Need-blank-from-requires
-blank-from-requires c κs = may-blank (c .before .before .before .before .before .before .before .before .before .before .before .args .list .now) (c .before .before .before .before .before .before .before .before .before .before .before .args .n) (c .before .before .before .before .before .before .before .before .before .before .before .args .root) (c .before .before .before .before .before .before .before .before .before .before .before .args .result .now) (told (c .before .before .before .before .before .before .before .before .compact-check .ensures) (c .before .before .before .before .before .before .enum-told .given .1)) _ (c .before .before .before .before .compact-sized .ensures .0) _ (c .before .before .before .before .compact-sized .ensures .1)
+blank-from-requires c κs = omega (arith, may-blank (c .before .before .before .before .before .before .before .before .before .before .before .args .list .now) (c .before .before .before .before .before .before .before .before .before .before .before .args .n) (c .before .before .before .before .before .before .before .before .before .before .before .args .root) (c .before .before .before .before .before .before .before .before .before .before .before .args .result .now) (told (c .before .before .before .before .before .before .before .before .compact-check .ensures) (c .before .before .before .before .before .before .enum-told .given .1)) _ (c .before .before .before .before .compact-sized .ensures .0) _ (c .before .before .before .before .compact-sized .ensures .1))
 
 returns : tie.Need-returns
 returns c = (answer-refused (c .before .before .before .before .before .before .args .list .now) (c .before .before .before .before .before .before .args .n) (c .before .before .before .before .before .before .args .root) (c .before .before .before .before .before .before .args .result .now) _ (told (c .before .before .before .compact-check .ensures) (c .before .checked .given .1)), result-refused (c .before .before .before .before .before .before .args .list .now) (c .before .before .before .before .before .before .args .n) (c .before .before .before .before .before .before .args .root) (c .before .before .before .before .before .before .args .result .now) _ (told (c .before .before .before .compact-check .ensures) (c .before .checked .given .1)))

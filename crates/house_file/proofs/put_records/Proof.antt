@@ -4,7 +4,8 @@ use native.Mathlib.Nat.{le-antisymm}
 use native.Mathlib.Omega.{arith}
 use lib.ListN.{length}
 use borrow.Author.Needs.{needs}
-use Rattle.house_file.specs.FileLaws.{Put, put-none, put-more}
+use Rattle.house_file.specs.FileLaws.{put-none, put-more}
+use Rattle.house_file.specs.Contracts.{Put}
 use Rattle.house_file.proofs.put_records.Statement.{statement}
 use Rattle.house_file.proofs.put_records.Tie as tie
 

@@ -1,5 +1,5 @@
 use native.Mathlib.Omega.{arith}
-use Rattle.text.specs.Writing.{and-then, wrote-as}
+use Rattle.text.specs.WritingLaws.{and-then, wrote-as}
 use Rattle.text.specs.Text.{ascii}
 use Rattle.listing.specs.LineLaws.{named-short, first-is}
 use borrow.Author.Needs.{needs}

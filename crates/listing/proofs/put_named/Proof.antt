@@ -1,15 +1,20 @@
 use native.Mathlib.Omega.{arith}
-use Rattle.text.specs.Writing.{and-then}
-use Rattle.listing.specs.LineLaws.{named, length-named}
+use Rattle.text.specs.Text.{endByte}
+use Rattle.text.specs.WritingLaws.{and-then}
+use Rattle.listing.specs.LineLaws.{length-named}
+use Rattle.listing.specs.Contracts.{named}
 use borrow.Author.Needs.{needs}
 use Rattle.listing.proofs.put_named.Statement.{statement}
 use Rattle.listing.proofs.put_named.Tie as tie
 
 put-word-requires : tie.Need-put-word-requires
-put-word-requires c κs = omega (arith, c .before .before .before .pre, length-named (c .before .before .before .args .name .now) (c .before .before .before .args .n) (c .before .before .before .args .end))
+put-word-requires c κs = let start = c .before .before .before in omega (arith, start .pre, length-named (start .args .name .now) (start .args .n) (endByte (start .args .end)))
 
 put-number-requires : tie.Need-put-number-requires
-put-number-requires c κs = omega (arith, c .before .before .before .before .before .before .before .pre, length-named (c .before .before .before .before .before .before .before .args .name .now) (c .before .before .before .before .before .before .before .args .n) (c .before .before .before .before .before .before .before .args .end), c .before .before .before .put-word .ensures .end-is, c .before .before .before .put-word .kept .0)
+put-number-requires c κs =
+    let word = c .before .before .before in
+    let start = word .before .before .before .before in
+    omega (arith, start .pre, length-named (start .args .name .now) (start .args .n) (endByte (start .args .end)), word .put-word .ensures .end-is, word .put-word .kept .0)
 
 same-length : tie.Need-same-length
 same-length c = search needs

@@ -1,5 +1,5 @@
 use native.Mathlib.Omega.{arith}
-use Rattle.text.specs.Writing.{and-then, length-ended}
+use Rattle.text.specs.WritingLaws.{and-then, length-ended}
 use Rattle.text.specs.DecimalLaws.{number-short}
 use Rattle.text.specs.Text as Text
 use Rattle.listing.specs.LineLaws.{kind-short, word-digits, word-short, wrote-number}

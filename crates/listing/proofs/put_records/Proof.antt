@@ -1,7 +1,8 @@
 use Prim.Native.Nat.{_≤_, _-_, _+_, _*_}
 use native.Mathlib.Nat.{le-antisymm}
 use native.Mathlib.Omega.{arith}
-use Rattle.text.specs.Writing.{Wrote, wrote-nothing, wrote-length}
+use Rattle.text.specs.WritingLaws.{wrote-nothing, wrote-length}
+use Rattle.text.specs.Contracts.{Wrote}
 use Rattle.dag.specs.Nodes as Nodes
 use Rattle.listing.specs.LineLaws.{lines-more}
 use Rattle.listing.specs.Listing as Listing

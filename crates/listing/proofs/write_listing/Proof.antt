@@ -1,4 +1,4 @@
-use Rattle.text.specs.Writing.{and-then, wrote-as, wrote-laid}
+use Rattle.text.specs.WritingLaws.{and-then, wrote-as, wrote-laid}
 use Rattle.listing.specs.LineLaws.{answer-is}
 use borrow.Author.Needs.{needs}
 use Rattle.listing.proofs.write_listing.Statement.{statement}

@@ -1,5 +1,5 @@
 use native.Mathlib.Omega.{arith}
-use Rattle.text.specs.Writing.{and-then, wrote-as, wrote-laid}
+use Rattle.text.specs.WritingLaws.{and-then, wrote-as, wrote-laid}
 use Rattle.text.specs.Text.{ascii}
 use Rattle.listing.specs.LineLaws.{named-short, word-short, refused-is, wrote-named, wrote-number}
 use borrow.Author.Needs.{needs}

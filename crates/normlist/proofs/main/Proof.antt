@@ -10,23 +10,20 @@ slice-aggregate-read-full c = search needs
 read-full-requires : tie.Need-read-full-requires
 read-full-requires c κs = search needs
 
-array-share-prefix-file : tie.Need-array-share-prefix-file
-array-share-prefix-file c = search needs
+slice-aggregate-list-input : tie.Need-slice-aggregate-list-input
+slice-aggregate-list-input c = search needs
 
-slice-aggregate-list-file : tie.Need-slice-aggregate-list-file
-slice-aggregate-list-file c = search needs
+slice-aggregate-list-input-2 : tie.Need-slice-aggregate-list-input-2
+slice-aggregate-list-input-2 c = search needs
 
-slice-aggregate-list-file-2 : tie.Need-slice-aggregate-list-file-2
-slice-aggregate-list-file-2 c = search needs
-
-list-file-requires : tie.Need-list-file-requires
-list-file-requires c κs = search needs
+list-input-requires : tie.Need-list-input-requires
+list-input-requires c κs = search needs
 
 array-share-prefix-text : tie.Need-array-share-prefix-text
 array-share-prefix-text c = search needs
 
 slice-aggregate-write-all : tie.Need-slice-aggregate-write-all
-slice-aggregate-write-all c = sym (length-take-le _ _ (c .before .before .list-file .ensures .1 .1))
+slice-aggregate-write-all c = sym (length-take-le _ _ (c .before .before .list-input .ensures .1))
 
 write-all-requires : tie.Need-write-all-requires
 write-all-requires c κs = search needs
@@ -40,10 +37,9 @@ main-spec =
     (tie.spec
     slice-aggregate-read-full
     read-full-requires
-    array-share-prefix-file
-    slice-aggregate-list-file
-    slice-aggregate-list-file-2
-    list-file-requires
+    slice-aggregate-list-input
+    slice-aggregate-list-input-2
+    list-input-requires
     array-share-prefix-text
     slice-aggregate-write-all
     write-all-requires

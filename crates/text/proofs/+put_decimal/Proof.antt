@@ -2,7 +2,7 @@ use mathlib.Core.Path.{ap, _∙_}
 use mathlib.Core.List.{[], _∷_}
 use native.Mathlib.Omega.{arith}
 use lib.ListN.{length}
-use Rattle.text.specs.Writing.{wrote-as, and-then}
+use Rattle.text.specs.WritingLaws.{wrote-as, and-then}
 use Rattle.text.specs.DecimalLaws.{decimal-one, decimal-more, decimal-longer}
 use Prim.Native.Nat.{ℕ, _<_}
 use borrow.Fn.Kinds.{In}

@@ -1,4 +1,4 @@
-use Rattle.text.specs.Writing.{wrote-byte}
+use Rattle.text.specs.WritingLaws.{wrote-byte}
 use borrow.Author.Needs.{needs}
 use Rattle.text.proofs.put_byte.Statement.{statement}
 use Rattle.text.proofs.put_byte.Tie as tie

@@ -4,7 +4,7 @@ use native.Mathlib.Omega.{arith}
 use native.Mathlib.Numerals.{add-one}
 use lib.ListN.{length, length-set}
 use lib.Seq.{paste, paste-zero, paste-suc}
-use Rattle.text.specs.Writing.{wrote-bytes}
+use Rattle.text.specs.WritingLaws.{wrote-bytes}
 use Rattle.text.proofs.put_bytes.Statement.{statement}
 use Rattle.text.proofs.put_bytes.Tie as tie
 

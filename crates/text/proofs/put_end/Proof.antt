@@ -1,6 +1,6 @@
 use mathlib.Core.List.{[], _∷_}
 use mathlib.Core.Path.{ap}
-use Rattle.text.specs.Writing.{wrote-as}
+use Rattle.text.specs.WritingLaws.{wrote-as}
 use borrow.Author.Needs.{needs}
 use Rattle.text.proofs.put_end.Statement.{statement}
 use Rattle.text.proofs.put_end.Tie as tie

@@ -1,6 +1,6 @@
 use native.Mathlib.Omega.{arith}
 use Rattle.text.specs.Text.{endByte, ended, decimal}
-use Rattle.text.specs.Writing.{length-ended, and-then}
+use Rattle.text.specs.WritingLaws.{length-ended, and-then}
 use borrow.Author.Needs.{needs}
 use Rattle.text.proofs.put_number.Statement.{statement}
 use Rattle.text.proofs.put_number.Tie as tie

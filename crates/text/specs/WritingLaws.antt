@@ -7,16 +7,7 @@ use native.Mathlib.Omega.{arith}
 use lib.ListN.{length, take, drop, set, replicate, length-append}
 use lib.Seq.{paste, take-length, set-split, length-paste, take-paste, drop-paste, drop-drop, paste-zero, append-snoc}
 use Rattle.text.specs.Text.{ended, laid}
-
--- a store with a text in it from a place on
-unfoldable pub over : List ℕ → ℕ → List ℕ → List ℕ
-over s at text = take at s ++ text ++ drop (at + length text) s
-
--- what writing a text from a place on gives: it fits, the store holds it, and the answer is the place behind it
-pub record Wrote (s : List ℕ) (at : ℕ) (text after : List ℕ) (r : ℕ) : Type 0 where
-  pub room : at + length text ≤ length s
-  pub store-is : after ≡ over s at text
-  pub end-is : r ≡ at + length text
+use Rattle.text.specs.Contracts.{over, Wrote, Laid}
 
 module _ (s : List ℕ) (at : ℕ) (text : List ℕ) where
   pub as-paste : over s at text ≡ paste s at text (length text)
@@ -92,12 +83,6 @@ wrote-length {s} {a} {u} {at} w = ap length (w .store-is) ∙ length-over s at a
 pub length-ended : (word : List ℕ) (end : ℕ) → length (ended word end) ≡ length word + 1
 unfolding ended
 length-ended word end = length-append word (end ∷ [])
-
--- a text written whole: the store holds it, then 0 bytes, and the answer is its length
-pub record Laid (s text after : List ℕ) (r : ℕ) : Type 0 where
-  pub store-is : after ≡ laid (length s) text
-  pub length-is : r ≡ length text
-  pub fits : length text ≤ length s
 
 -- a text from the start of a store, with 0 bytes behind it
 pub wrote-laid : {s text u after : List ℕ} {r : ℕ} → Wrote s 0 text u r → after ≡ take r u ++ replicate (length u - r) 0 → Laid s text after r

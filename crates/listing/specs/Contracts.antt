@@ -1,0 +1,32 @@
+-- What the functions of the listing ask and say.
+use Prim.Native.Nat.{ℕ, _≤_}
+use mathlib.Core.List.{List, [], _∷_, _++_}
+use mathlib.Core.Path.{_≡_}
+use lib.ListN.{length, take}
+use Rattle.dag.specs.Nodes.{nodes}
+use Rattle.text.specs.Text.{decimal, ended, space}
+use Rattle.text.specs.Contracts.{Laid}
+use Rattle.listing.specs.Listing.{listed, listing, longest}
+
+-- a word, a space, a number and the byte that ends it
+unfoldable pub named : List ℕ → ℕ → ℕ → List ℕ
+named word n end = ended word space ++ ended (decimal n) end
+
+-- the listing of the list that a store holds, with one root
+unfoldable pub answerText : List ℕ → ℕ → ℕ → ℕ → List ℕ
+answerText s count root rounds = listed (record { list = nodes s count; roots = root ∷ []; rounds = rounds })
+
+-- the stores that a file's listing takes
+pub record Lent (list result work out : List ℕ) : Type 0 where
+  pub list-room : 3072 ≤ length list
+  pub result-room : 3072 ≤ length result
+  pub work-room : 6144 ≤ length work
+  pub out-room : longest 1024 ≤ length out
+
+-- the first n bytes of a buffer are an input's: all of them, or as many as the buffer holds
+abbrev pub Read : List ℕ → List ℕ → ℕ → Type 0
+Read input buffer n = take (length buffer) input ≡ take n buffer
+
+-- whatever input was read into the buffer, its listing is written whole
+abbrev pub Lists : List ℕ → ℕ → List ℕ → List ℕ → ℕ → Type 0
+Lists buffer n before after r = (input : List ℕ) → Read input buffer n → Laid before (listing input) after r
