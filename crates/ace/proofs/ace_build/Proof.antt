@@ -17,7 +17,9 @@ same-length-2 : tie.Need-same-length-2
 same-length-2 c = search needs
 
 returns : tie.Need-returns
-returns c = (c .before .before .before .before .before .build .ensures .1 .0, (c .before .before .before .before .before .build .ensures .1 .1, c .build-words .ensures ∙ ap buildWords (c .before .before .before .before .before .build .ensures .0)))
+returns c =
+    let at-build = c .before .before .before .before .before in
+    (at-build .build .ensures .1 .0, (at-build .build .ensures .1 .1, c .build-words .ensures ∙ ap buildWords (at-build .build .ensures .0)))
 
 pub ace-build-spec : {M : Type 1} → statement M
 ace-build-spec =

@@ -20,7 +20,14 @@ same-length-3 : tie.Need-same-length-3
 same-length-3 c = search needs
 
 returns : tie.Need-returns
-returns c = (c .before .before .before .before .before .before .before .lower .ensures .1 .0, (c .before .before .before .before .before .before .before .lower .ensures .1 .1 .0, (c .before .before .before .before .before .before .before .lower .ensures .1 .1 .1, c .lower-words .ensures ∙ ap lowerWords (c .before .before .before .before .before .before .before .lower .ensures .0))))
+returns c =
+    let at-lower = c .before .before .before .before .before .before .before in (
+      at-lower .lower .ensures .1 .0,
+      (
+        at-lower .lower .ensures .1 .1 .0,
+        (at-lower .lower .ensures .1 .1 .1, c .lower-words .ensures ∙ ap lowerWords (at-lower .lower .ensures .0)),
+      ),
+    )
 
 pub ace-lower-spec : {M : Type 1} → statement M
 ace-lower-spec =

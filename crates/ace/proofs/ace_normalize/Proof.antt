@@ -17,7 +17,15 @@ same-length-2 : tie.Need-same-length-2
 same-length-2 c = search needs
 
 returns : tie.Need-returns
-returns c = (c .before .before .before .before .before .normalize .ensures .1 .0, (c .before .before .before .before .before .normalize .ensures .1 .1, c .normalize-words .ensures ∙ ap normalizeWords (c .before .before .before .before .before .normalize .ensures .0)))
+returns c =
+    let at-normalize = c .before .before .before .before .before in (
+      at-normalize .normalize .ensures .1 .0,
+      (
+        at-normalize .normalize .ensures .1 .1,
+        c .normalize-words .ensures ∙ ap normalizeWords
+            (at-normalize .normalize .ensures .0),
+      ),
+    )
 
 pub ace-normalize-spec : {M : Type 1} → statement M
 ace-normalize-spec =

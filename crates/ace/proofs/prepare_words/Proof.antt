@@ -70,10 +70,19 @@ place-of-requires c κs = search needs
 
 returns : tie.Need-returns
 unfolding gets
-returns c = ap (λ fs. 0 ∷ c .before .before .before .args .a .count ∷ fs) (gets-all 16 (c .before .before .before .args .a .forms) (search needs)) ∙ sym (ap (λ k. checkedWords k (c .before .before .before .args .a .count) (c .before .before .before .args .a .forms)) (c .enum-told .given .1))
+returns c =
+    let start = c .before .before .before in
+    ap (λ fs. 0 ∷ start .args .a .count ∷ fs) (gets-all 16 (start .args .a .forms) (search needs)) ∙ sym
+    (ap (λ k. checkedWords k (start .args .a .count) (start .args .a .forms)) (c .enum-told .given .1))
 
 returns-2 : tie.Need-returns-2
-returns-2 c = ap (λ n. c .before .number-of .result ∷ n ∷ replicate 16 0) (c .place-of .ensures) ∙ ap (λ n. n ∷ place (c .before .before .before .checked .given .0 .0) ∷ replicate 16 0) (c .before .number-of .ensures) ∙ sym (ap (λ k. checkedWords k (c .before .before .before .before .before .before .args .a .count) (c .before .before .before .before .before .before .args .a .forms)) (c .before .before .before .checked .given .1))
+returns-2 c =
+    let at-number-of = c .before in
+    let at-checked = at-number-of .before .before in
+    let start = at-checked .before .before .before in
+    ap (λ n. at-number-of .number-of .result ∷ n ∷ replicate 16 0) (c .place-of .ensures) ∙ ap
+    (λ n. n ∷ place (at-checked .checked .given .0 .0) ∷ replicate 16 0) (at-number-of .number-of .ensures) ∙ sym
+    (ap (λ k. checkedWords k (start .args .a .count) (start .args .a .forms)) (at-checked .checked .given .1))
 
 pub prepare-words-spec : {M : Type 1} → statement M
 prepare-words-spec =

@@ -11,7 +11,9 @@ use Rattle.basis.proofs.add_turn.Statement.{statement}
 use Rattle.basis.proofs.add_turn.Tie as tie
 
 returns : tie.Need-returns
-returns c = entering-same _ _ _ _ _ _ (add-offset _ _ _ _ _ 0 _ (c .before .before .before .before .before .pre .3 .offset-is) (c .if1 .taken)) (entered-done _ _ _ (c .before .before .before .before .before .pre .2))
+returns c =
+    let start = c .before .before .before .before .before in
+    entering-same _ _ _ _ _ _ (add-offset _ _ _ _ _ 0 _ (start .pre .3 .offset-is) (c .if1 .taken)) (entered-done _ _ _ (start .pre .2))
 
 sub-requires : tie.Need-sub-requires
 sub-requires c κs = (c .before .before .before .before .before .pre .3 .value-low, c .before .before .before .before .before .pre .3 .offset-low)
@@ -20,29 +22,74 @@ sub-if2 : tie.Need-sub-if2
 sub-if2 c = search needs
 
 returns-2 : tie.Need-returns-2
-returns-2 c = entering-same _ _ _ _ _ _ (add-minus _ _ _ _ _ _ _ (c .before .before .before .before .before .before .before .pre .3 .offset-is) (c .before .before .if1 .left) (c .before .sub .ensures .0) (c .if2 .taken)) (entered-done _ _ _ (c .before .before .before .before .before .before .before .pre .2))
+returns-2 c =
+    let at-sub = c .before in
+    let at-if1 = at-sub .before in
+    let start = at-if1 .before .before .before .before .before in
+    entering-same _ _ _ _ _ _ (add-minus _ _ _ _ _ _ _ (start .pre .3 .offset-is) (at-if1 .if1 .left) (at-sub .sub .ensures .0) (c .if2 .taken))
+    (entered-done _ _ _ (start .pre .2))
 
 class-sum-requires : tie.Need-class-sum-requires
-class-sum-requires c κs = (c .before .before .before .before .before .before .before .before .pre .0, c .before .before .before .before .before .before .before .before .pre .1)
+class-sum-requires c κs =
+    let start = c .before .before .before .before .before .before .before .before in
+    (start .pre .0, start .pre .1)
 
 constant-requires : tie.Need-constant-requires
-constant-requires c κs = (entered-ready _ _ _ _ _ (c .before .before .before .before .before .before .before .before .before .before .before .before .pre .0) (c .before .before .before .class-sum .ensures), c .before .before .before .before .before .before .sub .ensures .1)
+constant-requires c κs =
+    let at-class-sum = c .before .before .before in
+    let at-sub = at-class-sum .before .before .before in
+    let start = at-sub .before .before .before .before .before .before in
+    (entered-ready _ _ _ _ _ (start .pre .0) (at-class-sum .class-sum .ensures), at-sub .sub .ensures .1)
 
 mul-requires : tie.Need-mul-requires
-mul-requires c κs = (entered-ready _ _ _ _ _ (entered-ready _ _ _ _ _ (c .before .before .before .before .before .before .before .before .before .before .before .before .before .before .before .before .pre .0) (c .before .before .before .before .before .before .before .class-sum .ensures)) (c .before .before .before .constant .ensures), c .before .before .before .constant .ensures .inside, inside-later (c .before .before .before .constant .ensures .ran .longer) (c .before .before .before .before .before .before .before .class-sum .ensures .inside))
+mul-requires c κs =
+    let at-constant = c .before .before .before in
+    let at-class-sum = at-constant .before .before .before .before in
+    let start = at-class-sum .before .before .before .before .before .before .before .before .before in (
+      entered-ready _ _ _ _ _ (entered-ready _ _ _ _ _ (start .pre .0) (at-class-sum .class-sum .ensures)) (at-constant .constant .ensures),
+      at-constant .constant .ensures .inside,
+      inside-later (at-constant .constant .ensures .ran .longer) (at-class-sum .class-sum .ensures .inside),
+    )
 
 add-requires : tie.Need-add-requires
-add-requires c κs = (entered-ready _ _ _ _ _ (entered-ready _ _ _ _ _ (entered-ready _ _ _ _ _ (c .before .before .before .before .before .before .before .before .before .before .before .before .before .before .before .before .before .before .before .before .pre .0) (c .before .before .before .before .before .before .before .before .before .before .before .class-sum .ensures)) (c .before .before .before .before .before .before .before .constant .ensures)) (c .before .before .before .mul .ensures), inside-later (c .before .before .before .mul .ensures .ran .longer) (inside-later (c .before .before .before .before .before .before .before .constant .ensures .ran .longer) (inside-later (c .before .before .before .before .before .before .before .before .before .before .before .class-sum .ensures .ran .longer) (c .before .before .before .before .before .before .before .before .before .before .before .before .before .before .before .before .before .before .before .before .pre .2))), c .before .before .before .mul .ensures .inside)
+add-requires c κs =
+    let at-mul = c .before .before .before in
+    let at-constant = at-mul .before .before .before .before in
+    let at-class-sum = at-constant .before .before .before .before in
+    let start = at-class-sum .before .before .before .before .before .before .before .before .before in (
+      entered-ready _ _ _ _ _ (entered-ready _ _ _ _ _ (entered-ready _ _ _ _ _ (start .pre .0) (at-class-sum .class-sum .ensures))
+          (at-constant .constant .ensures)) (at-mul .mul .ensures),
+      inside-later (at-mul .mul .ensures .ran .longer)
+          (inside-later (at-constant .constant .ensures .ran .longer) (inside-later (at-class-sum .class-sum .ensures .ran .longer) (start .pre .2))),
+      at-mul .mul .ensures .inside,
+    )
 
 same-length : tie.Need-same-length
-same-length c = c .before .before .add .ensures .ran .kept ∙ (c .before .before .before .before .before .before .mul .ensures .ran .kept ∙ (c .before .before .before .before .before .before .before .before .before .before .constant .ensures .ran .kept ∙ c .before .before .before .before .before .before .before .before .before .before .before .before .before .before .class-sum .ensures .ran .kept))
+same-length c =
+    let at-add = c .before .before in
+    let at-mul = at-add .before .before .before .before in
+    let at-constant = at-mul .before .before .before .before in
+    let at-class-sum = at-constant .before .before .before .before in
+    at-add .add .ensures .ran .kept ∙ (at-mul .mul .ensures .ran .kept ∙
+    (at-constant .constant .ensures .ran .kept ∙ at-class-sum .class-sum .ensures .ran .kept))
 
 returns-3 : tie.Need-returns-3
 unfolding Periodic.addClass
 returns-3 c =
-    let k = is-coefficient (c .before .before .before .before .before .before .before .before .before .before .before .before .before .before .before .before .before .before .before .before .before .before .before .args .col .now) (c .before .before .before .before .before .before .before .before .before .before .before .before .before .before .before .before .before .before .before .before .before .before .before .args .prefix .now) (c .before .before .before .before .before .before .before .before .before .before .before .before .before .before .before .before .before .before .before .before .before .before .before .args .suffix .now) (c .before .before .before .before .before .before .before .before .before .before .before .before .before .before .before .before .before .before .before .before .before .before .before .args .d) (c .before .before .before .before .before .before .before .before .before .before .before .before .before .before .before .before .before .before .before .before .before .before .before .args .v) _ 0 (c .before .before .before .before .before .before .before .before .before .before .before .before .before .before .before .before .before .before .before .before .before .before .before .pre .3 .offset-is) (c .before .before .before .before .before .before .before .before .before .before .before .before .before .before .before .before .before .before .if1 .left) (c .before .before .before .before .before .before .before .before .before .before .before .before .before .before .before .before .before .sub .ensures .0) in
-    entering-same _ _ _ _ _ _ (add-taken _ _ _ _ _ _ _ (c .before .before .before .before .before .before .before .before .before .before .before .before .before .before .before .before .before .before .before .before .before .before .before .pre .3 .offset-is) (c .before .before .before .before .before .before .before .before .before .before .before .before .before .before .before .before .before .before .if1 .left) (c .before .before .before .before .before .before .before .before .before .before .before .before .before .before .before .before .before .sub .ensures .0) (c .before .before .before .before .before .before .before .before .before .before .before .before .before .before .before .before .if2 .left))
-    (then-enter _ _ _ _ _ _ _ _ (c .before .before .before .before .before .before .before .before .before .before .before .before .before .before .class-sum .ensures) (then-enter _ _ _ _ _ _ _ _ (entering-at (Builder.constant quad) _ _ _ _ k (c .before .before .before .before .before .before .before .before .before .before .constant .ensures)) (then-enter _ _ _ _ _ _ _ _ (c .before .before .before .before .before .before .mul .ensures) (c .before .before .add .ensures))))
+    let at-add = c .before .before in
+    let at-mul = at-add .before .before .before .before in
+    let at-constant = at-mul .before .before .before .before in
+    let at-class-sum = at-constant .before .before .before .before in
+    let at-if2 = at-class-sum .before .before in
+    let at-sub = at-if2 .before in
+    let at-if1 = at-sub .before in
+    let start = at-if1 .before .before .before .before .before in
+    let k = is-coefficient (start .args .col .now) (start .args .prefix .now) (start .args .suffix .now) (start .args .d) (start .args .v) _ 0
+    (start .pre .3 .offset-is) (at-if1 .if1 .left) (at-sub .sub .ensures .0) in
+    entering-same _ _ _ _ _ _ (add-taken _ _ _ _ _ _ _ (start .pre .3 .offset-is) (at-if1 .if1 .left) (at-sub .sub .ensures .0) (at-if2 .if2 .left))
+    (then-enter _ _ _ _ _ _ _ _ (at-class-sum .class-sum .ensures)
+    (then-enter _ _ _ _ _ _ _ _ (entering-at (Builder.constant quad) _ _ _ _ k (at-constant .constant .ensures))
+    (then-enter _ _ _ _ _ _ _ _ (at-mul .mul .ensures) (at-add .add .ensures))))
 
 pub add-turn-spec : {M : Type 1} → statement M
 add-turn-spec =

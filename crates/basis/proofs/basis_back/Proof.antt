@@ -24,7 +24,11 @@ array-share-prefix-turned : tie.Need-array-share-prefix-turned
 array-share-prefix-turned c = search needs
 
 slice-aggregate-chain : tie.Need-slice-aggregate-chain
-slice-aggregate-chain c = sym (ap length (backwards-is _ _ _ (c .before .before .backwards .ensures) (c .before .before .before .before .before .before .before .before .before .before .before .pre .1 .suffix-long)) ∙ (length-backwards _ ∙ c .before .before .before .before .before .before .before .before .before .before .before .pre .1 .suffix-long))
+slice-aggregate-chain c =
+    let at-backwards = c .before .before in
+    let start = at-backwards .before .before .before .before .before .before .before .before .before in
+    sym (ap length (backwards-is _ _ _ (at-backwards .backwards .ensures) (start .pre .1 .suffix-long)) ∙
+    (length-backwards _ ∙ start .pre .1 .suffix-long))
 
 sub-chain : tie.Need-sub-chain
 sub-chain c = search needs
@@ -34,24 +38,49 @@ slice-aggregate-chain-2 c = search needs
 
 chain-requires : tie.Need-chain-requires
 chain-requires c κs =
-    let turned = backwards-is (c .before .before .before .before .before .before .before .before .before .before .before .before .args .factors .now) _ (length (c .before .before .before .before .before .before .before .before .before .before .before .before .args .col .now)) (c .before .before .before .backwards .ensures) (c .before .before .before .before .before .before .before .before .before .before .before .before .pre .1 .suffix-long) in
-    let long = length-backwards (c .before .before .before .before .before .before .before .before .before .before .before .before .args .factors .now) ∙ c .before .before .before .before .before .before .before .before .before .before .before .before .pre .1 .suffix-long in
-    (entered-ready _ _ _ _ _ (c .before .before .before .before .before .before .before .before .before .before .before .before .pre .0) (c .before .before .before .before .before .before .constant .ensures), c .before .before .before .before .before .before .constant .ensures .inside, rw turned (all-later (c .before .before .before .before .before .before .constant .ensures .ran .longer) (backwards-inside _ _ (c .before .before .before .before .before .before .before .before .before .before .before .before .pre .1 .suffix-inside))), rw turned (omega arith), omega (arith, c .before .before .before .before .before .before .before .before .before .before .before .before .pre .2 .short, c .before .before .before .before .before .before .before .before .before .before .before .before .pre .2 .some))
+    let at-backwards = c .before .before .before in
+    let at-constant = at-backwards .before .before .before in
+    let start = at-constant .before .before .before .before .before .before in
+    let turned = backwards-is (start .args .factors .now) _ (length (start .args .col .now)) (at-backwards .backwards .ensures)
+    (start .pre .1 .suffix-long) in
+    let long = length-backwards (start .args .factors .now) ∙ start .pre .1 .suffix-long in (
+      entered-ready _ _ _ _ _ (start .pre .0) (at-constant .constant .ensures),
+      at-constant .constant .ensures .inside,
+      rw turned
+          (all-later (at-constant .constant .ensures .ran .longer) (backwards-inside _ _ (start .pre .1 .suffix-inside))),
+      rw turned (omega arith),
+      omega
+          (arith, start .pre .2 .short, start .pre .2 .some),
+    )
 
 array-share-prefix-suffix : tie.Need-array-share-prefix-suffix
 array-share-prefix-suffix c = search needs
 
 slice-aggregate-basis-sum : tie.Need-slice-aggregate-basis-sum
-slice-aggregate-basis-sum c = sym (length-take-le _ _ (omega (arith, c .before .before .before .before .before .before .before .before .before .before .before .before .before .before .before .before .before .before .pre .2 .short)))
+slice-aggregate-basis-sum c =
+    let start = c .before .before .before .before .before .before .before .before .before .before .before .before .before .before .before .before .before .before in
+    sym (length-take-le _ _ (omega (arith, start .pre .2 .short)))
 
 basis-sum-requires : tie.Need-basis-sum-requires
 basis-sum-requires c κs =
-    let whole : length (c .before .before .before .before .before .before .before .before .before .before .before .before .before .before .before .before .before .before .args .col .now) - 1 + 1 ≡ length (c .before .before .before .before .before .before .before .before .before .before .before .before .before .before .before .before .before .before .args .col .now) = omega (arith, c .before .before .before .before .before .before .before .before .before .before .before .before .before .before .before .before .before .before .pre .2 .some) in
-    let listed = listing-like _ _ _ _ _ _ _ _ _ (same-refl _) whole (c .before .before .before .before .before .chain .ensures) in
-    let later = products-later (c .before .before .before .before .before .chain .ensures .ran .longer) (products-later (c .before .before .before .before .before .before .before .before .before .before .before .before .constant .ensures .ran .longer) (c .before .before .before .before .before .before .before .before .before .before .before .before .before .before .before .before .before .before .pre .1)) in (
-      listed-ready _ _ _ _ _ _ _ (entered-ready _ _ _ _ _ (c .before .before .before .before .before .before .before .before .before .before .before .before .before .before .before .before .before .before .pre .0) (c .before .before .before .before .before .before .before .before .before .before .before .before .constant .ensures)) (c .before .before .before .before .before .chain .ensures),
-      record { rows = c .before .before .before .before .before .before .before .before .before .before .before .before .before .before .before .before .before .before .pre .1 .rows; short = c .before .before .before .before .before .before .before .before .before .before .before .before .before .before .before .before .before .before .pre .1 .short; prefix-long = c .before .before .before .before .before .before .before .before .before .before .before .before .before .before .before .before .before .before .pre .1 .prefix-long; suffix-long = length-take-le _ _ (omega (arith, c .before .before .before .before .before .before .before .before .before .before .before .before .before .before .before .before .before .before .pre .2 .short)); prefix-inside = later .prefix-inside; suffix-inside = listed .inside },
-      c .before .before .before .before .before .before .before .before .before .before .before .before .before .before .before .before .before .before .pre .2,
+    let at-chain = c .before .before .before .before .before in
+    let at-constant = at-chain .before .before .before .before .before .before .before in
+    let start = at-constant .before .before .before .before .before .before in
+    let whole : length (start .args .col .now) - 1 + 1 ≡ length (start .args .col .now) = omega (arith, start .pre .2 .some) in
+    let listed = listing-like _ _ _ _ _ _ _ _ _ (same-refl _) whole (at-chain .chain .ensures) in
+    let later = products-later (at-chain .chain .ensures .ran .longer) (products-later (at-constant .constant .ensures .ran .longer) (start .pre .1))
+    in (
+      listed-ready _ _ _ _ _ _ _ (entered-ready _ _ _ _ _ (start .pre .0) (at-constant .constant .ensures)) (at-chain .chain .ensures),
+      record {
+        rows = start .pre .1 .rows;
+        short = start .pre .1 .short;
+        prefix-long = start .pre .1 .prefix-long;
+        suffix-long = length-take-le _ _
+            (omega (arith, start .pre .2 .short));
+        prefix-inside = later .prefix-inside;
+        suffix-inside = listed .inside;
+      },
+      start .pre .2,
     )
 
 same-length : tie.Need-same-length
@@ -60,10 +89,18 @@ same-length c = search needs
 returns : tie.Need-returns
 unfolding Periodic.basisBack
 returns c =
-    let whole : length (c .before .before .before .before .before .before .before .before .before .before .before .before .before .before .before .before .before .before .before .before .before .args .col .now) - 1 + 1 ≡ length (c .before .before .before .before .before .before .before .before .before .before .before .before .before .before .before .before .before .before .before .before .before .args .col .now) = omega (arith, c .before .before .before .before .before .before .before .before .before .before .before .before .before .before .before .before .before .before .before .before .before .pre .2 .some) in
-    let turned = backwards-is (c .before .before .before .before .before .before .before .before .before .before .before .before .before .before .before .before .before .before .before .before .before .args .factors .now) _ (length (c .before .before .before .before .before .before .before .before .before .before .before .before .before .before .before .before .before .before .before .before .before .args .col .now)) (c .before .before .before .before .before .before .before .before .before .before .before .before .backwards .ensures) (c .before .before .before .before .before .before .before .before .before .before .before .before .before .before .before .before .before .before .before .before .before .pre .1 .suffix-long) in
-    let listed = listing-like _ _ _ _ _ _ _ _ _ (same-refl _) whole (listing-same _ _ _ _ _ _ _ _ (ap (λ fs. Periodic.chain quad (c .before .before .before .before .before .before .before .before .before .before .before .before .before .before .before .constant .result .place) fs (length (c .before .before .before .before .before .before .before .before .before .before .before .before .before .before .before .before .before .before .before .before .before .args .col .now) - 1)) turned) (c .before .before .before .before .before .before .before .before .chain .ensures)) in
-    then-enter _ _ _ _ _ _ _ _ (c .before .before .before .before .before .before .before .before .before .before .before .before .before .before .before .constant .ensures) (then-listed _ _ _ _ _ _ _ _ _ _ listed (c .before .before .basis-sum .ensures))
+    let at-basis-sum = c .before .before in
+    let at-chain = at-basis-sum .before .before .before .before .before .before in
+    let at-backwards = at-chain .before .before .before .before in
+    let at-constant = at-backwards .before .before .before in
+    let start = at-constant .before .before .before .before .before .before in
+    let whole : length (start .args .col .now) - 1 + 1 ≡ length (start .args .col .now) = omega (arith, start .pre .2 .some) in
+    let turned = backwards-is (start .args .factors .now) _ (length (start .args .col .now)) (at-backwards .backwards .ensures)
+    (start .pre .1 .suffix-long) in
+    let listed = listing-like _ _ _ _ _ _ _ _ _ (same-refl _) whole
+    (listing-same _ _ _ _ _ _ _ _ (ap (λ fs. Periodic.chain quad (at-constant .constant .result .place) fs (length (start .args .col .now) - 1))
+    turned) (at-chain .chain .ensures)) in
+    then-enter _ _ _ _ _ _ _ _ (at-constant .constant .ensures) (then-listed _ _ _ _ _ _ _ _ _ _ listed (at-basis-sum .basis-sum .ensures))
 
 pub basis-back-spec : {M : Type 1} → statement M
 basis-back-spec =

@@ -8,14 +8,24 @@ constant-requires : tie.Need-constant-requires
 constant-requires c κs = search needs
 
 sub-requires : tie.Need-sub-requires
-sub-requires c κs = (entered-ready _ _ _ _ _ (c .before .before .before .before .before .before .pre .0) (c .before .before .before .constant .ensures), inside-later (c .before .before .before .constant .ensures .ran .longer) (c .before .before .before .before .before .before .pre .1), c .before .before .before .constant .ensures .inside)
+sub-requires c κs =
+    let at-constant = c .before .before .before in
+    let start = at-constant .before .before .before in (
+      entered-ready _ _ _ _ _ (start .pre .0) (at-constant .constant .ensures),
+      inside-later (at-constant .constant .ensures .ran .longer)
+          (start .pre .1),
+      at-constant .constant .ensures .inside,
+    )
 
 same-length : tie.Need-same-length
 same-length c = search needs
 
 returns : tie.Need-returns
 unfolding Said.factor
-returns c = then-enter _ _ _ _ _ _ _ _ (c .before .before .before .before .before .before .constant .ensures) (c .before .before .sub .ensures)
+returns c =
+    let at-sub = c .before .before in
+    let at-constant = at-sub .before .before .before .before in
+    then-enter _ _ _ _ _ _ _ _ (at-constant .constant .ensures) (at-sub .sub .ensures)
 
 pub basis-factor-spec : {M : Type 1} → statement M
 basis-factor-spec = tie.close (tie.spec constant-requires sub-requires same-length returns)

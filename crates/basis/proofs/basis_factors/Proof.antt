@@ -29,16 +29,26 @@ mul-basis-factor : tie.Need-mul-basis-factor Inv-loop μ-loop
 mul-basis-factor c = omega arith
 
 element-copy-out-basis-factor : tie.Need-element-copy-out-basis-factor Inv-loop μ-loop
-element-copy-out-basis-factor c = omega (arith, c .before .before .before .before .before .before .pre .4)
+element-copy-out-basis-factor c =
+    let start = c .before .before .before .before .before .before in
+    omega (arith, start .pre .4)
 
 basis-factor-requires : tie.Need-basis-factor-requires Inv-loop μ-loop
-basis-factor-requires c κs = (c .before .before .before .loop .inv .3, c .before .before .before .loop .inv .4, c .before .before .before .before .before .before .before .pre .3 .low _ (c .before .before .loop-test .taken))
+basis-factor-requires c κs =
+    let at-loop-test = c .before .before in
+    let at-loop = at-loop-test .before in
+    let start = at-loop .before .before .before .before in
+    (at-loop .loop .inv .3, at-loop .loop .inv .4, start .pre .3 .low _ (at-loop-test .loop-test .taken))
 
 mul-places : tie.Need-mul-places Inv-loop μ-loop
-mul-places c = omega (arith, c .before .before .before .before .before .before .before .before .before .before .pre .2)
+mul-places c =
+    let start = c .before .before .before .before .before .before .before .before .before .before in
+    omega (arith, start .pre .2)
 
 slice-write-places : tie.Need-slice-write-places Inv-loop μ-loop
-slice-write-places c = omega (arith, c .before .before .before .before .before .before .before .before .before .before .pre .2)
+slice-write-places c =
+    let start = c .before .before .before .before .before .before .before .before .before .before in
+    omega (arith, start .pre .2)
 
 add-k : tie.Need-add-k Inv-loop μ-loop
 add-k c = omega arith
@@ -48,9 +58,21 @@ loop-less c = omega arith
 
 loop-again : tie.Need-loop-again Inv-loop μ-loop
 loop-again c =
-    let h : c .before .before .before .before .before .before .loop .k < length (c .before .before .before .before .before .before .loop .places) = omega (arith, c .before .before .before .before .before .before .before .before .before .before .pre .2) in
-    let entered = entering-same _ _ _ _ _ _ (factor-at _ _ _ _ (c .before .before .before .before .before .before .before .before .before .before .pre .3) (c .before .before .before .before .before .loop-test .taken)) (c .before .before .basis-factor .ensures) in
-    (omega arith, set-length (c .before .before .before .before .before .before .loop .places) _ _ _ (c .before .before .before .before .before .before .loop .inv .1), list-next _ _ _ _ _ _ _ _ _ _ _ h (c .before .before .before .before .before .before .loop .inv .2) entered, entered-ready _ _ _ _ _ (c .before .before .before .before .before .before .loop .inv .3) (c .before .before .basis-factor .ensures), inside-later (c .before .before .basis-factor .ensures .ran .longer) (c .before .before .before .before .before .before .loop .inv .4))
+    let at-basis-factor = c .before .before in
+    let at-loop-test = at-basis-factor .before .before .before in
+    let at-loop = at-loop-test .before in
+    let start = at-loop .before .before .before .before in
+    let h : at-loop .loop .k < length (at-loop .loop .places) = omega (arith, start .pre .2) in
+    let entered = entering-same _ _ _ _ _ _ (factor-at _ _ _ _ (start .pre .3) (at-loop-test .loop-test .taken))
+    (at-basis-factor .basis-factor .ensures) in (
+      omega arith,
+      set-length (at-loop .loop .places) _ _ _ (at-loop .loop .inv .1),
+      list-next _ _ _ _ _ _ _ _ _ _ _ h (at-loop .loop .inv .2)
+          entered,
+      entered-ready _ _ _ _ _ (at-loop .loop .inv .3) (at-basis-factor .basis-factor .ensures),
+      inside-later
+          (at-basis-factor .basis-factor .ensures .ran .longer) (at-loop .loop .inv .4),
+    )
 
 same-length : tie.Need-same-length Inv-loop μ-loop
 same-length c = c .before .loop .inv .2 .ran .kept

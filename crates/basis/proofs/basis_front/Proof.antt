@@ -23,13 +23,18 @@ array-share-prefix-store : tie.Need-array-share-prefix-store
 array-share-prefix-store c = search needs
 
 slice-aggregate-factors : tie.Need-slice-aggregate-factors
-slice-aggregate-factors c = sym (length-take-le _ _ (omega (arith, c .before .before .before .before .before .before .before .before .before .pre .2 .short)))
+slice-aggregate-factors c =
+    let start = c .before .before .before .before .before .before .before .before .before in
+    sym (length-take-le _ _ (omega (arith, start .pre .2 .short)))
 
 size-inverse-requires : tie.Need-size-inverse-requires
 size-inverse-requires c κs = search needs
 
 constant-requires : tie.Need-constant-requires
-constant-requires c κs = (listed-ready _ _ _ _ _ _ _ (c .before .before .before .before .before .before .before .before .before .before .before .pre .0) (c .before .before .before .before .before .before .basis-factors .ensures), c .size-inverse .ensures .1)
+constant-requires c κs =
+    let at-basis-factors = c .before .before .before .before .before .before in
+    let start = at-basis-factors .before .before .before .before .before in
+    (listed-ready _ _ _ _ _ _ _ (start .pre .0) (at-basis-factors .basis-factors .ensures), c .size-inverse .ensures .1)
 
 sub-chain : tie.Need-sub-chain
 sub-chain c = search needs
@@ -39,29 +44,48 @@ slice-aggregate-chain c = search needs
 
 chain-requires : tie.Need-chain-requires
 chain-requires c κs =
-    let long = length-take-le (length (c .before .before .before .before .before .before .before .before .before .before .before .before .before .before .before .before .args .col .now)) (c .before .before .before .before .before .before .before .before .before .before .before .basis-factors .last .1 .1 .1 .1 .1 .0) (omega (arith, c .before .before .before .before .before .before .before .before .before .before .before .before .before .before .before .before .pre .2 .short)) in
-    (entered-ready _ _ _ _ _ (listed-ready _ _ _ _ _ _ _ (c .before .before .before .before .before .before .before .before .before .before .before .before .before .before .before .before .pre .0) (c .before .before .before .before .before .before .before .before .before .before .before .basis-factors .ensures)) (c .before .before .before .before .constant .ensures), c .before .before .before .before .constant .ensures .inside, all-later (c .before .before .before .before .constant .ensures .ran .longer) (c .before .before .before .before .before .before .before .before .before .before .before .basis-factors .ensures .inside), omega arith, omega (arith, c .before .before .before .before .before .before .before .before .before .before .before .before .before .before .before .before .pre .2 .short, c .before .before .before .before .before .before .before .before .before .before .before .before .before .before .before .before .pre .2 .some))
+    let at-constant = c .before .before .before .before in
+    let at-basis-factors = at-constant .before .before .before .before .before .before .before in
+    let start = at-basis-factors .before .before .before .before .before in
+    let long = length-take-le (length (start .args .col .now)) (at-basis-factors .basis-factors .last .1 .1 .1 .1 .1 .0)
+    (omega (arith, start .pre .2 .short)) in (
+      entered-ready _ _ _ _ _ (listed-ready _ _ _ _ _ _ _ (start .pre .0) (at-basis-factors .basis-factors .ensures))
+          (at-constant .constant .ensures),
+      at-constant .constant .ensures .inside,
+      all-later (at-constant .constant .ensures .ran .longer)
+          (at-basis-factors .basis-factors .ensures .inside),
+      omega arith,
+      omega (arith, start .pre .2 .short, start .pre .2 .some),
+    )
 
 array-share-prefix-prefix : tie.Need-array-share-prefix-prefix
 array-share-prefix-prefix c = search needs
 
 slice-aggregate-basis-back : tie.Need-slice-aggregate-basis-back
-slice-aggregate-basis-back c = sym (length-take-le _ _ (omega (arith, c .before .before .before .before .before .before .before .before .before .before .before .before .before .before .before .before .before .before .before .before .before .before .pre .2 .short)))
+slice-aggregate-basis-back c =
+    let start = c .before .before .before .before .before .before .before .before .before .before .before .before .before .before .before .before .before .before .before .before .before .before in
+    sym (length-take-le _ _ (omega (arith, start .pre .2 .short)))
 
 basis-back-requires : tie.Need-basis-back-requires
 basis-back-requires c κs =
-    let whole : length (c .before .before .before .before .before .before .before .before .before .before .before .before .before .before .before .before .before .before .before .before .before .before .args .col .now) - 1 + 1 ≡ length (c .before .before .before .before .before .before .before .before .before .before .before .before .before .before .before .before .before .before .before .before .before .before .args .col .now) = omega (arith, c .before .before .before .before .before .before .before .before .before .before .before .before .before .before .before .before .before .before .before .before .before .before .pre .2 .some) in
-    let listed = listing-like _ _ _ _ _ _ _ _ _ (same-refl _) whole (c .before .before .before .before .before .chain .ensures) in (
-      listed-ready _ _ _ _ _ _ _ (entered-ready _ _ _ _ _ (listed-ready _ _ _ _ _ _ _ (c .before .before .before .before .before .before .before .before .before .before .before .before .before .before .before .before .before .before .before .before .before .before .pre .0) (c .before .before .before .before .before .before .before .before .before .before .before .before .before .before .before .before .before .basis-factors .ensures)) (c .before .before .before .before .before .before .before .before .before .before .constant .ensures)) (c .before .before .before .before .before .chain .ensures),
+    let at-chain = c .before .before .before .before .before in
+    let at-constant = at-chain .before .before .before .before .before in
+    let at-basis-factors = at-constant .before .before .before .before .before .before .before in
+    let start = at-basis-factors .before .before .before .before .before in
+    let whole : length (start .args .col .now) - 1 + 1 ≡ length (start .args .col .now) = omega (arith, start .pre .2 .some) in
+    let listed = listing-like _ _ _ _ _ _ _ _ _ (same-refl _) whole (at-chain .chain .ensures) in (
+      listed-ready _ _ _ _ _ _ _ (entered-ready _ _ _ _ _ (listed-ready _ _ _ _ _ _ _ (start .pre .0) (at-basis-factors .basis-factors .ensures))
+          (at-constant .constant .ensures)) (at-chain .chain .ensures),
       record {
-        rows = c .before .before .before .before .before .before .before .before .before .before .before .before .before .before .before .before .before .before .before .before .before .before .pre .3;
-        short = c .before .before .before .before .before .before .before .before .before .before .before .before .before .before .before .before .before .before .before .before .before .before .pre .2 .short;
-        prefix-long = length-take-le _ _ (omega (arith, c .before .before .before .before .before .before .before .before .before .before .before .before .before .before .before .before .before .before .before .before .before .before .pre .2 .short));
-        suffix-long = length-take-le _ _ (omega (arith, c .before .before .before .before .before .before .before .before .before .before .before .before .before .before .before .before .before .before .before .before .before .before .pre .2 .short));
+        rows = start .pre .3;
+        short = start .pre .2 .short;
+        prefix-long = length-take-le _ _ (omega (arith, start .pre .2 .short));
+        suffix-long = length-take-le _ _ (omega (arith, start .pre .2 .short));
         prefix-inside = listed .inside;
-        suffix-inside = all-later (c .before .before .before .before .before .chain .ensures .ran .longer) (all-later (c .before .before .before .before .before .before .before .before .before .before .constant .ensures .ran .longer) (c .before .before .before .before .before .before .before .before .before .before .before .before .before .before .before .before .before .basis-factors .ensures .inside));
+        suffix-inside = all-later (at-chain .chain .ensures .ran .longer)
+            (all-later (at-constant .constant .ensures .ran .longer) (at-basis-factors .basis-factors .ensures .inside));
       },
-      c .before .before .before .before .before .before .before .before .before .before .before .before .before .before .before .before .before .before .before .before .before .before .pre .2,
+      start .pre .2,
     )
 
 same-length : tie.Need-same-length
@@ -70,9 +94,17 @@ same-length c = search needs
 returns : tie.Need-returns
 unfolding Periodic.basisFront
 returns c =
-    let whole : length (c .before .before .before .before .before .before .before .before .before .before .before .before .before .before .before .before .before .before .before .before .before .before .before .before .before .args .col .now) - 1 + 1 ≡ length (c .before .before .before .before .before .before .before .before .before .before .before .before .before .before .before .before .before .before .before .before .before .before .before .before .before .args .col .now) = omega (arith, c .before .before .before .before .before .before .before .before .before .before .before .before .before .before .before .before .before .before .before .before .before .before .before .before .before .pre .2 .some) in
-    let listed = listing-like _ _ _ _ _ _ _ _ _ (same-refl _) whole (c .before .before .before .before .before .before .before .before .chain .ensures) in
-    then-listed _ _ _ _ _ _ _ _ _ _ (c .before .before .before .before .before .before .before .before .before .before .before .before .before .before .before .before .before .before .before .before .basis-factors .ensures) (then-enter _ _ _ _ _ _ _ _ (entering-at (Builder.constant quad) _ _ _ _ (c .before .before .before .before .before .before .before .before .before .before .before .before .before .before .size-inverse .ensures .0) (c .before .before .before .before .before .before .before .before .before .before .before .before .before .constant .ensures)) (then-listed _ _ _ _ _ _ _ _ _ _ listed (c .before .before .basis-back .ensures)))
+    let at-basis-back = c .before .before in
+    let at-chain = at-basis-back .before .before .before .before .before .before in
+    let at-constant = at-chain .before .before .before .before .before in
+    let at-size-inverse = at-constant .before in
+    let at-basis-factors = at-size-inverse .before .before .before .before .before .before in
+    let start = at-basis-factors .before .before .before .before .before in
+    let whole : length (start .args .col .now) - 1 + 1 ≡ length (start .args .col .now) = omega (arith, start .pre .2 .some) in
+    let listed = listing-like _ _ _ _ _ _ _ _ _ (same-refl _) whole (at-chain .chain .ensures) in
+    then-listed _ _ _ _ _ _ _ _ _ _ (at-basis-factors .basis-factors .ensures)
+    (then-enter _ _ _ _ _ _ _ _ (entering-at (Builder.constant quad) _ _ _ _ (at-size-inverse .size-inverse .ensures .0)
+    (at-constant .constant .ensures)) (then-listed _ _ _ _ _ _ _ _ _ _ listed (at-basis-back .basis-back .ensures)))
 
 pub basis-front-spec : {M : Type 1} → statement M
 basis-front-spec =

@@ -21,7 +21,10 @@ array-share-prefix-store : tie.Need-array-share-prefix-store
 array-share-prefix-store c = search needs
 
 slice-aggregate-values-2 : tie.Need-slice-aggregate-values-2
-slice-aggregate-values-2 c = sym (length-take-le _ _ (omega (arith, c .before .before .values .ensures .1, c .before .before .before .before .before .before .before .before .pre .2 .short)))
+slice-aggregate-values-2 c =
+    let at-values = c .before .before in
+    let start = at-values .before .before .before .before .before .before in
+    sym (length-take-le _ _ (omega (arith, at-values .values .ensures .1, start .pre .2 .short)))
 
 offset-requires : tie.Need-offset-requires
 offset-requires c κs = search needs
@@ -30,28 +33,50 @@ constant-requires : tie.Need-constant-requires
 constant-requires c κs = search needs
 
 add-classes-requires : tie.Need-add-classes-requires
-add-classes-requires c κs = (
-  entered-ready _ _ _ _ _ (c .before .before .before .before .before .before .before .before .before .before .before .before .before .before .pre .0) (c .before .before .before .constant .ensures),
-  products-later (c .before .before .before .constant .ensures .ran .longer) (c .before .before .before .before .before .before .before .before .before .before .before .before .before .before .pre .1),
-  c .before .before .before .constant .ensures .inside,
-  offset-of _ _ _ (c .before .before .before .before .before .before .before .before .before .before .before .before .before .before .pre .2 .low) (c .before .before .before .before .before .before .before .before .values .ensures .0) (c .before .before .before .before .before .offset .ensures .0) (c .before .before .before .before .before .offset .ensures .1),
-)
+add-classes-requires c κs =
+    let at-constant = c .before .before .before in
+    let at-offset = at-constant .before .before in
+    let at-values = at-offset .before .before .before in
+    let start = at-values .before .before .before .before .before .before in (
+      entered-ready _ _ _ _ _ (start .pre .0) (at-constant .constant .ensures),
+      products-later (at-constant .constant .ensures .ran .longer)
+          (start .pre .1),
+      at-constant .constant .ensures .inside,
+      offset-of _ _ _ (start .pre .2 .low) (at-values .values .ensures .0)
+          (at-offset .offset .ensures .0) (at-offset .offset .ensures .1),
+    )
 
 sub-classes-requires : tie.Need-sub-classes-requires
-sub-classes-requires c κs = (
-  entered-ready _ _ _ _ _ (entered-ready _ _ _ _ _ (c .before .before .before .before .before .before .before .before .before .before .before .before .before .before .before .before .before .before .pre .0) (c .before .before .before .before .before .before .before .constant .ensures)) (c .before .before .before .add-classes .ensures),
-  products-later (c .before .before .before .add-classes .ensures .ran .longer) (products-later (c .before .before .before .before .before .before .before .constant .ensures .ran .longer) (c .before .before .before .before .before .before .before .before .before .before .before .before .before .before .before .before .before .before .pre .1)),
-  c .before .before .before .add-classes .ensures .inside,
-  offset-of _ _ _ (c .before .before .before .before .before .before .before .before .before .before .before .before .before .before .before .before .before .before .pre .2 .low) (c .before .before .before .before .before .before .before .before .before .before .before .before .values .ensures .0) (c .before .before .before .before .before .before .before .before .before .offset .ensures .0) (c .before .before .before .before .before .before .before .before .before .offset .ensures .1),
-)
+sub-classes-requires c κs =
+    let at-add-classes = c .before .before .before in
+    let at-constant = at-add-classes .before .before .before .before in
+    let at-offset = at-constant .before .before in
+    let at-values = at-offset .before .before .before in
+    let start = at-values .before .before .before .before .before .before in (
+      entered-ready _ _ _ _ _ (entered-ready _ _ _ _ _ (start .pre .0) (at-constant .constant .ensures)) (at-add-classes .add-classes .ensures),
+      products-later (at-add-classes .add-classes .ensures .ran .longer)
+          (products-later (at-constant .constant .ensures .ran .longer) (start .pre .1)),
+      at-add-classes .add-classes .ensures .inside,
+      offset-of _ _ _
+          (start .pre .2 .low) (at-values .values .ensures .0) (at-offset .offset .ensures .0) (at-offset .offset .ensures .1),
+    )
 
 same-length : tie.Need-same-length
-same-length c = c .before .before .sub-classes .ensures .ran .kept ∙ (c .before .before .before .before .before .before .add-classes .ensures .ran .kept ∙ c .before .before .before .before .before .before .before .before .before .before .constant .ensures .ran .kept)
+same-length c =
+    let at-sub-classes = c .before .before in
+    let at-add-classes = at-sub-classes .before .before .before .before in
+    let at-constant = at-add-classes .before .before .before .before in
+    at-sub-classes .sub-classes .ensures .ran .kept ∙ (at-add-classes .add-classes .ensures .ran .kept ∙ at-constant .constant .ensures .ran .kept)
 
 returns : tie.Need-returns
 unfolding Periodic.basisSum
 returns c =
-    then-enter _ _ _ _ _ _ _ _ (entering-at (Builder.constant quad) _ _ _ _ (c .before .before .before .before .before .before .before .before .before .before .before .before .offset .ensures .0) (c .before .before .before .before .before .before .before .before .before .before .constant .ensures)) (then-enter _ _ _ _ _ _ _ _ (c .before .before .before .before .before .before .add-classes .ensures) (c .before .before .sub-classes .ensures))
+    let at-sub-classes = c .before .before in
+    let at-add-classes = at-sub-classes .before .before .before .before in
+    let at-constant = at-add-classes .before .before .before .before in
+    let at-offset = at-constant .before .before in
+    then-enter _ _ _ _ _ _ _ _ (entering-at (Builder.constant quad) _ _ _ _ (at-offset .offset .ensures .0) (at-constant .constant .ensures))
+    (then-enter _ _ _ _ _ _ _ _ (at-add-classes .add-classes .ensures) (at-sub-classes .sub-classes .ensures))
 
 pub basis-sum-spec : {M : Type 1} → statement M
 basis-sum-spec =

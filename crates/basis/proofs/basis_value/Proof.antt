@@ -9,17 +9,31 @@ z-power-requires : tie.Need-z-power-requires
 z-power-requires c κs = search needs
 
 roots-requires : tie.Need-roots-requires
-roots-requires c κs = c .before .before .before .before .before .before .pre .1 .short
+roots-requires c κs =
+    let start = c .before .before .before .before .before .before in
+    start .pre .1 .short
 
 basis-front-requires : tie.Need-basis-front-requires
-basis-front-requires c κs = (entered-ready _ _ _ _ _ (c .before .before .before .before .before .before .before .before .before .pre .0) (c .before .before .before .before .before .z-power .ensures), c .before .before .before .before .before .z-power .ensures .inside, c .before .before .before .before .before .before .before .before .before .pre .1, roots-of _ _ (c .before .before .roots .ensures))
+basis-front-requires c κs =
+    let at-roots = c .before .before in
+    let at-z-power = at-roots .before .before .before in
+    let start = at-z-power .before .before .before .before in (
+      entered-ready _ _ _ _ _ (start .pre .0) (at-z-power .z-power .ensures),
+      at-z-power .z-power .ensures .inside,
+      start .pre .1,
+      roots-of _ _
+          (at-roots .roots .ensures),
+    )
 
 same-length : tie.Need-same-length
 same-length c = search needs
 
 returns : tie.Need-returns
 unfolding Periodic.basisValue
-returns c = then-enter _ _ _ _ _ _ _ _ (c .before .before .before .before .before .before .before .before .z-power .ensures) (c .before .before .basis-front .ensures)
+returns c =
+    let at-basis-front = c .before .before in
+    let at-z-power = at-basis-front .before .before .before .before .before .before in
+    then-enter _ _ _ _ _ _ _ _ (at-z-power .z-power .ensures) (at-basis-front .basis-front .ensures)
 
 pub basis-value-spec : {M : Type 1} → statement M
 basis-value-spec =

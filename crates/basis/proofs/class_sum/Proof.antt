@@ -26,7 +26,14 @@ constant-requires : tie.Need-constant-requires Inv-loop μ-loop
 constant-requires c κs = (c .before .before .before .before .before .pre .0, lit< tt)
 
 loop-holds : tie.Need-loop-holds Inv-loop μ-loop
-loop-holds c = (omega arith, enter-none _ _ _ _ (c .before .before .constant .ensures .inside), entered-ready _ _ _ _ _ (c .before .before .before .before .before .before .before .before .pre .0) (c .before .before .constant .ensures), products-later (c .before .before .constant .ensures .ran .longer) (c .before .before .before .before .before .before .before .before .pre .1))
+loop-holds c =
+    let at-constant = c .before .before in
+    let start = at-constant .before .before .before .before .before .before in (
+      omega arith,
+      enter-none _ _ _ _ (at-constant .constant .ensures .inside),
+      entered-ready _ _ _ _ _ (start .pre .0) (at-constant .constant .ensures),
+      products-later (at-constant .constant .ensures .ran .longer) (start .pre .1),
+    )
 
 class-turn-requires : tie.Need-class-turn-requires Inv-loop μ-loop
 class-turn-requires c κs = (c .before .before .loop .inv .2, c .before .before .loop .inv .3, c .before .loop-test .taken, c .before .before .loop .inv .1 .inside)
@@ -38,7 +45,16 @@ loop-less : tie.Need-loop-less Inv-loop μ-loop
 loop-less c = omega arith
 
 loop-again : tie.Need-loop-again Inv-loop μ-loop
-loop-again c = (omega arith, enter-next _ _ _ _ _ _ _ _ _ (c .before .before .before .before .before .loop .inv .1) (c .before .before .class-turn .ensures), entered-ready _ _ _ _ _ (c .before .before .before .before .before .loop .inv .2) (c .before .before .class-turn .ensures), products-later (c .before .before .class-turn .ensures .ran .longer) (c .before .before .before .before .before .loop .inv .3))
+loop-again c =
+    let at-class-turn = c .before .before in
+    let at-loop = at-class-turn .before .before .before in (
+      omega arith,
+      enter-next _ _ _ _ _ _ _ _ _ (at-loop .loop .inv .1) (at-class-turn .class-turn .ensures),
+      entered-ready _ _ _ _ _
+          (at-loop .loop .inv .2) (at-class-turn .class-turn .ensures),
+      products-later (at-class-turn .class-turn .ensures .ran .longer)
+          (at-loop .loop .inv .3),
+    )
 
 same-length : tie.Need-same-length Inv-loop μ-loop
 same-length c = c .before .loop .inv .1 .ran .kept ∙ c .before .before .before .before .constant .ensures .ran .kept

@@ -13,19 +13,37 @@ shared-slice-read-if1 : tie.Need-shared-slice-read-if1
 shared-slice-read-if1 c = c .before .before .before .before .before .pre .2
 
 returns : tie.Need-returns
-returns c = entering-same _ _ _ _ _ _ (row-skipped _ _ _ _ _ _ (c .if1 .taken)) (entered-done _ _ _ (c .before .before .before .before .before .before .pre .3))
+returns c =
+    let start = c .before .before .before .before .before .before in
+    entering-same _ _ _ _ _ _ (row-skipped _ _ _ _ _ _ (c .if1 .taken)) (entered-done _ _ _ (start .pre .3))
 
 element-requires : tie.Need-element-requires
-element-requires c κs = (c .before .before .before .before .before .before .before .pre .0, c .before .before .before .before .before .before .before .pre .1, c .before .before .before .before .before .before .before .pre .2)
+element-requires c κs =
+    let start = c .before .before .before .before .before .before .before in
+    (start .pre .0, start .pre .1, start .pre .2)
 
 add-requires : tie.Need-add-requires
-add-requires c κs = (entered-ready _ _ _ _ _ (c .before .before .before .before .before .before .before .before .before .before .before .pre .0) (c .before .before .before .element .ensures), inside-later (c .before .before .before .element .ensures .ran .longer) (c .before .before .before .before .before .before .before .before .before .before .before .pre .3), c .before .before .before .element .ensures .inside)
+add-requires c κs =
+    let at-element = c .before .before .before in
+    let start = at-element .before .before .before .before .before .before .before .before in (
+      entered-ready _ _ _ _ _ (start .pre .0) (at-element .element .ensures),
+      inside-later (at-element .element .ensures .ran .longer) (start .pre .3),
+      at-element .element .ensures .inside,
+    )
 
 same-length : tie.Need-same-length
-same-length c = c .before .before .add .ensures .ran .kept ∙ c .before .before .before .before .before .before .element .ensures .ran .kept
+same-length c =
+    let at-add = c .before .before in
+    let at-element = at-add .before .before .before .before in
+    at-add .add .ensures .ran .kept ∙ at-element .element .ensures .ran .kept
 
 returns-2 : tie.Need-returns-2
-returns-2 c = entering-same _ _ _ _ _ _ (row-taken _ _ _ _ _ _ (c .before .before .before .before .before .before .before .before .if1 .left)) (then-enter _ _ _ _ _ _ _ _ (c .before .before .before .before .before .before .element .ensures) (c .before .before .add .ensures))
+returns-2 c =
+    let at-add = c .before .before in
+    let at-element = at-add .before .before .before .before in
+    let at-if1 = at-element .before .before in
+    entering-same _ _ _ _ _ _ (row-taken _ _ _ _ _ _ (at-if1 .if1 .left))
+    (then-enter _ _ _ _ _ _ _ _ (at-element .element .ensures) (at-add .add .ensures))
 
 pub class-turn-spec : {M : Type 1} → statement M
 class-turn-spec =

@@ -30,9 +30,10 @@ shared-slice-read-mul-2 c = search needs
 
 mul-requires : tie.Need-mul-requires
 mul-requires c κs =
-    let a : c .before .before .before .before .before .before .before .args .j < length (c .before .before .before .before .before .before .before .args .prefix .now) = omega (arith, c .before .before .before .before .before .before .before .pre .1 .prefix-long) in
-    let b : length (c .before .before .before .before .before .before .before .args .col .now) - 1 - c .before .before .before .before .before .before .before .args .j < length (c .before .before .before .before .before .before .before .args .suffix .now) = omega (arith, c .before .before .before .before .before .before .before .pre .1 .suffix-long) in
-    (c .before .before .before .before .before .before .before .pre .0, c .before .before .before .before .before .before .before .pre .1 .prefix-inside .at _ a, c .before .before .before .before .before .before .before .pre .1 .suffix-inside .at _ b)
+    let start = c .before .before .before .before .before .before .before in
+    let a : start .args .j < length (start .args .prefix .now) = omega (arith, start .pre .1 .prefix-long) in
+    let b : length (start .args .col .now) - 1 - start .args .j < length (start .args .suffix .now) = omega (arith, start .pre .1 .suffix-long) in
+    (start .pre .0, start .pre .1 .prefix-inside .at _ a, start .pre .1 .suffix-inside .at _ b)
 
 mul-constant : tie.Need-mul-constant
 mul-constant c = search needs
@@ -41,10 +42,20 @@ element-copy-out-constant : tie.Need-element-copy-out-constant
 element-copy-out-constant c = search needs
 
 constant-requires : tie.Need-constant-requires
-constant-requires c κs = (entered-ready _ _ _ _ _ (c .before .before .before .before .before .before .before .before .before .before .before .before .pre .0) (c .before .before .before .before .mul .ensures), c .before .before .before .before .before .before .before .before .before .before .before .before .pre .1 .rows .low _ (c .before .before .before .before .before .before .before .before .before .before .before .before .pre .2))
+constant-requires c κs =
+    let at-mul = c .before .before .before .before in
+    let start = at-mul .before .before .before .before .before .before .before .before in
+    (entered-ready _ _ _ _ _ (start .pre .0) (at-mul .mul .ensures), start .pre .1 .rows .low _ (start .pre .2))
 
 mul-requires-2 : tie.Need-mul-requires-2
-mul-requires-2 c κs = (entered-ready _ _ _ _ _ (entered-ready _ _ _ _ _ (c .before .before .before .before .before .before .before .before .before .before .before .before .before .before .before .before .pre .0) (c .before .before .before .before .before .before .before .before .mul .ensures)) (c .before .before .before .constant .ensures), c .before .before .before .constant .ensures .inside, inside-later (c .before .before .before .constant .ensures .ran .longer) (c .before .before .before .before .before .before .before .before .mul .ensures .inside))
+mul-requires-2 c κs =
+    let at-constant = c .before .before .before in
+    let at-mul = at-constant .before .before .before .before .before in
+    let start = at-mul .before .before .before .before .before .before .before .before in (
+      entered-ready _ _ _ _ _ (entered-ready _ _ _ _ _ (start .pre .0) (at-mul .mul .ensures)) (at-constant .constant .ensures),
+      at-constant .constant .ensures .inside,
+      inside-later (at-constant .constant .ensures .ran .longer) (at-mul .mul .ensures .inside),
+    )
 
 same-length : tie.Need-same-length
 same-length c = search needs
@@ -52,7 +63,13 @@ same-length c = search needs
 returns : tie.Need-returns
 unfolding Periodic.element
 returns c =
-    then-enter _ _ _ _ _ _ _ _ (c .before .before .before .before .before .before .before .before .before .before .before .mul .ensures) (then-enter _ _ _ _ _ _ _ _ (entering-at (Builder.constant quad) _ _ _ _ (c .before .before .before .before .before .before .before .before .before .before .before .before .before .before .before .before .before .before .before .pre .1 .rows .at _ (c .before .before .before .before .before .before .before .before .before .before .before .before .before .before .before .before .before .before .before .pre .2)) (c .before .before .before .before .before .before .constant .ensures)) (c .before .before .mul2 .ensures))
+    let at-mul2 = c .before .before in
+    let at-constant = at-mul2 .before .before .before .before in
+    let at-mul = at-constant .before .before .before .before .before in
+    let start = at-mul .before .before .before .before .before .before .before .before in
+    then-enter _ _ _ _ _ _ _ _ (at-mul .mul .ensures) (then-enter _ _ _ _ _ _ _ _
+    (entering-at (Builder.constant quad) _ _ _ _ (start .pre .1 .rows .at _ (start .pre .2)) (at-constant .constant .ensures))
+    (at-mul2 .mul2 .ensures))
 
 pub element-spec : {M : Type 1} → statement M
 element-spec =

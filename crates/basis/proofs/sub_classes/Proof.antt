@@ -24,7 +24,9 @@ abbrev μ-loop : tie.MeasureT-loop
 μ-loop list₀ n roots prefix suffix col values d start sum₀ k₀ list sum k = length values - k
 
 loop-holds : tie.Need-loop-holds Inv-loop μ-loop
-loop-holds c = (omega arith, enter-none _ _ _ _ (c .before .before .before .before .before .pre .2), c .before .before .before .before .before .pre .0, c .before .before .before .before .before .pre .1)
+loop-holds c =
+    let start = c .before .before .before .before .before in
+    (omega arith, enter-none _ _ _ _ (start .pre .2), start .pre .0, start .pre .1)
 
 mul-sub-turn : tie.Need-mul-sub-turn Inv-loop μ-loop
 mul-sub-turn c = omega arith
@@ -33,7 +35,20 @@ shared-slice-read-sub-turn : tie.Need-shared-slice-read-sub-turn Inv-loop μ-loo
 shared-slice-read-sub-turn c = omega arith
 
 sub-turn-requires : tie.Need-sub-turn-requires Inv-loop μ-loop
-sub-turn-requires c κs = (c .before .before .before .loop .inv .2, c .before .before .before .loop .inv .3, c .before .before .before .loop .inv .1 .inside, record { offset-is = c .before .before .before .before .before .before .before .before .before .pre .3 .offset-is; offset-low = c .before .before .before .before .before .before .before .before .before .pre .3 .offset-low; value-low = below-at p _ _ (c .before .before .before .before .before .before .before .before .before .pre .3 .low) (c .before .before .loop-test .taken) })
+sub-turn-requires c κs =
+    let at-loop-test = c .before .before in
+    let at-loop = at-loop-test .before in
+    let start = at-loop .before .before .before .before .before .before in (
+      at-loop .loop .inv .2,
+      at-loop .loop .inv .3,
+      at-loop .loop .inv .1 .inside,
+      record {
+        offset-is = start .pre .3 .offset-is;
+        offset-low = start .pre .3 .offset-low;
+        value-low = below-at p _ _ (start .pre .3 .low)
+            (at-loop-test .loop-test .taken);
+      },
+    )
 
 add-k : tie.Need-add-k Inv-loop μ-loop
 add-k c = omega arith
@@ -42,7 +57,15 @@ loop-less : tie.Need-loop-less Inv-loop μ-loop
 loop-less c = omega arith
 
 loop-again : tie.Need-loop-again Inv-loop μ-loop
-loop-again c = (omega arith, enter-next _ _ _ _ _ _ _ _ _ (c .before .before .before .before .before .before .loop .inv .1) (c .before .before .sub-turn .ensures), entered-ready _ _ _ _ _ (c .before .before .before .before .before .before .loop .inv .2) (c .before .before .sub-turn .ensures), products-later (c .before .before .sub-turn .ensures .ran .longer) (c .before .before .before .before .before .before .loop .inv .3))
+loop-again c =
+    let at-sub-turn = c .before .before in
+    let at-loop = at-sub-turn .before .before .before .before in (
+      omega arith,
+      enter-next _ _ _ _ _ _ _ _ _ (at-loop .loop .inv .1) (at-sub-turn .sub-turn .ensures),
+      entered-ready _ _ _ _ _ (at-loop .loop .inv .2)
+          (at-sub-turn .sub-turn .ensures),
+      products-later (at-sub-turn .sub-turn .ensures .ran .longer) (at-loop .loop .inv .3),
+    )
 
 same-length : tie.Need-same-length Inv-loop μ-loop
 same-length c = c .before .loop .inv .1 .ran .kept
@@ -50,8 +73,11 @@ same-length c = c .before .loop .inv .1 .ran .kept
 returns : tie.Need-returns Inv-loop μ-loop
 unfolding Periodic.subClasses
 returns c =
-    entering-same _ _ _ _ _ _ (ap (λ vs. Builder.turns (λ k sum. Periodic.subTurn quad p felt generator half (c .before .before .before .before .before .before .before .args .col .now) (c .before .before .before .before .before .before .before .args .prefix .now) (c .before .before .before .before .before .before .before .args .suffix .now) (getD vs k 0) sum) (length vs) (c .before .before .before .before .before .before .before .args .start)) (c .before .before .before .before .before .before .before .pre .3 .are))
-    (enter-all _ _ _ _ _ _ _ _ (c .before .loop .inv .0) (c .loop-test .left) (c .before .loop .inv .1))
+    let at-loop = c .before in
+    let start-2 = at-loop .before .before .before .before .before .before in
+    entering-same _ _ _ _ _ _ (ap (λ vs. Builder.turns (λ k sum. Periodic.subTurn quad p felt generator half (start-2 .args .col .now)
+    (start-2 .args .prefix .now) (start-2 .args .suffix .now) (getD vs k 0) sum) (length vs) (start-2 .args .start)) (start-2 .pre .3 .are))
+    (enter-all _ _ _ _ _ _ _ _ (at-loop .loop .inv .0) (c .loop-test .left) (at-loop .loop .inv .1))
 
 pub sub-classes-spec : {M : Type 1} → statement M
 sub-classes-spec =

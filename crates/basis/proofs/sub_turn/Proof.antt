@@ -8,7 +8,9 @@ use Rattle.basis.proofs.sub_turn.Statement.{statement}
 use Rattle.basis.proofs.sub_turn.Tie as tie
 
 returns : tie.Need-returns
-returns c = entering-same _ _ _ _ _ _ (sub-offset _ _ _ _ _ 0 _ (c .before .before .before .before .before .pre .3 .offset-is) (c .if1 .taken)) (entered-done _ _ _ (c .before .before .before .before .before .pre .2))
+returns c =
+    let start = c .before .before .before .before .before in
+    entering-same _ _ _ _ _ _ (sub-offset _ _ _ _ _ 0 _ (start .pre .3 .offset-is) (c .if1 .taken)) (entered-done _ _ _ (start .pre .2))
 
 sub-requires : tie.Need-sub-requires
 sub-requires c κs = (c .before .before .before .before .before .pre .3 .value-low, c .before .before .before .before .before .pre .3 .offset-low)
@@ -17,20 +19,45 @@ sub-if2 : tie.Need-sub-if2
 sub-if2 c = search needs
 
 returns-2 : tie.Need-returns-2
-returns-2 c = entering-same _ _ _ _ _ _ (sub-other _ _ _ _ _ _ _ (c .before .before .before .before .before .before .before .pre .3 .offset-is) (c .before .before .if1 .left) (c .before .sub .ensures .0) (c .if2 .taken)) (entered-done _ _ _ (c .before .before .before .before .before .before .before .pre .2))
+returns-2 c =
+    let at-sub = c .before in
+    let at-if1 = at-sub .before in
+    let start = at-if1 .before .before .before .before .before in
+    entering-same _ _ _ _ _ _ (sub-other _ _ _ _ _ _ _ (start .pre .3 .offset-is) (at-if1 .if1 .left) (at-sub .sub .ensures .0) (c .if2 .taken))
+    (entered-done _ _ _ (start .pre .2))
 
 class-sum-requires : tie.Need-class-sum-requires
-class-sum-requires c κs = (c .before .before .before .before .before .before .before .before .pre .0, c .before .before .before .before .before .before .before .before .pre .1)
+class-sum-requires c κs =
+    let start = c .before .before .before .before .before .before .before .before in
+    (start .pre .0, start .pre .1)
 
 sub-requires-2 : tie.Need-sub-requires-2
-sub-requires-2 c κs = (entered-ready _ _ _ _ _ (c .before .before .before .before .before .before .before .before .before .before .before .before .pre .0) (c .before .before .before .class-sum .ensures), inside-later (c .before .before .before .class-sum .ensures .ran .longer) (c .before .before .before .before .before .before .before .before .before .before .before .before .pre .2), c .before .before .before .class-sum .ensures .inside)
+sub-requires-2 c κs =
+    let at-class-sum = c .before .before .before in
+    let start = at-class-sum .before .before .before .before .before .before .before .before .before in (
+      entered-ready _ _ _ _ _ (start .pre .0) (at-class-sum .class-sum .ensures),
+      inside-later (at-class-sum .class-sum .ensures .ran .longer)
+          (start .pre .2),
+      at-class-sum .class-sum .ensures .inside,
+    )
 
 same-length : tie.Need-same-length
-same-length c = c .before .before .sub2 .ensures .ran .kept ∙ c .before .before .before .before .before .before .class-sum .ensures .ran .kept
+same-length c =
+    let at-sub2 = c .before .before in
+    let at-class-sum = at-sub2 .before .before .before .before in
+    at-sub2 .sub2 .ensures .ran .kept ∙ at-class-sum .class-sum .ensures .ran .kept
 
 returns-3 : tie.Need-returns-3
 unfolding Periodic.subClass
-returns-3 c = entering-same _ _ _ _ _ _ (sub-taken _ _ _ _ _ _ _ (c .before .before .before .before .before .before .before .before .before .before .before .before .before .before .before .pre .3 .offset-is) (c .before .before .before .before .before .before .before .before .before .before .if1 .left) (c .before .before .before .before .before .before .before .before .before .sub .ensures .0) (c .before .before .before .before .before .before .before .before .if2 .left)) (then-enter _ _ _ _ _ _ _ _ (c .before .before .before .before .before .before .class-sum .ensures) (c .before .before .sub2 .ensures))
+returns-3 c =
+    let at-sub2 = c .before .before in
+    let at-class-sum = at-sub2 .before .before .before .before in
+    let at-if2 = at-class-sum .before .before in
+    let at-sub = at-if2 .before in
+    let at-if1 = at-sub .before in
+    let start = at-if1 .before .before .before .before .before in
+    entering-same _ _ _ _ _ _ (sub-taken _ _ _ _ _ _ _ (start .pre .3 .offset-is) (at-if1 .if1 .left) (at-sub .sub .ensures .0) (at-if2 .if2 .left))
+    (then-enter _ _ _ _ _ _ _ _ (at-class-sum .class-sum .ensures) (at-sub2 .sub2 .ensures))
 
 pub sub-turn-spec : {M : Type 1} → statement M
 sub-turn-spec =

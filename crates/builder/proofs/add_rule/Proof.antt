@@ -19,11 +19,23 @@ element-requires-2 : tie.Need-element-requires-2
 element-requires-2 c κs = search needs
 
 add-requires : tie.Need-add-requires
-add-requires c κs = let h = and-true _ _ (told (c .before .before .before .both-constant .ensures) (c .before .before .if1 .taken)) in (rw (c .before .element .ensures) (c .before .before .before .before .pre .left (h .0)), rw (c .element2 .ensures) (c .before .before .before .before .pre .right (h .1)))
+add-requires c κs =
+    let at-element = c .before in
+    let at-if1 = at-element .before in
+    let at-both-constant = at-if1 .before in
+    let start = at-both-constant .before in
+    let h = and-true _ _ (told (at-both-constant .both-constant .ensures) (at-if1 .if1 .taken)) in
+    (rw (at-element .element .ensures) (start .pre .left (h .0)), rw (c .element2 .ensures) (start .pre .right (h .1)))
 
 returns : tie.Need-returns
 unfolding quad Steps.addRule Steps.isSub Steps.isAdd Steps.isNeg
-returns c = into _ (told (c .before .before .before .before .both-constant .ensures) (c .before .before .before .if1 .taken)) (ap (λ e. Make (Constant e)) (c .add .ensures .0 ∙ ap₂ (quad .add) (c .before .before .element .ensures) (c .before .element2 .ensures)))
+returns c =
+    let at-element2 = c .before in
+    let at-element = at-element2 .before in
+    let at-if1 = at-element .before in
+    let at-both-constant = at-if1 .before in
+    into _ (told (at-both-constant .both-constant .ensures) (at-if1 .if1 .taken))
+    (ap (λ e. Make (Constant e)) (c .add .ensures .0 ∙ ap₂ (quad .add) (at-element .element .ensures) (at-element2 .element2 .ensures)))
 
 is-the-requires : tie.Need-is-the-requires
 is-the-requires c κs = search needs
@@ -37,7 +49,14 @@ is-the-requires-2 c κs = search needs
 
 returns-3 : tie.Need-returns-3
 unfolding quad Steps.addRule Steps.isSub Steps.isAdd Steps.isNeg
-returns-3 c = skip _ (told (c .before .before .before .before .before .both-constant .ensures) (c .before .before .before .before .if1 .left)) (skip _ (told (c .before .before .before .is-the .ensures) (c .before .before .if2 .left)) (into _ (told (c .before .is-the2 .ensures) (c .if3 .taken)) (refl)))
+returns-3 c =
+    let at-is-the2 = c .before in
+    let at-if2 = at-is-the2 .before in
+    let at-is-the = at-if2 .before in
+    let at-if1 = at-is-the .before in
+    let at-both-constant = at-if1 .before in
+    skip _ (told (at-both-constant .both-constant .ensures) (at-if1 .if1 .left))
+    (skip _ (told (at-is-the .is-the .ensures) (at-if2 .if2 .left)) (into _ (told (at-is-the2 .is-the2 .ensures) (c .if3 .taken)) (refl)))
 
 with-second-requires : tie.Need-with-second-requires
 with-second-requires c κs = search needs
@@ -47,7 +66,19 @@ first-of-requires c κs = search needs
 
 returns-4 : tie.Need-returns-4
 unfolding quad Steps.addRule Steps.isSub Steps.isAdd Steps.isNeg
-returns-4 c = skip _ (told (c .before .before .before .before .before .before .before .before .both-constant .ensures) (c .before .before .before .before .before .before .before .if1 .left)) (skip _ (told (c .before .before .before .before .before .before .is-the .ensures) (c .before .before .before .before .before .if2 .left)) (skip _ (told (c .before .before .before .before .is-the2 .ensures) (c .before .before .before .if3 .left)) (into _ (told (c .before .before .with-second .ensures) (c .before .if4 .taken)) (ap Use (c .first-of .ensures)))))
+returns-4 c =
+    let at-if4 = c .before in
+    let at-with-second = at-if4 .before in
+    let at-if3 = at-with-second .before in
+    let at-is-the2 = at-if3 .before in
+    let at-if2 = at-is-the2 .before in
+    let at-is-the = at-if2 .before in
+    let at-if1 = at-is-the .before in
+    let at-both-constant = at-if1 .before in
+    skip _ (told (at-both-constant .both-constant .ensures) (at-if1 .if1 .left))
+    (skip _ (told (at-is-the .is-the .ensures) (at-if2 .if2 .left))
+    (skip _ (told (at-is-the2 .is-the2 .ensures) (at-if3 .if3 .left))
+    (into _ (told (at-with-second .with-second .ensures) (at-if4 .if4 .taken)) (ap Use (c .first-of .ensures)))))
 
 with-second-requires-2 : tie.Need-with-second-requires-2
 with-second-requires-2 c κs = search needs
@@ -57,7 +88,22 @@ first-of-requires-2 c κs = search needs
 
 returns-5 : tie.Need-returns-5
 unfolding quad Steps.addRule Steps.isSub Steps.isAdd Steps.isNeg
-returns-5 c = skip _ (told (c .before .before .before .before .before .before .before .before .before .before .both-constant .ensures) (c .before .before .before .before .before .before .before .before .before .if1 .left)) (skip _ (told (c .before .before .before .before .before .before .before .before .is-the .ensures) (c .before .before .before .before .before .before .before .if2 .left)) (skip _ (told (c .before .before .before .before .before .before .is-the2 .ensures) (c .before .before .before .before .before .if3 .left)) (skip _ (told (c .before .before .before .before .with-second .ensures) (c .before .before .before .if4 .left)) (into _ (told (c .before .before .with-second2 .ensures) (c .before .if5 .taken)) (ap Use (c .first-of2 .ensures))))))
+returns-5 c =
+    let at-if5 = c .before in
+    let at-with-second2 = at-if5 .before in
+    let at-if4 = at-with-second2 .before in
+    let at-with-second = at-if4 .before in
+    let at-if3 = at-with-second .before in
+    let at-is-the2 = at-if3 .before in
+    let at-if2 = at-is-the2 .before in
+    let at-is-the = at-if2 .before in
+    let at-if1 = at-is-the .before in
+    let at-both-constant = at-if1 .before in
+    skip _ (told (at-both-constant .both-constant .ensures) (at-if1 .if1 .left))
+    (skip _ (told (at-is-the .is-the .ensures) (at-if2 .if2 .left))
+    (skip _ (told (at-is-the2 .is-the2 .ensures) (at-if3 .if3 .left))
+    (skip _ (told (at-with-second .with-second .ensures) (at-if4 .if4 .left))
+    (into _ (told (at-with-second2 .with-second2 .ensures) (at-if5 .if5 .taken)) (ap Use (c .first-of2 .ensures))))))
 
 only-neg-requires : tie.Need-only-neg-requires
 only-neg-requires c κs = search needs
@@ -67,7 +113,26 @@ first-of-requires-3 c κs = search needs
 
 returns-6 : tie.Need-returns-6
 unfolding quad Steps.addRule Steps.isSub Steps.isAdd Steps.isNeg
-returns-6 c = skip _ (told (c .before .before .before .before .before .before .before .before .before .before .before .before .both-constant .ensures) (c .before .before .before .before .before .before .before .before .before .before .before .if1 .left)) (skip _ (told (c .before .before .before .before .before .before .before .before .before .before .is-the .ensures) (c .before .before .before .before .before .before .before .before .before .if2 .left)) (skip _ (told (c .before .before .before .before .before .before .before .before .is-the2 .ensures) (c .before .before .before .before .before .before .before .if3 .left)) (skip _ (told (c .before .before .before .before .before .before .with-second .ensures) (c .before .before .before .before .before .if4 .left)) (skip _ (told (c .before .before .before .before .with-second2 .ensures) (c .before .before .before .if5 .left)) (into _ (told (c .before .before .only-neg .ensures) (c .before .if6 .taken)) (ap (HandOver (c .before .before .before .before .before .before .before .before .before .before .before .before .before .args .b)) (c .first-of3 .ensures)))))))
+returns-6 c =
+    let at-if6 = c .before in
+    let at-only-neg = at-if6 .before in
+    let at-if5 = at-only-neg .before in
+    let at-with-second2 = at-if5 .before in
+    let at-if4 = at-with-second2 .before in
+    let at-with-second = at-if4 .before in
+    let at-if3 = at-with-second .before in
+    let at-is-the2 = at-if3 .before in
+    let at-if2 = at-is-the2 .before in
+    let at-is-the = at-if2 .before in
+    let at-if1 = at-is-the .before in
+    let at-both-constant = at-if1 .before in
+    let start = at-both-constant .before in
+    skip _ (told (at-both-constant .both-constant .ensures) (at-if1 .if1 .left))
+    (skip _ (told (at-is-the .is-the .ensures) (at-if2 .if2 .left))
+    (skip _ (told (at-is-the2 .is-the2 .ensures) (at-if3 .if3 .left))
+    (skip _ (told (at-with-second .with-second .ensures) (at-if4 .if4 .left))
+    (skip _ (told (at-with-second2 .with-second2 .ensures) (at-if5 .if5 .left))
+    (into _ (told (at-only-neg .only-neg .ensures) (at-if6 .if6 .taken)) (ap (HandOver (start .args .b)) (c .first-of3 .ensures)))))))
 
 only-neg-requires-2 : tie.Need-only-neg-requires-2
 only-neg-requires-2 c κs = search needs
@@ -77,14 +142,57 @@ first-of-requires-4 c κs = search needs
 
 returns-7 : tie.Need-returns-7
 unfolding quad Steps.addRule Steps.isSub Steps.isAdd Steps.isNeg
-returns-7 c = skip _ (told (c .before .before .before .before .before .before .before .before .before .before .before .before .before .before .both-constant .ensures) (c .before .before .before .before .before .before .before .before .before .before .before .before .before .if1 .left)) (skip _ (told (c .before .before .before .before .before .before .before .before .before .before .before .before .is-the .ensures) (c .before .before .before .before .before .before .before .before .before .before .before .if2 .left)) (skip _ (told (c .before .before .before .before .before .before .before .before .before .before .is-the2 .ensures) (c .before .before .before .before .before .before .before .before .before .if3 .left)) (skip _ (told (c .before .before .before .before .before .before .before .before .with-second .ensures) (c .before .before .before .before .before .before .before .if4 .left)) (skip _ (told (c .before .before .before .before .before .before .with-second2 .ensures) (c .before .before .before .before .before .if5 .left)) (skip _ (told (c .before .before .before .before .only-neg .ensures) (c .before .before .before .if6 .left)) (into _ (told (c .before .before .only-neg2 .ensures) (c .before .if7 .taken)) (ap (HandOver (c .before .before .before .before .before .before .before .before .before .before .before .before .before .before .before .args .a)) (c .first-of4 .ensures))))))))
+returns-7 c =
+    let at-if7 = c .before in
+    let at-only-neg2 = at-if7 .before in
+    let at-if6 = at-only-neg2 .before in
+    let at-only-neg = at-if6 .before in
+    let at-if5 = at-only-neg .before in
+    let at-with-second2 = at-if5 .before in
+    let at-if4 = at-with-second2 .before in
+    let at-with-second = at-if4 .before in
+    let at-if3 = at-with-second .before in
+    let at-is-the2 = at-if3 .before in
+    let at-if2 = at-is-the2 .before in
+    let at-is-the = at-if2 .before in
+    let at-if1 = at-is-the .before in
+    let at-both-constant = at-if1 .before in
+    let start = at-both-constant .before in
+    skip _ (told (at-both-constant .both-constant .ensures) (at-if1 .if1 .left))
+    (skip _ (told (at-is-the .is-the .ensures) (at-if2 .if2 .left))
+    (skip _ (told (at-is-the2 .is-the2 .ensures) (at-if3 .if3 .left))
+    (skip _ (told (at-with-second .with-second .ensures) (at-if4 .if4 .left))
+    (skip _ (told (at-with-second2 .with-second2 .ensures) (at-if5 .if5 .left))
+    (skip _ (told (at-only-neg .only-neg .ensures) (at-if6 .if6 .left))
+    (into _ (told (at-only-neg2 .only-neg2 .ensures) (at-if7 .if7 .taken)) (ap (HandOver (start .args .a)) (c .first-of4 .ensures))))))))
 
 low-add-requires : tie.Need-low-add-requires
 low-add-requires c κs = search needs
 
 returns-8 : tie.Need-returns-8
 unfolding quad Steps.addRule Steps.isSub Steps.isAdd Steps.isNeg
-returns-8 c = skip _ (told (c .before .before .before .before .before .before .before .before .before .before .before .before .before .before .both-constant .ensures) (c .before .before .before .before .before .before .before .before .before .before .before .before .before .if1 .left)) (skip _ (told (c .before .before .before .before .before .before .before .before .before .before .before .before .is-the .ensures) (c .before .before .before .before .before .before .before .before .before .before .before .if2 .left)) (skip _ (told (c .before .before .before .before .before .before .before .before .before .before .is-the2 .ensures) (c .before .before .before .before .before .before .before .before .before .if3 .left)) (skip _ (told (c .before .before .before .before .before .before .before .before .with-second .ensures) (c .before .before .before .before .before .before .before .if4 .left)) (skip _ (told (c .before .before .before .before .before .before .with-second2 .ensures) (c .before .before .before .before .before .if5 .left)) (skip _ (told (c .before .before .before .before .only-neg .ensures) (c .before .before .before .if6 .left)) (skip _ (told (c .before .before .only-neg2 .ensures) (c .before .if7 .left)) (ap Make (c .low-add .ensures))))))))
+returns-8 c =
+    let at-if7 = c .before in
+    let at-only-neg2 = at-if7 .before in
+    let at-if6 = at-only-neg2 .before in
+    let at-only-neg = at-if6 .before in
+    let at-if5 = at-only-neg .before in
+    let at-with-second2 = at-if5 .before in
+    let at-if4 = at-with-second2 .before in
+    let at-with-second = at-if4 .before in
+    let at-if3 = at-with-second .before in
+    let at-is-the2 = at-if3 .before in
+    let at-if2 = at-is-the2 .before in
+    let at-is-the = at-if2 .before in
+    let at-if1 = at-is-the .before in
+    let at-both-constant = at-if1 .before in
+    skip _ (told (at-both-constant .both-constant .ensures) (at-if1 .if1 .left))
+    (skip _ (told (at-is-the .is-the .ensures) (at-if2 .if2 .left))
+    (skip _ (told (at-is-the2 .is-the2 .ensures) (at-if3 .if3 .left))
+    (skip _ (told (at-with-second .with-second .ensures) (at-if4 .if4 .left))
+    (skip _ (told (at-with-second2 .with-second2 .ensures) (at-if5 .if5 .left))
+    (skip _ (told (at-only-neg .only-neg .ensures) (at-if6 .if6 .left))
+    (skip _ (told (at-only-neg2 .only-neg2 .ensures) (at-if7 .if7 .left)) (ap Make (c .low-add .ensures))))))))
 
 pub add-rule-spec : {M : Type 1} → statement M
 add-rule-spec =

@@ -15,10 +15,20 @@ enum-told : tie.Need-enum-told
 enum-told c = search needs
 
 build-ready-requires : tie.Need-build-ready-requires
-build-ready-requires c κs = ready (c .before .before .before .before .before .before .before .before .args .list .now) (c .before .before .before .before .before .before .before .before .args .n) (c .before .before .before .before .before .before .before .before .args .root) (length (c .before .before .before .before .before .before .before .before .args .result .now)) (length (c .before .before .before .before .before .before .before .before .args .map .now)) (told (c .before .before .before .before .build-check .ensures) (c .before .before .enum-told .given .1))
+build-ready-requires c κs =
+    let at-enum-told = c .before .before in
+    let at-build-check = at-enum-told .before .before in
+    let start = at-build-check .before .before .before .before in
+    ready (start .args .list .now) (start .args .n) (start .args .root) (length (start .args .result .now)) (length (start .args .map .now))
+    (told (at-build-check .build-check .ensures) (at-enum-told .enum-told .given .1))
 
 returns : tie.Need-returns
-returns c = let h = build-refused (c .before .before .before .before .before .before .before .args .list .now) (c .before .before .before .before .before .before .before .args .n) (c .before .before .before .before .before .before .before .args .root) (c .before .before .before .before .before .before .before .args .result .now) (c .before .before .before .before .before .before .before .args .map .now) _ (told (c .before .before .before .build-check .ensures) (c .before .checked .given .1)) in (h .answer, (h .list-is, h .places-are))
+returns c =
+    let at-checked = c .before in
+    let at-build-check = at-checked .before .before in
+    let start = at-build-check .before .before .before .before in
+    let h = build-refused (start .args .list .now) (start .args .n) (start .args .root) (start .args .result .now) (start .args .map .now) _
+    (told (at-build-check .build-check .ensures) (at-checked .checked .given .1)) in (h .answer, (h .list-is, h .places-are))
 
 same-length : tie.Need-same-length
 same-length c = search needs
@@ -27,7 +37,14 @@ same-length-2 : tie.Need-same-length-2
 same-length-2 c = search needs
 
 returns-2 : tie.Need-returns-2
-returns-2 c = let h = build-done (c .before .before .before .before .before .before .before .before .before .before .before .before .before .args .list .now) (c .before .before .before .before .before .before .before .before .before .before .before .before .before .args .n) (c .before .before .before .before .before .before .before .before .before .before .before .before .before .args .root) (c .before .before .before .before .before .before .before .before .before .before .before .before .before .args .result .now) (c .before .before .before .before .before .before .before .before .before .before .before .before .before .args .map .now) _ _ _ (told (c .before .before .before .before .before .before .before .before .before .build-check .ensures) (c .before .before .before .before .before .before .before .enum-told .given .1)) (c .before .before .before .before .build-ready .ensures) in (h .answer, (h .list-is, h .places-are))
+returns-2 c =
+    let at-build-ready = c .before .before .before .before in
+    let at-enum-told = at-build-ready .before .before .before in
+    let at-build-check = at-enum-told .before .before in
+    let start = at-build-check .before .before .before .before in
+    let h = build-done (start .args .list .now) (start .args .n) (start .args .root) (start .args .result .now) (start .args .map .now) _ _ _
+    (told (at-build-check .build-check .ensures) (at-enum-told .enum-told .given .1)) (at-build-ready .build-ready .ensures) in
+    (h .answer, (h .list-is, h .places-are))
 
 pub build-spec : {M : Type 1} → statement M
 build-spec =

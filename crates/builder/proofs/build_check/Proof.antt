@@ -28,11 +28,23 @@ returns-2 c = rw (good-told (c .before .before .before .list-check .ensures) (c 
 
 returns-3 : tie.Need-returns-3
 unfolding Calls.buildCheck
-returns-3 c = rw (good-told (c .before .before .before .before .list-check .ensures) (c .before .before .before .is-refused .ensures) (c .before .before .if1 .left), le-leb _ _ (c .before .if2 .left)) (rw (lt-leb _ _ (c .if3 .taken)))
+returns-3 c =
+    let at-if2 = c .before in
+    let at-if1 = at-if2 .before in
+    let at-is-refused = at-if1 .before in
+    let at-list-check = at-is-refused .before in
+    rw (good-told (at-list-check .list-check .ensures) (at-is-refused .is-refused .ensures) (at-if1 .if1 .left), le-leb _ _ (at-if2 .if2 .left))
+    (rw (lt-leb _ _ (c .if3 .taken)))
 
 returns-4 : tie.Need-returns-4
 unfolding Calls.buildCheck
-returns-4 c = rw (good-told (c .before .before .before .before .list-check .ensures) (c .before .before .before .is-refused .ensures) (c .before .before .if1 .left), le-leb _ _ (c .before .if2 .left)) (rw (le-leb _ _ (c .if3 .left)))
+returns-4 c =
+    let at-if2 = c .before in
+    let at-if1 = at-if2 .before in
+    let at-is-refused = at-if1 .before in
+    let at-list-check = at-is-refused .before in
+    rw (good-told (at-list-check .list-check .ensures) (at-is-refused .is-refused .ensures) (at-if1 .if1 .left), le-leb _ _ (at-if2 .if2 .left))
+    (rw (le-leb _ _ (c .if3 .left)))
 
 pub build-check-spec : {M : Type 1} → statement M
 build-check-spec =

@@ -28,7 +28,14 @@ same-length-3 : tie.Need-same-length-3
 same-length-3 c = search needs
 
 returns : tie.Need-returns
-returns c = finished (c .before .before .before .before .before .before .before .before .before .before .before .before .before .before .before .before .before .before .before .before .before .before .before .before .args .list .now) (c .before .before .before .before .before .before .before .before .before .before .before .before .before .before .before .before .before .before .before .before .before .before .before .before .args .n) (c .before .before .before .before .before .before .before .before .before .before .before .before .before .before .before .before .before .before .before .before .before .before .before .before .args .root) (c .before .before .before .before .before .before .before .before .before .before .before .before .before .before .before .before .before .before .before .before .before .before .before .before .args .result .now) (c .before .before .before .before .before .before .before .before .before .before .before .before .before .before .before .before .before .before .before .before .before .before .before .before .args .map .now) (c .before .before .before .before .before .before .before .before .before .before .before .before .before .before .before .before .before .before .before .before .before .before .before .before .pre .0 .sound) (c .before .before .before .before .before .before .before .before .before .before .before .before .before .before .before .before .before .before .before .before .before .before .before .before .pre .0 .inside) _ _ _ (c .before .before .before .before .before .before .before .before .before .before .before .before .before .before .before .before .replay .ensures) (c .before .before .before .before .before .before .before .before .before .before .before .before .before .before .before .before .replay .kept .1 .1 .0) (c .before .before .before .before .before .before .before .before .before .before .before .before .before .before .before .before .replay .kept .1 .1 .1 .0) (c .before .before .before .before .before .before .before .before .before .before .before .before .before .before .before .before .before .before .before .before .before .before .before .before .pre .0 .map-room) _ _ _ (c .before .before .before .before .before .before .before .before .blank-from .ensures) (c .before .before .before .before .blank-from2 .ensures) (c .mapped .ensures)
+returns c =
+    let at-blank-from2 = c .before .before .before .before in
+    let at-blank-from = at-blank-from2 .before .before .before .before in
+    let at-replay = at-blank-from .before .before .before .before .before .before .before .before in
+    let start = at-replay .before .before .before .before .before .before .before .before in
+    finished (start .args .list .now) (start .args .n) (start .args .root) (start .args .result .now) (start .args .map .now) (start .pre .0 .sound)
+    (start .pre .0 .inside) _ _ _ (at-replay .replay .ensures) (at-replay .replay .kept .1 .1 .0) (at-replay .replay .kept .1 .1 .1 .0)
+    (start .pre .0 .map-room) _ _ _ (at-blank-from .blank-from .ensures) (at-blank-from2 .blank-from2 .ensures) (c .mapped .ensures)
 
 pub build-with-spec : {M : Type 1} → statement M
 build-with-spec =

@@ -18,7 +18,13 @@ same-requires c κs = search needs
 
 returns : tie.Need-returns
 unfolding Steps.isThe Steps.isConstant
-returns c = c .same .ensures ∙ (ap (λ e. same e (c .before .before .before .before .args .c)) (c .before .element .ensures) ∙ and-when (told (c .before .before .before .has-tag .ensures) (c .before .before .if1 .taken)))
+returns c =
+    let at-element = c .before in
+    let at-if1 = at-element .before in
+    let at-has-tag = at-if1 .before in
+    let start = at-has-tag .before in
+    c .same .ensures ∙ (ap (λ e. same e (start .args .c)) (at-element .element .ensures) ∙ and-when
+    (told (at-has-tag .has-tag .ensures) (at-if1 .if1 .taken)))
 
 returns-2 : tie.Need-returns-2
 unfolding Steps.isThe Steps.isConstant

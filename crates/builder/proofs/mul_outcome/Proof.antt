@@ -20,11 +20,23 @@ element-requires-2 : tie.Need-element-requires-2
 element-requires-2 c κs = search needs
 
 mul-requires : tie.Need-mul-requires
-mul-requires c κs = let h = and-true _ _ (told (c .before .before .before .both-constant .ensures) (c .before .before .if1 .taken)) in (rw (c .before .element .ensures) (c .before .before .before .before .pre .left (h .0)), rw (c .element2 .ensures) (c .before .before .before .before .pre .right (h .1)))
+mul-requires c κs =
+    let at-element = c .before in
+    let at-if1 = at-element .before in
+    let at-both-constant = at-if1 .before in
+    let start = at-both-constant .before in
+    let h = and-true _ _ (told (at-both-constant .both-constant .ensures) (at-if1 .if1 .taken)) in
+    (rw (at-element .element .ensures) (start .pre .left (h .0)), rw (c .element2 .ensures) (start .pre .right (h .1)))
 
 returns : tie.Need-returns
 unfolding quad Steps.mulOutcome
-returns c = into _ (told (c .before .before .before .before .both-constant .ensures) (c .before .before .before .if1 .taken)) (ap (λ e. Node (Constant e)) (c .mul .ensures .0 ∙ ap₂ (quad .mul) (c .before .before .element .ensures) (c .before .element2 .ensures)))
+returns c =
+    let at-element2 = c .before in
+    let at-element = at-element2 .before in
+    let at-if1 = at-element .before in
+    let at-both-constant = at-if1 .before in
+    into _ (told (at-both-constant .both-constant .ensures) (at-if1 .if1 .taken))
+    (ap (λ e. Node (Constant e)) (c .mul .ensures .0 ∙ ap₂ (quad .mul) (at-element .element .ensures) (at-element2 .element2 .ensures)))
 
 is-the-requires : tie.Need-is-the-requires
 is-the-requires c κs = search needs
@@ -38,28 +50,71 @@ is-the-requires-2 c κs = search needs
 
 returns-3 : tie.Need-returns-3
 unfolding quad Steps.mulOutcome
-returns-3 c = skip _ (told (c .before .before .before .before .before .both-constant .ensures) (c .before .before .before .before .if1 .left)) (into _ (or-second (told (c .before .before .before .is-the .ensures) (c .before .before .if2 .left)) (told (c .before .is-the2 .ensures) (c .if3 .taken))) (refl))
+returns-3 c =
+    let at-is-the2 = c .before in
+    let at-if2 = at-is-the2 .before in
+    let at-is-the = at-if2 .before in
+    let at-if1 = at-is-the .before in
+    let at-both-constant = at-if1 .before in
+    skip _ (told (at-both-constant .both-constant .ensures) (at-if1 .if1 .left))
+    (into _ (or-second (told (at-is-the .is-the .ensures) (at-if2 .if2 .left)) (told (at-is-the2 .is-the2 .ensures) (c .if3 .taken))) (refl))
 
 is-the-requires-3 : tie.Need-is-the-requires-3
 is-the-requires-3 c κs = search needs
 
 returns-4 : tie.Need-returns-4
 unfolding quad Steps.mulOutcome
-returns-4 c = skip _ (told (c .before .before .before .before .before .before .before .both-constant .ensures) (c .before .before .before .before .before .before .if1 .left)) (skip _ (or-none (told (c .before .before .before .before .before .is-the .ensures) (c .before .before .before .before .if2 .left)) (told (c .before .before .before .is-the2 .ensures) (c .before .before .if3 .left))) (into _ (told (c .before .is-the3 .ensures) (c .if4 .taken)) (refl)))
+returns-4 c =
+    let at-is-the3 = c .before in
+    let at-if3 = at-is-the3 .before in
+    let at-is-the2 = at-if3 .before in
+    let at-if2 = at-is-the2 .before in
+    let at-is-the = at-if2 .before in
+    let at-if1 = at-is-the .before in
+    let at-both-constant = at-if1 .before in
+    skip _ (told (at-both-constant .both-constant .ensures) (at-if1 .if1 .left))
+    (skip _ (or-none (told (at-is-the .is-the .ensures) (at-if2 .if2 .left)) (told (at-is-the2 .is-the2 .ensures) (at-if3 .if3 .left)))
+    (into _ (told (at-is-the3 .is-the3 .ensures) (c .if4 .taken)) (refl)))
 
 is-the-requires-4 : tie.Need-is-the-requires-4
 is-the-requires-4 c κs = search needs
 
 returns-5 : tie.Need-returns-5
 unfolding quad Steps.mulOutcome
-returns-5 c = skip _ (told (c .before .before .before .before .before .before .before .before .before .both-constant .ensures) (c .before .before .before .before .before .before .before .before .if1 .left)) (skip _ (or-none (told (c .before .before .before .before .before .before .before .is-the .ensures) (c .before .before .before .before .before .before .if2 .left)) (told (c .before .before .before .before .before .is-the2 .ensures) (c .before .before .before .before .if3 .left))) (skip _ (told (c .before .before .before .is-the3 .ensures) (c .before .before .if4 .left)) (into _ (told (c .before .is-the4 .ensures) (c .if5 .taken)) (refl))))
+returns-5 c =
+    let at-is-the4 = c .before in
+    let at-if4 = at-is-the4 .before in
+    let at-is-the3 = at-if4 .before in
+    let at-if3 = at-is-the3 .before in
+    let at-is-the2 = at-if3 .before in
+    let at-if2 = at-is-the2 .before in
+    let at-is-the = at-if2 .before in
+    let at-if1 = at-is-the .before in
+    let at-both-constant = at-if1 .before in
+    skip _ (told (at-both-constant .both-constant .ensures) (at-if1 .if1 .left))
+    (skip _ (or-none (told (at-is-the .is-the .ensures) (at-if2 .if2 .left)) (told (at-is-the2 .is-the2 .ensures) (at-if3 .if3 .left)))
+    (skip _ (told (at-is-the3 .is-the3 .ensures) (at-if4 .if4 .left)) (into _ (told (at-is-the4 .is-the4 .ensures) (c .if5 .taken)) (refl))))
 
 low-mul-requires : tie.Need-low-mul-requires
 low-mul-requires c κs = search needs
 
 returns-6 : tie.Need-returns-6
 unfolding quad Steps.mulOutcome
-returns-6 c = skip _ (told (c .before .before .before .before .before .before .before .before .before .before .both-constant .ensures) (c .before .before .before .before .before .before .before .before .before .if1 .left)) (skip _ (or-none (told (c .before .before .before .before .before .before .before .before .is-the .ensures) (c .before .before .before .before .before .before .before .if2 .left)) (told (c .before .before .before .before .before .before .is-the2 .ensures) (c .before .before .before .before .before .if3 .left))) (skip _ (told (c .before .before .before .before .is-the3 .ensures) (c .before .before .before .if4 .left)) (skip _ (told (c .before .before .is-the4 .ensures) (c .before .if5 .left)) (ap Node (c .low-mul .ensures)))))
+returns-6 c =
+    let at-if5 = c .before in
+    let at-is-the4 = at-if5 .before in
+    let at-if4 = at-is-the4 .before in
+    let at-is-the3 = at-if4 .before in
+    let at-if3 = at-is-the3 .before in
+    let at-is-the2 = at-if3 .before in
+    let at-if2 = at-is-the2 .before in
+    let at-is-the = at-if2 .before in
+    let at-if1 = at-is-the .before in
+    let at-both-constant = at-if1 .before in
+    skip _ (told (at-both-constant .both-constant .ensures) (at-if1 .if1 .left))
+    (skip _ (or-none (told (at-is-the .is-the .ensures) (at-if2 .if2 .left)) (told (at-is-the2 .is-the2 .ensures) (at-if3 .if3 .left)))
+    (skip _ (told (at-is-the3 .is-the3 .ensures) (at-if4 .if4 .left))
+    (skip _ (told (at-is-the4 .is-the4 .ensures) (at-if5 .if5 .left)) (ap Node (c .low-mul .ensures)))))
 
 pub mul-outcome-spec : {M : Type 1} → statement M
 mul-outcome-spec =

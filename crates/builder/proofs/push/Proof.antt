@@ -37,7 +37,12 @@ same-length-2 : tie.Need-same-length-2
 same-length-2 c = search needs
 
 returns : tie.Need-returns
-returns c = noted-place (c .before .before .before .before .before .before .before .before .args .list .now) (c .before .before .before .before .before .before .before .before .args .n) (c .before .before .before .before .before .before .before .before .args .x) (c .before .before .before .before .before .before .before .before .pre .0) _ _ _ (c .before .before .before .resolve .ensures) (c .before .result .given .1) (c .before .before .before .before .before .before .before .before .pre .1)
+returns c =
+    let at-result = c .before in
+    let at-resolve = at-result .before .before in
+    let start = at-resolve .before .before .before .before .before in
+    noted-place (start .args .list .now) (start .args .n) (start .args .x) (start .pre .0) _ _ _ (at-resolve .resolve .ensures)
+    (at-result .result .given .1) (start .pre .1)
 
 same-length-3 : tie.Need-same-length-3
 same-length-3 c = search needs
@@ -46,7 +51,18 @@ same-length-4 : tie.Need-same-length-4
 same-length-4 c = search needs
 
 returns-2 : tie.Need-returns-2
-returns-2 c = noted-node (c .before .before .before .before .before .before .before .before .before .before .before .before .before .before .before .before .before .before .before .args .list .now) (c .before .before .before .before .before .before .before .before .before .before .before .before .before .before .before .before .before .before .before .args .n) (c .before .before .before .before .before .before .before .before .before .before .before .before .before .before .before .before .before .before .before .args .x) (c .before .before .before .before .before .before .before .before .before .before .before .before .before .before .before .before .before .before .before .pre .0) _ _ _ _ _ _ _ _ (c .before .before .before .before .before .before .before .before .before .before .before .before .before .before .resolve .ensures) (c .before .before .before .before .before .before .before .before .before .before .before .before .result2 .given .1) (c .before .before .before .before .before .before .before .before .before .put-node .ensures) (c .before .before .before .before .before .before .before .before .before .before .before .before .before .before .before .before .before .before .before .pre .1) (c .before .before .before .before .before .tag-of .ensures) (c .before .before .before .before .first-of .ensures) (c .before .before .before .second-of .ensures) (c .before .before .note .ensures)
+returns-2 c =
+    let at-note = c .before .before in
+    let at-second-of = at-note .before in
+    let at-first-of = at-second-of .before in
+    let at-tag-of = at-first-of .before in
+    let at-put-node = at-tag-of .before .before .before .before in
+    let at-result2 = at-put-node .before .before .before in
+    let at-resolve = at-result2 .before .before in
+    let start = at-resolve .before .before .before .before .before in
+    noted-node (start .args .list .now) (start .args .n) (start .args .x) (start .pre .0) _ _ _ _ _ _ _ _ (at-resolve .resolve .ensures)
+    (at-result2 .result2 .given .1) (at-put-node .put-node .ensures) (start .pre .1) (at-tag-of .tag-of .ensures) (at-first-of .first-of .ensures)
+    (at-second-of .second-of .ensures) (at-note .note .ensures)
 
 pub push-spec : {M : Type 1} → statement M
 push-spec =

@@ -29,30 +29,86 @@ unfolding Steps.replay Nodes.nodes
 loop-holds c = (omega arith, refl, refl, holds-nothing _ _, refl, (c .before .before .clear .ensures))
 
 node-at-requires : tie.Need-node-at-requires Inv-loop μ-loop
-node-at-requires c κs = omega (arith, (c .before .before .before .before .before .before .before .before .before .before .before .pre .0 .room), (c .before .loop-test .taken))
+node-at-requires c κs =
+    let at-loop-test = c .before in
+    let start = at-loop-test .before .before .before .before .before .before .before .before .before .before in
+    omega (arith, (start .pre .0 .room), (at-loop-test .loop-test .taken))
 
 renamed-requires : tie.Need-renamed-requires Inv-loop μ-loop
-renamed-requires c κs = fine-any Below _ _ (turn-fine (Nodes.nodes (c .before .before .before .before .before .before .before .before .before .before .before .before .args .list .now) (c .before .before .before .before .before .before .before .before .before .before .before .before .args .n)) (list-fine (c .before .before .before .before .before .before .before .before .before .before .before .before .args .list .now) (c .before .before .before .before .before .before .before .before .before .before .before .before .args .n) (c .before .before .before .before .before .before .before .before .before .before .before .before .pre .0)) (c .before .before .before .loop .i) _ _ (omega (arith, (c .before .before .before .before .before .before .before .before .before .before .before .before .pre .2), (c .before .before .before .loop .inv .2), (c .before .before .loop-test .taken))) ((c .node-at .ensures) ∙ sym (at-nodes _ _ _ (c .before .before .loop-test .taken))))
+renamed-requires c κs =
+    let at-loop-test = c .before .before in
+    let at-loop = at-loop-test .before in
+    let start = at-loop .before .before .before .before .before .before .before .before .before in
+    fine-any Below _ _ (turn-fine (Nodes.nodes (start .args .list .now) (start .args .n))
+    (list-fine (start .args .list .now) (start .args .n) (start .pre .0)) (at-loop .loop .i) _ _
+    (omega (arith, (start .pre .2), (at-loop .loop .inv .2), (at-loop-test .loop-test .taken)))
+    ((c .node-at .ensures) ∙ sym (at-nodes _ _ _ (at-loop-test .loop-test .taken))))
 
 push-requires : tie.Need-push-requires Inv-loop μ-loop
 push-requires c κs =
-    let h = turn-short (Nodes.nodes (c .before .before .before .before .before .before .before .before .before .before .before .before .before .before .before .args .list .now) (c .before .before .before .before .before .before .before .before .before .before .before .before .before .before .before .args .n)) (list-fine (c .before .before .before .before .before .before .before .before .before .before .before .before .before .before .before .args .list .now) (c .before .before .before .before .before .before .before .before .before .before .before .before .before .before .before .args .n) (c .before .before .before .before .before .before .before .before .before .before .before .before .before .before .before .pre .0)) (c .before .before .before .before .before .before .loop .i) (c .before .before .before .before .before .before .loop .result) (c .before .before .before .before .before .before .loop .map) (c .before .before .before .before .before .before .loop .count) (c .before .before .before .before .before .before .loop .inv .3) in
-    (rw (c .before .before .renamed .ensures) (turn-request (Nodes.nodes (c .before .before .before .before .before .before .before .before .before .before .before .before .before .before .before .args .list .now) (c .before .before .before .before .before .before .before .before .before .before .before .before .before .before .before .args .n)) (list-fine (c .before .before .before .before .before .before .before .before .before .before .before .before .before .before .before .args .list .now) (c .before .before .before .before .before .before .before .before .before .before .before .before .before .before .before .args .n) (c .before .before .before .before .before .before .before .before .before .before .before .before .before .before .before .pre .0)) (c .before .before .before .before .before .before .loop .i) (c .before .before .before .before .before .before .loop .result) (c .before .before .before .before .before .before .loop .map) (c .before .before .before .before .before .before .loop .count) (c .before .before .before .before .before .before .loop .inv .3) _ ((c .before .before .before .node-at .ensures) ∙ sym (at-nodes _ _ _ (c .before .before .before .before .before .loop-test .taken)))), record { room = omega (arith, h, (c .before .before .before .before .before .before .before .before .before .before .before .before .before .before .before .pre .1), (c .before .before .before .before .before .before .loop .inv .1), (c .before .before .before .before .before .loop-test .taken)); index = (c .before .before .before .before .before .before .loop .inv .5); link-room = rw ((c .before .before .before .before .before .before .loop .inv .4), (c .before .before .before .before .before .before .before .before .before .clear .kept .0)) (omega (arith, h, (c .before .before .before .before .before .before .before .before .before .before .before .before .before .before .before .pre .4), (c .before .before .before .before .before .loop-test .taken))) })
+    let at-renamed = c .before .before in
+    let at-node-at = at-renamed .before in
+    let at-loop-test = at-node-at .before .before in
+    let at-loop = at-loop-test .before in
+    let at-clear = at-loop .before .before .before in
+    let start = at-clear .before .before .before .before .before .before in
+    let h = turn-short (Nodes.nodes (start .args .list .now) (start .args .n)) (list-fine (start .args .list .now) (start .args .n) (start .pre .0))
+    (at-loop .loop .i) (at-loop .loop .result) (at-loop .loop .map) (at-loop .loop .count) (at-loop .loop .inv .3) in (
+      rw (at-renamed .renamed .ensures) (turn-request (Nodes.nodes (start .args .list .now) (start .args .n))
+          (list-fine (start .args .list .now) (start .args .n) (start .pre .0)) (at-loop .loop .i) (at-loop .loop .result) (at-loop .loop .map)
+          (at-loop .loop .count) (at-loop .loop .inv .3) _ ((at-node-at .node-at .ensures) ∙ sym (at-nodes _ _ _ (at-loop-test .loop-test .taken)))),
+      record {
+        room = omega (arith, h, (start .pre .1), (at-loop .loop .inv .1), (at-loop-test .loop-test .taken));
+        index = (at-loop .loop .inv .5);
+        link-room = rw ((at-loop .loop .inv .4), (at-clear .clear .kept .0)) (omega (arith, h, (start .pre .4), (at-loop-test .loop-test .taken)));
+      },
+    )
 
 mul-map : tie.Need-mul-map Inv-loop μ-loop
-mul-map c = omega (arith, (c .before .before .before .before .before .before .before .before .before .before .before .before .before .before .before .before .before .before .before .before .good .1 .1 .1 .0 .1), (c .before .before .before .before .before .before .before .before .before .before .before .before .before .before .before .before .before .before .before .before .pre .2), (c .before .before .before .before .before .before .before .before .before .before .loop-test .taken))
+mul-map c =
+    let at-loop-test = c .before .before .before .before .before .before .before .before .before .before in
+    let start = at-loop-test .before .before .before .before .before .before .before .before .before .before in
+    omega (arith, (start .good .1 .1 .1 .0 .1), (start .pre .2), (at-loop-test .loop-test .taken))
 
 slice-write-map : tie.Need-slice-write-map Inv-loop μ-loop
-slice-write-map c = omega (arith, (c .before .before .before .before .before .before .before .before .before .before .before .before .before .before .before .before .before .before .before .before .pre .2), (c .before .before .before .before .before .before .before .before .before .before .loop-test .taken), (c .before .before .before .before .before .before .before .before .before .before .before .loop .inv .2))
+slice-write-map c =
+    let at-loop-test = c .before .before .before .before .before .before .before .before .before .before in
+    let at-loop = at-loop-test .before in
+    let start = at-loop .before .before .before .before .before .before .before .before .before in
+    omega (arith, (start .pre .2), (at-loop-test .loop-test .taken), (at-loop .loop .inv .2))
 
 add-i : tie.Need-add-i Inv-loop μ-loop
-add-i c = omega (arith, (c .before .before .before .before .before .before .before .before .before .before .before .before .before .before .before .before .before .before .before .before .good .1 .1 .1 .0 .0), (c .before .before .before .before .before .before .before .before .before .before .before .before .before .before .before .before .before .before .before .before .pre .2), (c .before .before .before .before .before .before .before .before .before .before .loop-test .taken))
+add-i c =
+    let at-loop-test = c .before .before .before .before .before .before .before .before .before .before in
+    let start = at-loop-test .before .before .before .before .before .before .before .before .before .before in
+    omega (arith, (start .good .1 .1 .1 .0 .0), (start .pre .2), (at-loop-test .loop-test .taken))
 
 loop-less : tie.Need-loop-less Inv-loop μ-loop
-loop-less c = omega (arith, (c .before .before .before .before .before .before .before .before .before .before .loop-test .taken))
+loop-less c =
+    let at-loop-test = c .before .before .before .before .before .before .before .before .before .before in
+    omega (arith, (at-loop-test .loop-test .taken))
 
 loop-again : tie.Need-loop-again Inv-loop μ-loop
-loop-again c = (omega (arith, (c .before .before .before .before .before .before .before .before .before .before .loop-test .taken)), (c .before .before .before .before .push .ensures .pushed .kept) ∙ (c .before .before .before .before .before .before .before .before .before .before .before .loop .inv .1), simp length-set (c .before .before .before .before .before .before .before .before .before .before .before .loop .inv .2), turn-holds (Nodes.nodes (c .before .before .before .before .before .before .before .before .before .before .before .before .before .before .before .before .before .before .before .before .args .list .now) (c .before .before .before .before .before .before .before .before .before .before .before .before .before .before .before .before .before .before .before .before .args .n)) (list-fine (c .before .before .before .before .before .before .before .before .before .before .before .before .before .before .before .before .before .before .before .before .args .list .now) (c .before .before .before .before .before .before .before .before .before .before .before .before .before .before .before .before .before .before .before .before .args .n) (c .before .before .before .before .before .before .before .before .before .before .before .before .before .before .before .before .before .before .before .before .pre .0)) (c .before .before .before .before .before .before .before .before .before .before .before .loop .i) (c .before .before .before .before .before .before .before .before .before .before .before .loop .result) (c .before .before .before .before .before .before .before .before .before .before .before .loop .map) (c .before .before .before .before .before .before .before .before .before .before .before .loop .count) (c .before .before .before .before .before .before .before .before .before .before .before .loop .inv .3) _ _ _ ((c .before .before .before .before .before .before .before .before .node-at .ensures) ∙ sym (at-nodes _ _ _ (c .before .before .before .before .before .before .before .before .before .before .loop-test .taken))) (rw (c .before .before .before .before .before .before .before .renamed .ensures) at (c .before .before .before .before .push .ensures .pushed)) (omega (arith, (c .before .before .before .before .before .before .before .before .before .before .before .before .before .before .before .before .before .before .before .before .pre .2), (c .before .before .before .before .before .before .before .before .before .before .loop-test .taken), (c .before .before .before .before .before .before .before .before .before .before .before .loop .inv .2))), (c .before .before .before .before .push .kept .1 .1 .0) ∙ (c .before .before .before .before .before .before .before .before .before .before .before .loop .inv .4), (c .before .before .before .before .push .ensures .index))
+loop-again c =
+    let at-push = c .before .before .before .before in
+    let at-renamed = at-push .before .before .before in
+    let at-node-at = at-renamed .before in
+    let at-loop-test = at-node-at .before .before in
+    let at-loop = at-loop-test .before in
+    let start = at-loop .before .before .before .before .before .before .before .before .before in (
+      omega (arith, (at-loop-test .loop-test .taken)),
+      (at-push .push .ensures .pushed .kept) ∙ (at-loop .loop .inv .1),
+      simp length-set
+          (at-loop .loop .inv .2),
+      turn-holds (Nodes.nodes (start .args .list .now) (start .args .n))
+          (list-fine (start .args .list .now) (start .args .n) (start .pre .0)) (at-loop .loop .i) (at-loop .loop .result) (at-loop .loop .map)
+          (at-loop .loop .count) (at-loop .loop .inv .3) _ _ _ ((at-node-at .node-at .ensures) ∙ sym (at-nodes _ _ _ (at-loop-test .loop-test .taken)))
+          (rw (at-renamed .renamed .ensures) at (at-push .push .ensures .pushed))
+          (omega (arith, (start .pre .2), (at-loop-test .loop-test .taken), (at-loop .loop .inv .2))),
+      (at-push .push .kept .1 .1 .0) ∙
+          (at-loop .loop .inv .4),
+      (at-push .push .ensures .index),
+    )
 
 same-length : tie.Need-same-length Inv-loop μ-loop
 same-length c = (c .before .loop .inv .1)

@@ -16,52 +16,102 @@ enum-known-x-3 : tie.Need-enum-known-x-3
 enum-known-x-3 c = search needs
 
 add-outcome-requires : tie.Need-add-outcome-requires
-add-outcome-requires c κs = asks-add (c .before .before .before .before .args .list .now) (c .before .before .before .before .args .n) (c .before .before .before .before .args .x) (c .before .before .before .before .pre) _ _ (c .before .x3 .given .1)
+add-outcome-requires c κs =
+    let at-x3 = c .before in
+    let start = at-x3 .before .before .before in
+    asks-add (start .args .list .now) (start .args .n) (start .args .x) (start .pre) _ _ (at-x3 .x3 .given .1)
 
 enum-known-x-4 : tie.Need-enum-known-x-4
 enum-known-x-4 c = search needs
 
 sub-outcome-requires : tie.Need-sub-outcome-requires
-sub-outcome-requires c κs = asks-sub (c .before .before .before .before .args .list .now) (c .before .before .before .before .args .n) (c .before .before .before .before .args .x) (c .before .before .before .before .pre) _ _ (c .before .x4 .given .1)
+sub-outcome-requires c κs =
+    let at-x4 = c .before in
+    let start = at-x4 .before .before .before in
+    asks-sub (start .args .list .now) (start .args .n) (start .args .x) (start .pre) _ _ (at-x4 .x4 .given .1)
 
 enum-known-x-5 : tie.Need-enum-known-x-5
 enum-known-x-5 c = search needs
 
 node-at-requires : tie.Need-node-at-requires
-node-at-requires c κs = let h = asks-mul (c .before .before .before .before .args .list .now) (c .before .before .before .before .args .n) (c .before .before .before .before .args .x) (c .before .before .before .before .pre) _ _ (c .before .x5 .given .1) in omega (arith, h .left-inside, h .sound .room)
+node-at-requires c κs =
+    let at-x5 = c .before in
+    let start = at-x5 .before .before .before in
+    let h = asks-mul (start .args .list .now) (start .args .n) (start .args .x) (start .pre) _ _ (at-x5 .x5 .given .1) in omega
+    (arith, h .left-inside, h .sound .room)
 
 node-at-requires-2 : tie.Need-node-at-requires-2
-node-at-requires-2 c κs = let h = asks-mul (c .before .before .before .before .before .args .list .now) (c .before .before .before .before .before .args .n) (c .before .before .before .before .before .args .x) (c .before .before .before .before .before .pre) _ _ (c .before .before .x5 .given .1) in omega (arith, h .right-inside, h .sound .room)
+node-at-requires-2 c κs =
+    let at-x5 = c .before .before in
+    let start = at-x5 .before .before .before in
+    let h = asks-mul (start .args .list .now) (start .args .n) (start .args .x) (start .pre) _ _ (at-x5 .x5 .given .1) in omega
+    (arith, h .right-inside, h .sound .room)
 
 mul-outcome-requires : tie.Need-mul-outcome-requires
-mul-outcome-requires c κs = operands-below (c .before .before .before .before .before .before .args .list .now) (c .before .before .before .before .before .before .args .n) _ _ (asks-mul (c .before .before .before .before .before .before .args .list .now) (c .before .before .before .before .before .before .args .n) (c .before .before .before .before .before .before .args .x) (c .before .before .before .before .before .before .pre) _ _ (c .before .before .before .x5 .given .1)) _ _ (c .before .node-at .ensures) (c .node-at2 .ensures) (Use 0)
+mul-outcome-requires c κs =
+    let at-node-at = c .before in
+    let at-x5 = at-node-at .before .before in
+    let start = at-x5 .before .before .before in
+    operands-below (start .args .list .now) (start .args .n) _ _ (asks-mul (start .args .list .now) (start .args .n) (start .args .x) (start .pre) _ _
+    (at-x5 .x5 .given .1)) _ _ (at-node-at .node-at .ensures) (c .node-at2 .ensures) (Use 0)
 
 enum-known-x-6 : tie.Need-enum-known-x-6
 enum-known-x-6 c = search needs
 
 node-at-requires-3 : tie.Need-node-at-requires-3
-node-at-requires-3 c κs = let h = asks-neg (c .before .before .before .before .args .list .now) (c .before .before .before .before .args .n) (c .before .before .before .before .args .x) (c .before .before .before .before .pre) _ (c .before .x6 .given .1) in omega (arith, c .before .before .before .before .pre .sound .room, h)
+node-at-requires-3 c κs =
+    let at-x6 = c .before in
+    let start = at-x6 .before .before .before in
+    let h = asks-neg (start .args .list .now) (start .args .n) (start .args .x) (start .pre) _ (at-x6 .x6 .given .1) in omega
+    (arith, start .pre .sound .room, h)
 
 neg-outcome-requires : tie.Need-neg-outcome-requires
-neg-outcome-requires c κs = at-below (c .before .before .before .before .before .args .list .now) (c .before .before .before .before .before .args .n) (c .before .before .before .before .before .pre .sound) _ _ (asks-neg (c .before .before .before .before .before .args .list .now) (c .before .before .before .before .before .args .n) (c .before .before .before .before .before .args .x) (c .before .before .before .before .before .pre) _ (c .before .before .x6 .given .1)) (c .node-at3 .ensures)
+neg-outcome-requires c κs =
+    let at-x6 = c .before .before in
+    let start = at-x6 .before .before .before in
+    at-below (start .args .list .now) (start .args .n) (start .pre .sound) _ _
+    (asks-neg (start .args .list .now) (start .args .n) (start .args .x) (start .pre) _ (at-x6 .x6 .given .1)) (c .node-at3 .ensures)
 
 returns : tie.Need-returns
-returns c = input-outcome (c .before .before .before .before .args .list .now) (c .before .before .before .before .args .n) (c .before .before .before .before .args .x) (c .before .before .before .before .pre) _ (c .before .x .given .1)
+returns c =
+    let at-x = c .before in
+    let start = at-x .before .before .before in
+    input-outcome (start .args .list .now) (start .args .n) (start .args .x) (start .pre) _ (at-x .x .given .1)
 
 returns-2 : tie.Need-returns-2
-returns-2 c = constant-outcome (c .before .before .before .before .args .list .now) (c .before .before .before .before .args .n) (c .before .before .before .before .args .x) (c .before .before .before .before .pre) _ (c .before .x2 .given .1)
+returns-2 c =
+    let at-x2 = c .before in
+    let start = at-x2 .before .before .before in
+    constant-outcome (start .args .list .now) (start .args .n) (start .args .x) (start .pre) _ (at-x2 .x2 .given .1)
 
 returns-3 : tie.Need-returns-3
-returns-3 c = add-outcome (c .before .before .before .before .before .args .list .now) (c .before .before .before .before .before .args .n) (c .before .before .before .before .before .args .x) (c .before .before .before .before .before .pre) _ _ _ (c .before .before .x3 .given .1) (c .add-outcome .ensures)
+returns-3 c =
+    let at-x3 = c .before .before in
+    let start = at-x3 .before .before .before in
+    add-outcome (start .args .list .now) (start .args .n) (start .args .x) (start .pre) _ _ _ (at-x3 .x3 .given .1) (c .add-outcome .ensures)
 
 returns-4 : tie.Need-returns-4
-returns-4 c = sub-outcome (c .before .before .before .before .before .args .list .now) (c .before .before .before .before .before .args .n) (c .before .before .before .before .before .args .x) (c .before .before .before .before .before .pre) _ _ _ (c .before .before .x4 .given .1) (c .sub-outcome .ensures)
+returns-4 c =
+    let at-x4 = c .before .before in
+    let start = at-x4 .before .before .before in
+    sub-outcome (start .args .list .now) (start .args .n) (start .args .x) (start .pre) _ _ _ (at-x4 .x4 .given .1) (c .sub-outcome .ensures)
 
 returns-5 : tie.Need-returns-5
-returns-5 c = mul-outcome (c .before .before .before .before .before .before .before .args .list .now) (c .before .before .before .before .before .before .before .args .n) (c .before .before .before .before .before .before .before .args .x) (c .before .before .before .before .before .before .before .pre) _ _ _ _ _ (c .before .before .before .before .x5 .given .1) (c .before .before .node-at .ensures) (c .before .node-at2 .ensures) (c .mul-outcome .ensures)
+returns-5 c =
+    let at-node-at2 = c .before in
+    let at-node-at = at-node-at2 .before in
+    let at-x5 = at-node-at .before .before in
+    let start = at-x5 .before .before .before in
+    mul-outcome (start .args .list .now) (start .args .n) (start .args .x) (start .pre) _ _ _ _ _ (at-x5 .x5 .given .1) (at-node-at .node-at .ensures)
+    (at-node-at2 .node-at2 .ensures) (c .mul-outcome .ensures)
 
 returns-6 : tie.Need-returns-6
-returns-6 c = neg-outcome (c .before .before .before .before .before .before .args .list .now) (c .before .before .before .before .before .before .args .n) (c .before .before .before .before .before .before .args .x) (c .before .before .before .before .before .before .pre) _ _ _ (c .before .before .before .x6 .given .1) (c .before .node-at3 .ensures) (c .neg-outcome .ensures)
+returns-6 c =
+    let at-node-at3 = c .before in
+    let at-x6 = at-node-at3 .before .before in
+    let start = at-x6 .before .before .before in
+    neg-outcome (start .args .list .now) (start .args .n) (start .args .x) (start .pre) _ _ _ (at-x6 .x6 .given .1) (at-node-at3 .node-at3 .ensures)
+    (c .neg-outcome .ensures)
 
 pub request-outcome-spec : {M : Type 1} → statement M
 request-outcome-spec =

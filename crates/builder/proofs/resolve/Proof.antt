@@ -22,7 +22,12 @@ returns : tie.Need-returns
 returns c = resolved-place _ _ _ _ _ (c .before .before .before .request-outcome .ensures) (c .before .first .given .1)
 
 returns-2 : tie.Need-returns-2
-returns-2 c = resolved-found _ _ _ _ _ _ _ (c .before .before .before .before .before .request-outcome .ensures) (c .before .before .before .first2 .given .1) (c .before .find .ensures) (c .found-or-new .ensures)
+returns-2 c =
+    let at-find = c .before in
+    let at-first2 = at-find .before .before in
+    let at-request-outcome = at-first2 .before .before in
+    resolved-found _ _ _ _ _ _ _ (at-request-outcome .request-outcome .ensures) (at-first2 .first2 .given .1) (at-find .find .ensures)
+    (c .found-or-new .ensures)
 
 pub resolve-spec : {M : Type 1} → statement M
 resolve-spec =

@@ -41,10 +41,15 @@ mul-requires : tie.Need-mul-requires Inv-loop μ-loop
 mul-requires c κs = (c .before .before .sums .ensures .low .at _, c .before .before .before .size-inverse .ensures .1)
 
 mul-coefficients : tie.Need-mul-coefficients Inv-loop μ-loop
-mul-coefficients c = omega (arith, c .before .before .before .before .before .before .pre .short)
+mul-coefficients c =
+    let start = c .before .before .before .before .before .before in
+    omega (arith, start .pre .short)
 
 array-write-coefficients : tie.Need-array-write-coefficients Inv-loop μ-loop
-array-write-coefficients c = lt-of-lt-of-le (c .before .loop-test .taken) (c .before .before .before .before .before .before .pre .short)
+array-write-coefficients c =
+    let at-loop-test = c .before in
+    let start = at-loop-test .before .before .before .before .before in
+    lt-of-lt-of-le (at-loop-test .loop-test .taken) (start .pre .short)
 
 add-j : tie.Need-add-j Inv-loop μ-loop
 add-j c = omega arith
@@ -54,8 +59,14 @@ loop-less c = omega arith
 
 loop-again : tie.Need-loop-again Inv-loop μ-loop
 loop-again c =
-    let told = dense-told _ (c .before .before .before .before .before .before .pre) _ _ _ _ _ (c .before .loop-test .taken) (c .before .before .before .sums .ensures) refl (c .before .before .before .before .size-inverse .ensures .0) (c .mul .ensures .0) in
-    (omega arith, fill-next _ _ _ _ _ _ (lt-of-lt-of-le (c .before .loop-test .taken) (c .before .before .before .before .before .before .pre .short)) (c .before .before .loop .inv .1) told)
+    let at-loop-test = c .before in
+    let at-loop = at-loop-test .before in
+    let at-sums = at-loop .before in
+    let at-size-inverse = at-sums .before in
+    let start = at-size-inverse .before .before in
+    let told = dense-told _ (start .pre) _ _ _ _ _ (at-loop-test .loop-test .taken) (at-sums .sums .ensures) refl
+    (at-size-inverse .size-inverse .ensures .0) (c .mul .ensures .0) in
+    (omega arith, fill-next _ _ _ _ _ _ (lt-of-lt-of-le (at-loop-test .loop-test .taken) (start .pre .short)) (at-loop .loop .inv .1) told)
 
 returns : tie.Need-returns Inv-loop μ-loop
 unfolding Arrays.coefficients

@@ -44,16 +44,37 @@ mul-join-row-3 : tie.Need-mul-join-row-3 Inv-loop μ-loop
 mul-join-row-3 c = omega (arith, row-fits _ _ _ (c .before .before .before .before .before .pre .3) (c .before .before .before .loop-test .taken))
 
 join-row-requires : tie.Need-join-row-requires Inv-loop μ-loop
-join-row-requires c κs = (c .before .before .before .before .before .pre .0, c .before .before .before .before .loop .inv .1 .low, c .before .before .before .before .before .pre .1 .at _, round-fits _ _ _ _ (c .before .before .round .ensures) (c .before .before .before .before .before .pre .3) (c .before .before .before .loop-test .taken), rw (c .before .before .before .before .loop .inv .1 .many) (row-fits _ _ _ (c .before .before .before .before .before .pre .3) (c .before .before .before .loop-test .taken)))
+join-row-requires c κs =
+    let at-round = c .before .before in
+    let at-loop-test = at-round .before in
+    let at-loop = at-loop-test .before in
+    let start = at-loop .before in (
+      start .pre .0,
+      at-loop .loop .inv .1 .low,
+      start .pre .1 .at _,
+      round-fits _ _ _ _ (at-round .round .ensures) (start .pre .3)
+          (at-loop-test .loop-test .taken),
+      rw (at-loop .loop .inv .1 .many) (row-fits _ _ _ (start .pre .3) (at-loop-test .loop-test .taken)),
+    )
 
 add-j : tie.Need-add-j Inv-loop μ-loop
-add-j c = omega (arith, rows-fit _ _ (c .before .before .before .before .before .before .before .pre .2) (c .before .before .before .before .before .before .before .pre .3))
+add-j c =
+    let start = c .before .before .before .before .before .before .before in
+    omega (arith, rows-fit _ _ (start .pre .2) (start .pre .3))
 
 loop-less : tie.Need-loop-less Inv-loop μ-loop
 loop-less c = omega arith
 
 loop-again : tie.Need-loop-again Inv-loop μ-loop
-loop-again c = (omega arith, rows-next _ _ _ _ _ _ _ _ _ (c .before .before .before .before .before .before .loop .inv .1) refl (ap (λ k. k * (2 * c .before .before .before .before .before .before .before .args .s)) (c .before .before .before .before .round .ensures)) (c .before .join-row .ensures))
+loop-again c =
+    let at-join-row = c .before in
+    let at-round = at-join-row .before .before .before in
+    let at-loop = at-round .before .before in
+    let start = at-loop .before in (
+      omega arith,
+      rows-next _ _ _ _ _ _ _ _ _ (at-loop .loop .inv .1) refl (ap (λ k. k * (2 * start .args .s)) (at-round .round .ensures))
+          (at-join-row .join-row .ensures),
+    )
 
 returns : tie.Need-returns Inv-loop μ-loop
 returns c = rows-all _ _ _ _ _ _ (c .loop-test .left) (c .before .loop .inv .1)

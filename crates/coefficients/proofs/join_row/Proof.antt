@@ -43,7 +43,9 @@ mul-requires : tie.Need-mul-requires Inv-loop μ-loop
 mul-requires c κs = (c .before .before .before .before .before .pre .2, c .before .before .before .before .before .pre .0 .at _)
 
 add-requires : tie.Need-add-requires Inv-loop μ-loop
-add-requires c κs = (c .before .before .before .before .before .before .pre .0 .at _, c .mul .ensures .1)
+add-requires c κs =
+    let start = c .before .before .before .before .before .before in
+    (start .pre .0 .at _, c .mul .ensures .1)
 
 add-to : tie.Need-add-to Inv-loop μ-loop
 add-to c = omega arith
@@ -61,7 +63,13 @@ loop-less : tie.Need-loop-less Inv-loop μ-loop
 loop-less c = omega arith
 
 loop-again : tie.Need-loop-again Inv-loop μ-loop
-loop-again c = (omega arith, row-next _ _ _ _ _ _ (c .before .before .before .before .before .loop .inv .1) (omega (arith, c .before .before .before .before .before .loop .inv .1 .many)) (c .add .ensures .0 ∙ ap (felt .add _) (c .before .mul .ensures .0)) (c .add .ensures .1))
+loop-again c =
+    let at-mul = c .before in
+    let at-loop = at-mul .before .before .before .before in (
+      omega arith,
+      row-next _ _ _ _ _ _ (at-loop .loop .inv .1) (omega (arith, at-loop .loop .inv .1 .many))
+          (c .add .ensures .0 ∙ ap (felt .add _) (at-mul .mul .ensures .0)) (c .add .ensures .1),
+    )
 
 same-length : tie.Need-same-length Inv-loop μ-loop
 same-length c = c .before .loop .inv .1 .many

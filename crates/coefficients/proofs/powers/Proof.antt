@@ -39,7 +39,16 @@ loop-less : tie.Need-loop-less Inv-loop μ-loop
 loop-less c = omega arith
 
 loop-again : tie.Need-loop-again Inv-loop μ-loop
-loop-again c = (omega arith, fill-next _ _ _ _ _ _ (lt-of-lt-of-le (c .before .loop-test .taken) (c .before .before .before .pre .1)) (c .before .before .loop .inv .1) (c .before .before .loop .inv .2), pow-next _ _ _ _ (c .before .before .loop .inv .2) (c .mul .ensures .0), c .mul .ensures .1)
+loop-again c =
+    let at-loop-test = c .before in
+    let at-loop = at-loop-test .before in
+    let start = at-loop .before in (
+      omega arith,
+      fill-next _ _ _ _ _ _ (lt-of-lt-of-le (at-loop-test .loop-test .taken) (start .pre .1)) (at-loop .loop .inv .1)
+          (at-loop .loop .inv .2),
+      pow-next _ _ _ _ (at-loop .loop .inv .2) (c .mul .ensures .0),
+      c .mul .ensures .1,
+    )
 
 returns : tie.Need-returns Inv-loop μ-loop
 unfolding Arrays.powers

@@ -18,7 +18,14 @@ pow-requires c κs = search needs
 
 returns : tie.Need-returns
 unfolding Terms.root
-returns c = (c .pow .ensures .0 ∙ ap (λ w. pow felt w (c .before .before .before .before .args .k)) (c .before .two-adic-generator .ensures .0 ∙ ap generator (c .before .before .log-length .ensures .0)), c .pow .ensures .1)
+returns c =
+    let at-two-adic-generator = c .before in
+    let at-log-length = at-two-adic-generator .before in
+    let start = at-log-length .before .before in (
+      c .pow .ensures .0 ∙ ap (λ w. pow felt w (start .args .k)) (at-two-adic-generator .two-adic-generator .ensures .0 ∙ ap generator
+          (at-log-length .log-length .ensures .0)),
+      c .pow .ensures .1,
+    )
 
 pub root-spec : {M : Type 1} → statement M
 root-spec =

@@ -19,7 +19,12 @@ powers-requires c κs = search needs
 
 returns : tie.Need-returns
 unfolding Arrays.powers Arrays.roots Terms.root
-returns c = c .powers .ensures ∙ ap (λ w. Arrays.powers felt w (length (c .before .before .before .before .args .col .now))) (c .before .two-adic-generator .ensures .0 ∙ ap generator (c .before .before .log-length .ensures .0))
+returns c =
+    let at-two-adic-generator = c .before in
+    let at-log-length = at-two-adic-generator .before in
+    let start = at-log-length .before .before in
+    c .powers .ensures ∙ ap (λ w. Arrays.powers felt w (length (start .args .col .now)))
+    (at-two-adic-generator .two-adic-generator .ensures .0 ∙ ap generator (at-log-length .log-length .ensures .0))
 
 pub roots-spec : {M : Type 1} → statement M
 roots-spec =

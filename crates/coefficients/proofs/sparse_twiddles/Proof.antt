@@ -44,10 +44,15 @@ squares-requires : tie.Need-squares-requires Inv-loop μ-loop
 squares-requires c κs = (c .pow .ensures .1, c .before .before .before .before .log-length .ensures .1)
 
 mul-rows : tie.Need-mul-rows Inv-loop μ-loop
-mul-rows c = omega (arith, c .before .before .before .before .before .before .before .before .before .pre .1 .few)
+mul-rows c =
+    let start = c .before .before .before .before .before .before .before .before .before in
+    omega (arith, start .pre .1 .few)
 
 array-set-from-rows : tie.Need-array-set-from-rows Inv-loop μ-loop
-array-set-from-rows c = lt-of-lt-of-le (c .before .before .before .loop-test .taken) (c .before .before .before .before .before .before .before .before .before .pre .1 .few)
+array-set-from-rows c =
+    let at-loop-test = c .before .before .before in
+    let start = at-loop-test .before .before .before .before .before .before in
+    lt-of-lt-of-le (at-loop-test .loop-test .taken) (start .pre .1 .few)
 
 add-k : tie.Need-add-k Inv-loop μ-loop
 add-k c = omega arith
@@ -57,12 +62,22 @@ loop-less c = omega arith
 
 loop-again : tie.Need-loop-again Inv-loop μ-loop
 loop-again c =
-    let told = row-told _ _ _ _ _ _ _ (ap (λ l. getD l (c .before .before .before .before .loop .k) 0) (c .before .before .before .before .before .before .before .before .before .pre .1 .are)) (c .before .before .before .before .before .before .root-inverse .ensures .0) (c .before .pow .ensures .0) (c .before .before .before .before .before .log-length .ensures .0) (c .squares .ensures) in
-    (omega arith, fill-next _ _ _ _ _ _ (lt-of-lt-of-le (c .before .before .before .loop-test .taken) (c .before .before .before .before .before .before .before .before .before .pre .1 .few)) (c .before .before .before .before .loop .inv .1) told)
+    let at-pow = c .before in
+    let at-loop-test = at-pow .before .before in
+    let at-loop = at-loop-test .before in
+    let at-log-length = at-loop .before in
+    let at-root-inverse = at-log-length .before in
+    let start = at-root-inverse .before .before .before in
+    let told = row-told _ _ _ _ _ _ _ (ap (λ l. getD l (at-loop .loop .k) 0) (start .pre .1 .are)) (at-root-inverse .root-inverse .ensures .0)
+    (at-pow .pow .ensures .0) (at-log-length .log-length .ensures .0) (c .squares .ensures) in
+    (omega arith, fill-next _ _ _ _ _ _ (lt-of-lt-of-le (at-loop-test .loop-test .taken) (start .pre .1 .few)) (at-loop .loop .inv .1) told)
 
 returns : tie.Need-returns Inv-loop μ-loop
 unfolding Arrays.sparseTwiddles
-returns c = fill-all _ _ _ _ _ _ _ (c .before .loop .inv .1) (c .before .loop .inv .0) (c .loop-test .left) (ap length (sym (c .before .before .before .before .before .before .pre .1 .are)))
+returns c =
+    let at-loop = c .before in
+    let start = at-loop .before .before .before .before .before in
+    fill-all _ _ _ _ _ _ _ (at-loop .loop .inv .1) (at-loop .loop .inv .0) (c .loop-test .left) (ap length (sym (start .pre .1 .are)))
 
 pub sparse-twiddles-spec : {M : Type 1} → statement M
 sparse-twiddles-spec =

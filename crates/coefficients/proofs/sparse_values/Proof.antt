@@ -37,19 +37,35 @@ shared-slice-read-mul : tie.Need-shared-slice-read-mul Inv-loop μ-loop
 shared-slice-read-mul c = omega arith
 
 mul-mul-2 : tie.Need-mul-mul-2 Inv-loop μ-loop
-mul-mul-2 c = omega (arith, support-inside (c .before .before .before .before .before .before .args .col .now) _ _ (c .before .before .before .before .before .before .pre .1 .are) (c .before .loop-test .taken), c .before .before .before .before .before .before .pre .0 .short)
+mul-mul-2 c =
+    let at-loop-test = c .before in
+    let start = at-loop-test .before .before .before .before .before in
+    omega (arith, support-inside (start .args .col .now) _ _ (start .pre .1 .are) (at-loop-test .loop-test .taken), start .pre .0 .short)
 
 shared-slice-read-mul-2 : tie.Need-shared-slice-read-mul-2 Inv-loop μ-loop
-shared-slice-read-mul-2 c = support-inside _ _ _ (c .before .before .before .before .before .before .before .pre .1 .are) (c .before .before .loop-test .taken)
+shared-slice-read-mul-2 c =
+    let at-loop-test = c .before .before in
+    let start = at-loop-test .before .before .before .before .before in
+    support-inside _ _ _ (start .pre .1 .are) (at-loop-test .loop-test .taken)
 
 mul-requires : tie.Need-mul-requires Inv-loop μ-loop
-mul-requires c κs = (below-at p _ _ (c .before .before .before .before .before .before .before .pre .0 .low) (support-inside _ _ _ (c .before .before .before .before .before .before .before .pre .1 .are) (c .before .before .loop-test .taken)), c .before .before .before .before .size-inverse .ensures .1)
+mul-requires c κs =
+    let at-loop-test = c .before .before in
+    let at-size-inverse = at-loop-test .before .before in
+    let start = at-size-inverse .before .before .before in (
+      below-at p _ _ (start .pre .0 .low) (support-inside _ _ _ (start .pre .1 .are) (at-loop-test .loop-test .taken)),
+      at-size-inverse .size-inverse .ensures .1,
+    )
 
 mul-values : tie.Need-mul-values Inv-loop μ-loop
-mul-values c = omega (arith, c .before .before .before .before .before .before .before .before .pre .1 .few)
+mul-values c =
+    let start = c .before .before .before .before .before .before .before .before in
+    omega (arith, start .pre .1 .few)
 
 array-write-values : tie.Need-array-write-values Inv-loop μ-loop
-array-write-values c = omega (arith, c .before .before .before .before .before .before .before .before .pre .1 .few)
+array-write-values c =
+    let start = c .before .before .before .before .before .before .before .before in
+    omega (arith, start .pre .1 .few)
 
 add-k : tie.Need-add-k Inv-loop μ-loop
 add-k c = omega arith
@@ -58,7 +74,15 @@ loop-less : tie.Need-loop-less Inv-loop μ-loop
 loop-less c = omega arith
 
 loop-again : tie.Need-loop-again Inv-loop μ-loop
-loop-again c = (omega arith, fill-next _ _ _ _ _ _ (lt-of-lt-of-le (c .before .before .before .loop-test .taken) (c .before .before .before .before .before .before .before .before .pre .1 .few)) (c .before .before .before .before .loop .inv .1) (value-told _ _ _ _ _ (c .before .before .before .before .before .before .before .before .pre .1 .are) (c .before .before .before .before .before .size-inverse .ensures .0) (c .mul .ensures .0)))
+loop-again c =
+    let at-loop-test = c .before .before .before in
+    let at-loop = at-loop-test .before in
+    let at-size-inverse = at-loop .before in
+    let start = at-size-inverse .before .before .before in (
+      omega arith,
+      fill-next _ _ _ _ _ _ (lt-of-lt-of-le (at-loop-test .loop-test .taken) (start .pre .1 .few)) (at-loop .loop .inv .1)
+          (value-told _ _ _ _ _ (start .pre .1 .are) (at-size-inverse .size-inverse .ensures .0) (c .mul .ensures .0)),
+    )
 
 returns : tie.Need-returns Inv-loop μ-loop
 unfolding Arrays.sparseValues

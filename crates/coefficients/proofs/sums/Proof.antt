@@ -30,23 +30,45 @@ loop-holds c = rw (c .copied .ensures) (reached-start _ (c .before .before .befo
 
 halved-requires : tie.Need-halved-requires Inv-loop μ-loop
 halved-requires c κs =
-    let start = c .before .before .before .before .before .before .before .before .pre in
-    (c .before .before .before .loop .inv .low, low-powers _ start _ _ (c .before .before .before .before .before .powers .ensures), omega (arith, c .before .before .loop-test .taken), reached-fits _ start _ _ _ (c .before .before .before .loop .inv))
+    let at-loop-test = c .before .before in
+    let at-loop = at-loop-test .before in
+    let at-powers = at-loop .before .before in
+    let start-2 = at-powers .before .before .before in
+    let start = start-2 .pre in (
+      at-loop .loop .inv .low,
+      low-powers _ start _ _ (at-powers .powers .ensures),
+      omega (arith, at-loop-test .loop-test .taken),
+      reached-fits _
+          start _ _ _ (at-loop .loop .inv),
+    )
 
 mul-n : tie.Need-mul-n Inv-loop μ-loop
 mul-n c =
-    let start = c .before .before .before .before .before .before .before .before .before .pre in
-    let fits = reached-fits _ start _ _ _ (c .before .before .before .before .loop .inv) in
-    omega (arith, rows-fit (c .before .before .before .before .loop .s / 2) _ (omega (arith, c .before .before .before .loop-test .taken)) fits)
+    let at-loop-test = c .before .before .before in
+    let at-loop = at-loop-test .before in
+    let start-2 = at-loop .before .before .before .before .before in
+    let start = start-2 .pre in
+    let fits = reached-fits _ start _ _ _ (at-loop .loop .inv) in
+    omega (arith, rows-fit (at-loop .loop .s / 2) _ (omega (arith, at-loop-test .loop-test .taken)) fits)
 
 loop-less : tie.Need-loop-less Inv-loop μ-loop
 loop-less c = omega (arith, c .before .before .before .loop-test .taken)
 
 loop-again : tie.Need-loop-again Inv-loop μ-loop
-loop-again c = reached-next _ (c .before .before .before .before .before .before .before .before .before .pre) _ _ _ _ _ _ (c .before .before .before .loop-test .taken) (c .before .before .before .before .before .before .before .root-inverse .ensures .0) (c .before .before .before .before .before .before .powers .ensures) (c .before .before .before .before .loop .inv) (c .halved .ensures)
+loop-again c =
+    let at-loop-test = c .before .before .before in
+    let at-loop = at-loop-test .before in
+    let at-powers = at-loop .before .before in
+    let at-root-inverse = at-powers .before in
+    let start = at-root-inverse .before .before in
+    reached-next _ (start .pre) _ _ _ _ _ _ (at-loop-test .loop-test .taken) (at-root-inverse .root-inverse .ensures .0) (at-powers .powers .ensures)
+    (at-loop .loop .inv) (c .halved .ensures)
 
 returns : tie.Need-returns Inv-loop μ-loop
-returns c = reached-end _ (c .before .before .before .before .before .before .pre) _ _ _ (c .loop-test .left) (c .before .loop .inv)
+returns c =
+    let at-loop = c .before in
+    let start = at-loop .before .before .before .before .before in
+    reached-end _ (start .pre) _ _ _ (c .loop-test .left) (at-loop .loop .inv)
 
 pub sums-spec : {M : Type 1} → statement M
 sums-spec =

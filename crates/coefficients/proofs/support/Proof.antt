@@ -30,8 +30,14 @@ shared-slice-read-with-place c = omega arith
 
 with-place-requires : tie.Need-with-place-requires Inv-loop μ-loop
 with-place-requires c κs =
-    let h : c .before .before .before .loop .n ≤ length (c .before .before .before .loop .store) = omega arith in
-    (h, place-room _ _ (c .before .before .loop-test .taken) (take (c .before .before .before .loop .n) (c .before .before .before .loop .store)) _ _ (length-take-le _ _ h) (c .before .before .before .loop .inv .3) (le-trans (c .before .before .before .before .before .before .pre) (le-of-eq (sym (c .before .before .before .loop .inv .2)))))
+    let at-loop-test = c .before .before in
+    let at-loop = at-loop-test .before in
+    let start = at-loop .before .before .before in
+    let h : at-loop .loop .n ≤ length (at-loop .loop .store) = omega arith in (
+      h,
+      place-room _ _ (at-loop-test .loop-test .taken) (take (at-loop .loop .n) (at-loop .loop .store)) _ _ (length-take-le _ _ h)
+          (at-loop .loop .inv .3) (le-trans (start .pre) (le-of-eq (sym (at-loop .loop .inv .2)))),
+    )
 
 add-j : tie.Need-add-j Inv-loop μ-loop
 add-j c = omega arith
@@ -40,7 +46,17 @@ loop-less : tie.Need-loop-less Inv-loop μ-loop
 loop-less c = omega arith
 
 loop-again : tie.Need-loop-again Inv-loop μ-loop
-loop-again c = (omega arith, omega (arith, c .before .before .with-place .ensures .1), c .before .before .with-place .kept .0 ∙ c .before .before .before .before .before .before .loop .inv .2, place-next _ _ (c .before .before .before .before .before .loop-test .taken) (take (c .before .before .before .before .before .before .loop .n) (c .before .before .before .before .before .before .loop .store)) _ _ (c .before .before .with-place .ensures .0) (c .before .before .before .before .before .before .loop .inv .3))
+loop-again c =
+    let at-with-place = c .before .before in
+    let at-loop-test = at-with-place .before .before .before in
+    let at-loop = at-loop-test .before in (
+      omega arith,
+      omega (arith, at-with-place .with-place .ensures .1),
+      at-with-place .with-place .kept .0 ∙ at-loop .loop .inv .2,
+      place-next _ _
+          (at-loop-test .loop-test .taken) (take (at-loop .loop .n) (at-loop .loop .store)) _ _ (at-with-place .with-place .ensures .0)
+          (at-loop .loop .inv .3),
+    )
 
 same-length : tie.Need-same-length Inv-loop μ-loop
 same-length c = c .before .loop .inv .2

@@ -14,10 +14,16 @@ shared-slice-read-e : tie.Need-shared-slice-read-e
 shared-slice-read-e c = search needs
 
 add-e : tie.Need-add-e
-add-e c = omega (arith, ends (c .before .before .before .before .args .lengths .now) (c .before .before .before .before .args .j) (c .before .before .before .before .pre .1) _ (c .before .start .ensures), c .before .before .before .before .pre .0 .small)
+add-e c =
+    let at-start = c .before in
+    let start-2 = at-start .before .before .before in
+    omega (arith, ends (start-2 .args .lengths .now) (start-2 .args .j) (start-2 .pre .1) _ (at-start .start .ensures), start-2 .pre .0 .small)
 
 mul-result : tie.Need-mul-result
-mul-result c = omega (arith, ends (c .before .before .before .before .args .lengths .now) (c .before .before .before .before .args .j) (c .before .before .before .before .pre .1) _ (c .before .start .ensures), c .before .before .before .before .pre .0 .small)
+mul-result c =
+    let at-start = c .before in
+    let start-2 = at-start .before .before .before in
+    omega (arith, ends (start-2 .args .lengths .now) (start-2 .args .j) (start-2 .pre .1) _ (at-start .start .ensures), start-2 .pre .0 .small)
 
 sub-result : tie.Need-sub-result
 sub-result c = search needs
@@ -26,7 +32,10 @@ part-result-start : tie.Need-part-result-start
 part-result-start c = search needs
 
 part-result-end : tie.Need-part-result-end
-part-result-end c = omega (arith, ends (c .before .before .before .before .args .lengths .now) (c .before .before .before .before .args .j) (c .before .before .before .before .pre .1) _ (c .before .start .ensures), c .before .before .before .before .pre .0 .enough)
+part-result-end c =
+    let at-start = c .before in
+    let start-2 = at-start .before .before .before in
+    omega (arith, ends (start-2 .args .lengths .now) (start-2 .args .j) (start-2 .pre .1) _ (at-start .start .ensures), start-2 .pre .0 .enough)
 
 returns : tie.Need-returns
 returns c = column-part _ _ _ _ (c .before .before .before .before .before .pre .1) (c .before .before .start .ensures)

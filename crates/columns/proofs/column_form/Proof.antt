@@ -21,28 +21,48 @@ column-requires : tie.Need-column-requires
 column-requires c κs = search needs
 
 alone-requires : tie.Need-alone-requires
-alone-requires c κs = rw (c .column .ensures) (column-short p _ _ _ (c .before .before .before .before .before .before .before .before .pre .1) (c .before .before .before .before .before .before .before .before .pre .0 .tested .handed))
+alone-requires c κs =
+    let start = c .before .before .before .before .before .before .before .before in
+    rw (c .column .ensures) (column-short p _ _ _ (start .pre .1) (start .pre .0 .tested .handed))
 
 returns : tie.Need-returns
-returns c = c .alone .ensures ∙ rw (c .before .column .ensures) (weighed-alone p _ _ _ _ _ (c .before .before .before .before .before .before .before .before .before .pre .1) (c .before .before .before .before .before .before .before .before .before .pre .0) (told (c .before .before .before .goes-over .ensures) (not-true _ (c .before .before .if1 .taken))))
+returns c =
+    let at-column = c .before in
+    let at-if1 = at-column .before in
+    let at-goes-over = at-if1 .before in
+    let start = at-goes-over .before .before .before .before .before .before in
+    c .alone .ensures ∙ rw (at-column .column .ensures) (weighed-alone p _ _ _ _ _ (start .pre .1) (start .pre .0)
+    (told (at-goes-over .goes-over .ensures) (not-true _ (at-if1 .if1 .taken))))
 
 mul-if2 : tie.Need-mul-if2
 mul-if2 c = search needs
 
 shared-slice-read-if2 : tie.Need-shared-slice-read-if2
-shared-slice-read-if2 c = weighed-room p _ _ _ _ _ (c .before .before .before .before .before .before .before .before .pre .1) (c .before .before .before .before .before .before .before .before .pre .0)
+shared-slice-read-if2 c =
+    let start = c .before .before .before .before .before .before .before .before in
+    weighed-room p _ _ _ _ _ (start .pre .1) (start .pre .0)
 
 column-requires-2 : tie.Need-column-requires-2
 column-requires-2 c κs = search needs
 
 alone-requires-2 : tie.Need-alone-requires-2
-alone-requires-2 c κs = rw (c .column2 .ensures) (column-short p _ _ _ (c .before .before .before .before .before .before .before .before .before .before .pre .1) (c .before .before .before .before .before .before .before .before .before .before .pre .0 .tested .handed))
+alone-requires-2 c κs =
+    let start = c .before .before .before .before .before .before .before .before .before .before in
+    rw (c .column2 .ensures) (column-short p _ _ _ (start .pre .1) (start .pre .0 .tested .handed))
 
 returns-2 : tie.Need-returns-2
-returns-2 c = c .alone2 .ensures ∙ rw (c .before .column2 .ensures) (weighed-dear p _ _ _ _ _ (c .before .before .before .before .before .before .before .before .before .before .before .pre .1) (c .before .before .before .before .before .before .before .before .before .before .before .pre .0) (c .before .before .if2 .taken))
+returns-2 c =
+    let at-column2 = c .before in
+    let at-if2 = at-column2 .before in
+    let start = at-if2 .before .before .before .before .before .before .before .before .before in
+    c .alone2 .ensures ∙ rw (at-column2 .column2 .ensures) (weighed-dear p _ _ _ _ _ (start .pre .1) (start .pre .0) (at-if2 .if2 .taken))
 
 returns-3 : tie.Need-returns-3
-returns-3 c = weighed-basis p _ _ _ _ _ (c .before .before .before .before .before .before .before .before .before .pre .1) (c .before .before .before .before .before .before .before .before .before .pre .0) (told (c .before .before .before .goes-over .ensures) (not-false _ (c .before .before .if1 .left))) (c .if2 .left)
+returns-3 c =
+    let at-if1 = c .before .before in
+    let at-goes-over = at-if1 .before in
+    let start = at-goes-over .before .before .before .before .before .before in
+    weighed-basis p _ _ _ _ _ (start .pre .1) (start .pre .0) (told (at-goes-over .goes-over .ensures) (not-false _ (at-if1 .if1 .left))) (c .if2 .left)
 
 pub column-form-spec : {M : Type 1} → statement M
 column-form-spec =

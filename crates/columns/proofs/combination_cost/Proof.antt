@@ -25,10 +25,16 @@ add-result : tie.Need-add-result
 add-result c = omega arith
 
 returns : tie.Need-returns
-returns c = cost-zero _ _ _ _ _ _ (lit< tt) (c .before .before .before .before .before .before .pre .0 .low) (c .before .before .before .before .before .before .pre .0 .are) (c .before .scalings .ensures .0) (omega arith) (c .if1 .taken)
+returns c =
+    let at-scalings = c .before in
+    let start = at-scalings .before .before .before .before .before in
+    cost-zero _ _ _ _ _ _ (lit< tt) (start .pre .0 .low) (start .pre .0 .are) (at-scalings .scalings .ensures .0) (omega arith) (c .if1 .taken)
 
 returns-2 : tie.Need-returns-2
-returns-2 c = cost-offset _ _ _ _ _ _ (lit< tt) (c .before .before .before .before .before .before .pre .0 .low) (c .before .before .before .before .before .before .pre .0 .are) (c .before .scalings .ensures .0) (omega arith) (c .if1 .left)
+returns-2 c =
+    let at-scalings = c .before in
+    let start = at-scalings .before .before .before .before .before in
+    cost-offset _ _ _ _ _ _ (lit< tt) (start .pre .0 .low) (start .pre .0 .are) (at-scalings .scalings .ensures .0) (omega arith) (c .if1 .left)
 
 pub combination-cost-spec : {M : Type 1} → statement M
 combination-cost-spec =

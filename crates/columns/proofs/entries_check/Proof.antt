@@ -29,7 +29,14 @@ all-below-requires : tie.Need-all-below-requires Inv-loop μ-loop
 all-below-requires c κs = search needs
 
 returns : tie.Need-returns Inv-loop μ-loop
-returns c = first-stop _ _ _ _ (c .before .before .before .before .loop .inv .1) (entries-bad _ _ _ (ap (Prepare.allBelow p) (sym (c .before .before .column .ensures)) ∙ told (c .before .all-below .ensures) (not-true _ (c .if1 .taken)))) (c .before .before .before .loop-test .taken)
+returns c =
+    let at-all-below = c .before in
+    let at-column = at-all-below .before in
+    let at-loop-test = at-column .before in
+    let at-loop = at-loop-test .before in
+    first-stop _ _ _ _ (at-loop .loop .inv .1) (entries-bad _ _ _
+    (ap (Prepare.allBelow p) (sym (at-column .column .ensures)) ∙ told (at-all-below .all-below .ensures) (not-true _ (c .if1 .taken))))
+    (at-loop-test .loop-test .taken)
 
 add-j : tie.Need-add-j Inv-loop μ-loop
 add-j c = omega arith
@@ -38,7 +45,14 @@ loop-less : tie.Need-loop-less Inv-loop μ-loop
 loop-less c = omega arith
 
 loop-again : tie.Need-loop-again Inv-loop μ-loop
-loop-again c = (omega arith, first-next _ _ (c .before .before .before .before .loop .inv .1) (entries-good _ _ _ (ap (Prepare.allBelow p) (sym (c .before .before .column .ensures)) ∙ told (c .before .all-below .ensures) (not-false _ (c .if1 .left)))))
+loop-again c =
+    let at-all-below = c .before in
+    let at-column = at-all-below .before in
+    let at-loop = at-column .before .before in (
+      omega arith,
+      first-next _ _ (at-loop .loop .inv .1) (entries-good _ _ _
+          (ap (Prepare.allBelow p) (sym (at-column .column .ensures)) ∙ told (at-all-below .all-below .ensures) (not-false _ (c .if1 .left)))),
+    )
 
 returns-2 : tie.Need-returns-2 Inv-loop μ-loop
 returns-2 c = first-all _ _ _ (c .before .loop .inv .1) (c .before .loop .inv .0) (c .loop-test .left)

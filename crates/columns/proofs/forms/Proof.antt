@@ -34,22 +34,39 @@ unfolding Prepare.padded Prepare.upTo
 loop-holds c = (omega arith, refl)
 
 slice-aggregate-column-form : tie.Need-slice-aggregate-column-form Inv-loop μ-loop
-slice-aggregate-column-form c = sym (ap length (c .before .before .before .before .before .gains .ensures) ∙ length-gains p _ _ (c .before .before .before .before .before .before .before .before .pre .handed))
+slice-aggregate-column-form c =
+    let at-gains = c .before .before .before .before .before in
+    let start = at-gains .before .before .before in
+    sym (ap length (at-gains .gains .ensures) ∙ length-gains p _ _ (start .pre .handed))
 
 slice-aggregate-column-form-2 : tie.Need-slice-aggregate-column-form-2 Inv-loop μ-loop
-slice-aggregate-column-form-2 c = sym (ap length (c .before .before .before .before .savings-each .ensures) ∙ length-each p _ _ (c .before .before .before .before .before .before .before .before .before .pre .handed))
+slice-aggregate-column-form-2 c =
+    let at-savings-each = c .before .before .before .before in
+    let start = at-savings-each .before .before .before .before .before in
+    sym (ap length (at-savings-each .savings-each .ensures) ∙ length-each p _ _ (start .pre .handed))
 
 column-form-requires : tie.Need-column-form-requires Inv-loop μ-loop
-column-form-requires c κs = (record { tested = c .before .before .before .before .before .before .before .before .before .pre; gained = c .before .before .before .before .before .before .gains .ensures; saved = c .before .before .before .before .savings-each .ensures }, c .before .before .loop-test .taken)
+column-form-requires c κs =
+    let at-loop-test = c .before .before in
+    let at-savings-each = at-loop-test .before .before in
+    let at-gains = at-savings-each .before .before in
+    let start = at-gains .before .before .before in
+    (record { tested = start .pre; gained = at-gains .gains .ensures; saved = at-savings-each .savings-each .ensures }, at-loop-test .loop-test .taken)
 
 form-number-requires : tie.Need-form-number-requires Inv-loop μ-loop
 form-number-requires c κs = search needs
 
 mul-forms : tie.Need-mul-forms Inv-loop μ-loop
-mul-forms c = omega (arith, lt-of-lt-of-le (c .before .before .before .before .loop-test .taken) (c .before .before .before .before .before .before .before .before .before .before .before .pre .handed .few))
+mul-forms c =
+    let at-loop-test = c .before .before .before .before in
+    let start = at-loop-test .before .before .before .before .before .before .before in
+    omega (arith, lt-of-lt-of-le (at-loop-test .loop-test .taken) (start .pre .handed .few))
 
 array-write-forms : tie.Need-array-write-forms Inv-loop μ-loop
-array-write-forms c = lt-of-lt-of-le (c .before .before .before .before .loop-test .taken) (c .before .before .before .before .before .before .before .before .before .before .before .pre .handed .few)
+array-write-forms c =
+    let at-loop-test = c .before .before .before .before in
+    let start = at-loop-test .before .before .before .before .before .before .before in
+    lt-of-lt-of-le (at-loop-test .loop-test .taken) (start .pre .handed .few)
 
 add-j : tie.Need-add-j Inv-loop μ-loop
 add-j c = omega arith
@@ -58,7 +75,15 @@ loop-less : tie.Need-loop-less Inv-loop μ-loop
 loop-less c = omega arith
 
 loop-again : tie.Need-loop-again Inv-loop μ-loop
-loop-again c = (omega arith, fill-next _ _ _ _ _ _ (lt-of-lt-of-le (c .before .before .before .before .loop-test .taken) (c .before .before .before .before .before .before .before .before .before .before .before .pre .handed .few)) (c .before .before .before .before .before .loop .inv .1) (c .form-number .ensures ∙ ap Columns.formNumber (c .before .column-form .ensures)))
+loop-again c =
+    let at-column-form = c .before in
+    let at-loop-test = at-column-form .before .before .before in
+    let at-loop = at-loop-test .before in
+    let start = at-loop .before .before .before .before .before .before in (
+      omega arith,
+      fill-next _ _ _ _ _ _ (lt-of-lt-of-le (at-loop-test .loop-test .taken) (start .pre .handed .few)) (at-loop .loop .inv .1)
+          (c .form-number .ensures ∙ ap Columns.formNumber (at-column-form .column-form .ensures)),
+    )
 
 returns : tie.Need-returns Inv-loop μ-loop
 unfolding Prepare.forms

@@ -41,7 +41,14 @@ less-requires : tie.Need-less-requires
 less-requires c κs = search needs
 
 returns-2 : tie.Need-returns-2
-returns-2 c = c .less .ensures ∙ gain-told _ _ _ _ _ (λ e. c .before .before .before .before .before .before .before .before .if1 .left (c .before .before .before .before .before .before .before .before .before .others .ensures ∙ e)) (c .before .before .before .offset .ensures .0) (c .before .before .standalone .ensures) (c .before .combination-cost .ensures)
+returns-2 c =
+    let at-combination-cost = c .before in
+    let at-standalone = at-combination-cost .before in
+    let at-offset = at-standalone .before in
+    let at-if1 = at-offset .before .before .before .before .before in
+    let at-others = at-if1 .before in
+    c .less .ensures ∙ gain-told _ _ _ _ _ (λ e. at-if1 .if1 .left (at-others .others .ensures ∙ e)) (at-offset .offset .ensures .0)
+    (at-standalone .standalone .ensures) (at-combination-cost .combination-cost .ensures)
 
 pub gain-spec : {M : Type 1} → statement M
 gain-spec =

@@ -32,10 +32,16 @@ gain-requires : tie.Need-gain-requires Inv-loop μ-loop
 gain-requires c κs = rw (c .column .ensures) (tested-column p _ _ _ (c .before .loop-test .taken) (c .before .before .before .before .before .pre))
 
 mul-gains : tie.Need-mul-gains Inv-loop μ-loop
-mul-gains c = omega (arith, lt-of-lt-of-le (c .before .before .loop-test .taken) (c .before .before .before .before .before .before .pre .handed .few))
+mul-gains c =
+    let at-loop-test = c .before .before in
+    let start = at-loop-test .before .before .before .before in
+    omega (arith, lt-of-lt-of-le (at-loop-test .loop-test .taken) (start .pre .handed .few))
 
 array-write-gains : tie.Need-array-write-gains Inv-loop μ-loop
-array-write-gains c = lt-of-lt-of-le (c .before .before .loop-test .taken) (c .before .before .before .before .before .before .pre .handed .few)
+array-write-gains c =
+    let at-loop-test = c .before .before in
+    let start = at-loop-test .before .before .before .before in
+    lt-of-lt-of-le (at-loop-test .loop-test .taken) (start .pre .handed .few)
 
 add-j : tie.Need-add-j Inv-loop μ-loop
 add-j c = omega arith
@@ -44,7 +50,15 @@ loop-less : tie.Need-loop-less Inv-loop μ-loop
 loop-less c = omega arith
 
 loop-again : tie.Need-loop-again Inv-loop μ-loop
-loop-again c = (omega arith, fill-next _ _ _ _ _ _ (lt-of-lt-of-le (c .before .before .loop-test .taken) (c .before .before .before .before .before .before .pre .handed .few)) (c .before .before .before .loop .inv .1) (c .gain .ensures ∙ ap (Columns.gain p) (c .before .column .ensures)))
+loop-again c =
+    let at-column = c .before in
+    let at-loop-test = at-column .before in
+    let at-loop = at-loop-test .before in
+    let start = at-loop .before .before .before in (
+      omega arith,
+      fill-next _ _ _ _ _ _ (lt-of-lt-of-le (at-loop-test .loop-test .taken) (start .pre .handed .few)) (at-loop .loop .inv .1)
+          (c .gain .ensures ∙ ap (Columns.gain p) (at-column .column .ensures)),
+    )
 
 returns : tie.Need-returns Inv-loop μ-loop
 unfolding Said.gains

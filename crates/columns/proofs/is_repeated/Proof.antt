@@ -32,13 +32,30 @@ same-requires : tie.Need-same-requires Inv-loop μ-loop
 same-requires c κs = search needs
 
 returns : tie.Need-returns Inv-loop μ-loop
-returns c = among-hit _ _ _ _ (c .before .before .before .before .loop-test .taken) (sym (ap₂ Columns.sameEntries (c .before .before .before .column .ensures) (c .before .before .column2 .ensures)) ∙ told (c .before .same .ensures) (c .if1 .taken)) (c .before .before .before .before .before .loop .inv .1)
+returns c =
+    let at-same = c .before in
+    let at-column2 = at-same .before in
+    let at-column = at-column2 .before in
+    let at-loop-test = at-column .before in
+    let at-loop = at-loop-test .before in
+    among-hit _ _ _ _ (at-loop-test .loop-test .taken) (sym (ap₂ Columns.sameEntries (at-column .column .ensures) (at-column2 .column2 .ensures)) ∙ told
+    (at-same .same .ensures) (c .if1 .taken)) (at-loop .loop .inv .1)
 
 loop-less : tie.Need-loop-less Inv-loop μ-loop
 loop-less c = omega arith
 
 loop-again : tie.Need-loop-again Inv-loop μ-loop
-loop-again c = (omega arith, among-on _ _ _ _ (c .before .before .before .before .loop-test .taken) (sym (ap₂ Columns.sameEntries (c .before .before .before .column .ensures) (c .before .before .column2 .ensures)) ∙ told (c .before .same .ensures) (c .if1 .left)) (c .before .before .before .before .before .loop .inv .1))
+loop-again c =
+    let at-same = c .before in
+    let at-column2 = at-same .before in
+    let at-column = at-column2 .before in
+    let at-loop-test = at-column .before in
+    let at-loop = at-loop-test .before in (
+      omega arith,
+      among-on _ _ _ _ (at-loop-test .loop-test .taken)
+          (sym (ap₂ Columns.sameEntries (at-column .column .ensures) (at-column2 .column2 .ensures)) ∙ told (at-same .same .ensures) (c .if1 .left))
+          (at-loop .loop .inv .1),
+    )
 
 returns-2 : tie.Need-returns-2 Inv-loop μ-loop
 returns-2 c = among-none _ _ _ _ (c .loop-test .left) (c .before .loop .inv .1)

@@ -24,7 +24,13 @@ dense-ops-requires : tie.Need-dense-ops-requires
 dense-ops-requires c κs = search needs
 
 returns-2 : tie.Need-returns-2
-returns-2 c = sparse-told _ _ _ _ (c .before .before .before .before .others .ensures) (c .before .before .log-length .ensures .0) (c .before .sparse-ops .ensures) _ (c .dense-ops .ensures) (c .before .before .before .if1 .left)
+returns-2 c =
+    let at-sparse-ops = c .before in
+    let at-log-length = at-sparse-ops .before in
+    let at-if1 = at-log-length .before in
+    let at-others = at-if1 .before in
+    sparse-told _ _ _ _ (at-others .others .ensures) (at-log-length .log-length .ensures .0) (at-sparse-ops .sparse-ops .ensures) _
+    (c .dense-ops .ensures) (at-if1 .if1 .left)
 
 pub is-sparse-spec : {M : Type 1} → statement M
 is-sparse-spec =

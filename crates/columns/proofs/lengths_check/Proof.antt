@@ -31,7 +31,12 @@ is-power-requires : tie.Need-is-power-requires Inv-loop μ-loop
 is-power-requires c κs = search needs
 
 returns : tie.Need-returns Inv-loop μ-loop
-returns c = first-stop _ _ _ _ (c .before .before .before .before .loop .inv .1) (length-bad _ _ (told (c .before .is-power .ensures) (not-true _ (c .if1 .taken)))) (c .before .before .before .loop-test .taken)
+returns c =
+    let at-is-power = c .before in
+    let at-loop-test = at-is-power .before .before in
+    let at-loop = at-loop-test .before in
+    first-stop _ _ _ _ (at-loop .loop .inv .1) (length-bad _ _ (told (at-is-power .is-power .ensures) (not-true _ (c .if1 .taken))))
+    (at-loop-test .loop-test .taken)
 
 add-i : tie.Need-add-i Inv-loop μ-loop
 add-i c = omega arith

@@ -18,15 +18,27 @@ combination-cost-requires-2 c κs = search needs
 
 returns : tie.Need-returns
 returns c =
-    let pre = c .before .before .before .before .before .before .pre in (
-      offset-dominant _ _ _ _ _ _ (pre .are) (c .before .before .before .dominant .ensures) (c .before .before .combination-cost .ensures) (c .before .combination-cost2 .ensures) (c .if1 .taken),
-      dominant-below p _ _ _ (lit< tt) (pre .low) (pre .are) (c .before .before .before .dominant .ensures),
+    let at-combination-cost2 = c .before in
+    let at-combination-cost = at-combination-cost2 .before in
+    let at-dominant = at-combination-cost .before in
+    let start = at-dominant .before .before .before in
+    let pre = start .pre in (
+      offset-dominant _ _ _ _ _ _ (pre .are) (at-dominant .dominant .ensures) (at-combination-cost .combination-cost .ensures)
+          (at-combination-cost2 .combination-cost2 .ensures) (c .if1 .taken),
+      dominant-below p _ _ _ (lit< tt) (pre .low) (pre .are) (at-dominant .dominant .ensures),
     )
 
 returns-2 : tie.Need-returns-2
 returns-2 c =
-    let pre = c .before .before .before .before .before .before .pre in
-    (offset-zero _ _ _ _ _ _ (pre .are) (c .before .before .before .dominant .ensures) (c .before .before .combination-cost .ensures) (c .before .combination-cost2 .ensures) (c .if1 .left), lit< tt)
+    let at-combination-cost2 = c .before in
+    let at-combination-cost = at-combination-cost2 .before in
+    let at-dominant = at-combination-cost .before in
+    let start = at-dominant .before .before .before in
+    let pre = start .pre in (
+      offset-zero _ _ _ _ _ _ (pre .are) (at-dominant .dominant .ensures) (at-combination-cost .combination-cost .ensures)
+          (at-combination-cost2 .combination-cost2 .ensures) (c .if1 .left),
+      lit< tt,
+    )
 
 pub offset-spec : {M : Type 1} → statement M
 offset-spec =

@@ -20,7 +20,12 @@ forms-requires : tie.Need-forms-requires
 forms-requires c κs = prepared _ _ _ (good-told (c .before .before .prepare-check .ensures) (c .before .is-refused .ensures) (c .if1 .left))
 
 returns-2 : tie.Need-returns-2
-returns-2 c = prepare-good _ _ _ _ _ (c .before .before .before .prepare-check .ensures) (good-told (c .before .before .before .prepare-check .ensures) (c .before .before .is-refused .ensures) (c .before .if1 .left)) (c .forms .ensures)
+returns-2 c =
+    let at-if1 = c .before in
+    let at-is-refused = at-if1 .before in
+    let at-prepare-check = at-is-refused .before in
+    prepare-good _ _ _ _ _ (at-prepare-check .prepare-check .ensures)
+    (good-told (at-prepare-check .prepare-check .ensures) (at-is-refused .is-refused .ensures) (at-if1 .if1 .left)) (c .forms .ensures)
 
 pub prepare-spec : {M : Type 1} → statement M
 prepare-spec =

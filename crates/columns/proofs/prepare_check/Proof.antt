@@ -19,19 +19,46 @@ is-refused-requires : tie.Need-is-refused-requires
 is-refused-requires c κs = search needs
 
 returns-2 : tie.Need-returns-2
-returns-2 c = check-lengths _ _ _ (c .before .before .before .if1 .left) _ (c .before .before .lengths-check .ensures) (bad-told (c .before .before .lengths-check .ensures) (c .before .is-refused .ensures) (c .if2 .taken))
+returns-2 c =
+    let at-is-refused = c .before in
+    let at-lengths-check = at-is-refused .before in
+    let at-if1 = at-lengths-check .before in
+    check-lengths _ _ _ (at-if1 .if1 .left) _ (at-lengths-check .lengths-check .ensures)
+    (bad-told (at-lengths-check .lengths-check .ensures) (at-is-refused .is-refused .ensures) (c .if2 .taken))
 
 start-requires : tie.Need-start-requires
 start-requires c κs = (omega arith, lengths-small _ (c .before .before .before .if1 .left) (good-told (c .before .before .lengths-check .ensures) (c .before .is-refused .ensures) (c .if2 .left)))
 
 returns-3 : tie.Need-returns-3
-returns-3 c = check-store _ _ _ (c .before .before .before .before .before .if1 .left) (good-told (c .before .before .before .before .lengths-check .ensures) (c .before .before .before .is-refused .ensures) (c .before .before .if2 .left)) _ (c .before .start .ensures) (c .if3 .taken)
+returns-3 c =
+    let at-start = c .before in
+    let at-if2 = at-start .before in
+    let at-is-refused = at-if2 .before in
+    let at-lengths-check = at-is-refused .before in
+    let at-if1 = at-lengths-check .before in
+    check-store _ _ _ (at-if1 .if1 .left) (good-told (at-lengths-check .lengths-check .ensures) (at-is-refused .is-refused .ensures) (at-if2 .if2 .left))
+    _ (at-start .start .ensures) (c .if3 .taken)
 
 entries-check-requires : tie.Need-entries-check-requires
-entries-check-requires c κs = check-handed p _ _ (c .before .before .before .before .before .if1 .left) (good-told (c .before .before .before .before .lengths-check .ensures) (c .before .before .before .is-refused .ensures) (c .before .before .if2 .left)) _ (c .before .start .ensures) (c .if3 .left)
+entries-check-requires c κs =
+    let at-start = c .before in
+    let at-if2 = at-start .before in
+    let at-is-refused = at-if2 .before in
+    let at-lengths-check = at-is-refused .before in
+    let at-if1 = at-lengths-check .before in
+    check-handed p _ _ (at-if1 .if1 .left) (good-told (at-lengths-check .lengths-check .ensures) (at-is-refused .is-refused .ensures)
+    (at-if2 .if2 .left)) _ (at-start .start .ensures) (c .if3 .left)
 
 returns-4 : tie.Need-returns-4
-returns-4 c = check-entries _ _ _ (c .before .before .before .before .before .before .if1 .left) (good-told (c .before .before .before .before .before .lengths-check .ensures) (c .before .before .before .before .is-refused .ensures) (c .before .before .before .if2 .left)) _ (c .before .before .start .ensures) _ (c .before .if3 .left) (c .entries-check .ensures)
+returns-4 c =
+    let at-if3 = c .before in
+    let at-start = at-if3 .before in
+    let at-if2 = at-start .before in
+    let at-is-refused = at-if2 .before in
+    let at-lengths-check = at-is-refused .before in
+    let at-if1 = at-lengths-check .before in
+    check-entries _ _ _ (at-if1 .if1 .left) (good-told (at-lengths-check .lengths-check .ensures) (at-is-refused .is-refused .ensures)
+    (at-if2 .if2 .left)) _ (at-start .start .ensures) _ (at-if3 .if3 .left) (c .entries-check .ensures)
 
 pub prepare-check-spec : {M : Type 1} → statement M
 prepare-check-spec =

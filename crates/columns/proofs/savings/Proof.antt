@@ -33,7 +33,11 @@ shared-slice-read-sum : tie.Need-shared-slice-read-sum Inv-loop μ-loop
 shared-slice-read-sum c = omega (arith, c .before .before .before .before .before .pre .room)
 
 add-sum : tie.Need-add-sum Inv-loop μ-loop
-add-sum c = omega (arith, c .before .before .before .before .before .pre .small (c .before .before .before .before .loop .i) (c .before .before .before .loop-test .taken), c .before .before .before .before .before .pre .few)
+add-sum c =
+    let at-loop-test = c .before .before .before in
+    let at-loop = at-loop-test .before in
+    let start = at-loop .before in
+    omega (arith, start .pre .small (at-loop .loop .i) (at-loop-test .loop-test .taken), start .pre .few)
 
 add-i : tie.Need-add-i Inv-loop μ-loop
 add-i c = omega arith
@@ -43,9 +47,17 @@ loop-less c = omega arith
 
 loop-again : tie.Need-loop-again Inv-loop μ-loop
 loop-again c =
+    let at-loop-test = c .before .before in
+    let at-loop = at-loop-test .before in
+    let start = at-loop .before in
     ⊎-elim
-    (λ w. (omega arith, omega (arith, c .before .before .before .before .pre .small (c .before .before .before .loop .i) (c .before .before .loop-test .taken)), savings-hit _ _ _ _ _ _ (w .0 .taken) (w .2) (c .before .before .before .loop .inv .2)))
-    (λ w. (omega arith, omega arith, savings-miss _ _ _ _ _ _ (w .0 .left) (w .1) (c .before .before .before .loop .inv .2)))
+    (λ w. (
+      omega arith,
+      omega (arith, start .pre .small (at-loop .loop .i) (at-loop-test .loop-test .taken)),
+      savings-hit _ _ _ _ _ _ (w .0 .taken)
+          (w .2) (at-loop .loop .inv .2),
+    ))
+    (λ w. (omega arith, omega arith, savings-miss _ _ _ _ _ _ (w .0 .left) (w .1) (at-loop .loop .inv .2)))
     (c .if1 .came)
 
 returns : tie.Need-returns Inv-loop μ-loop

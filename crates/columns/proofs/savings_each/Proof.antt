@@ -26,13 +26,25 @@ unfolding Prepare.padded Prepare.upTo
 loop-holds c = (omega arith, refl)
 
 saving-requires : tie.Need-saving-requires Inv-loop μ-loop
-saving-requires c κs = (c .before .before .before .before .before .pre .0, c .loop-test .taken, lt-of-lt-of-le (lt-of-lt-of-le (c .loop-test .taken) (c .before .before .before .before .before .pre .0 .few)) (le-of-eq (sym (ap length (c .before .before .before .before .before .pre .1) ∙ length-gains p _ _ (c .before .before .before .before .before .pre .0)))))
+saving-requires c κs =
+    let start = c .before .before .before .before .before in (
+      start .pre .0,
+      c .loop-test .taken,
+      lt-of-lt-of-le (lt-of-lt-of-le (c .loop-test .taken) (start .pre .0 .few))
+          (le-of-eq (sym (ap length (start .pre .1) ∙ length-gains p _ _ (start .pre .0)))),
+    )
 
 mul-each : tie.Need-mul-each Inv-loop μ-loop
-mul-each c = omega (arith, lt-of-lt-of-le (c .before .loop-test .taken) (c .before .before .before .before .before .before .pre .0 .few))
+mul-each c =
+    let at-loop-test = c .before in
+    let start = at-loop-test .before .before .before .before .before in
+    omega (arith, lt-of-lt-of-le (at-loop-test .loop-test .taken) (start .pre .0 .few))
 
 array-write-each : tie.Need-array-write-each Inv-loop μ-loop
-array-write-each c = lt-of-lt-of-le (c .before .loop-test .taken) (c .before .before .before .before .before .before .pre .0 .few)
+array-write-each c =
+    let at-loop-test = c .before in
+    let start = at-loop-test .before .before .before .before .before in
+    lt-of-lt-of-le (at-loop-test .loop-test .taken) (start .pre .0 .few)
 
 add-j : tie.Need-add-j Inv-loop μ-loop
 add-j c = omega arith
@@ -41,7 +53,14 @@ loop-less : tie.Need-loop-less Inv-loop μ-loop
 loop-less c = omega arith
 
 loop-again : tie.Need-loop-again Inv-loop μ-loop
-loop-again c = (omega arith, fill-next _ _ _ _ _ _ (lt-of-lt-of-le (c .before .loop-test .taken) (c .before .before .before .before .before .before .pre .0 .few)) (c .before .before .loop .inv .1) (c .saving .ensures ∙ counted-is _ _ _ (c .before .before .before .before .before .before .pre .0) _ _ (c .before .before .before .before .before .before .pre .1) (c .before .loop-test .taken)))
+loop-again c =
+    let at-loop-test = c .before in
+    let at-loop = at-loop-test .before in
+    let start = at-loop .before .before .before .before in (
+      omega arith,
+      fill-next _ _ _ _ _ _ (lt-of-lt-of-le (at-loop-test .loop-test .taken) (start .pre .0 .few)) (at-loop .loop .inv .1)
+          (c .saving .ensures ∙ counted-is _ _ _ (start .pre .0) _ _ (start .pre .1) (at-loop-test .loop-test .taken)),
+    )
 
 returns : tie.Need-returns Inv-loop μ-loop
 unfolding Said.savingsEach

@@ -40,9 +40,22 @@ loop-less c = omega arith
 
 loop-again : tie.Need-loop-again Inv-loop μ-loop
 loop-again c =
+    let at-is-scaled = c .before in
+    let at-loop-test = at-is-scaled .before .before in
+    let at-loop = at-loop-test .before in
     ⊎-elim
-    (λ w. (omega arith, omega arith, scaled-hit _ _ _ _ _ _ _ (c .before .before .before .loop-test .taken) (told (c .before .is-scaled .ensures) (w .0 .taken)) (w .1) (c .before .before .before .before .loop .inv .2)))
-    (λ w. (omega arith, omega arith, scaled-miss _ _ _ _ _ _ _ (c .before .before .before .loop-test .taken) (told (c .before .is-scaled .ensures) (w .0 .left)) (w .1) (c .before .before .before .before .loop .inv .2)))
+    (λ w. (
+      omega arith,
+      omega arith,
+      scaled-hit _ _ _ _ _ _ _ (at-loop-test .loop-test .taken)
+          (told (at-is-scaled .is-scaled .ensures) (w .0 .taken)) (w .1) (at-loop .loop .inv .2),
+    ))
+    (λ w. (
+      omega arith,
+      omega arith,
+      scaled-miss _ _ _ _ _ _ _ (at-loop-test .loop-test .taken)
+          (told (at-is-scaled .is-scaled .ensures) (w .0 .left)) (w .1) (at-loop .loop .inv .2),
+    ))
     (c .if1 .came)
 
 returns : tie.Need-returns Inv-loop μ-loop

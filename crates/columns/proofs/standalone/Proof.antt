@@ -28,7 +28,13 @@ add-result-2 : tie.Need-add-result-2
 add-result-2 c = omega (arith, ops-fit (c .before .before .others .result) (c .before .log-length .result) (omega arith) (c .before .log-length .ensures .1))
 
 returns : tie.Need-returns
-returns c = standalone-sparse _ _ _ _ (c .before .before .others .ensures) (c .before .log-length .ensures .0) (c .sparse-ops .ensures) (told (c .before .before .before .before .is-sparse .ensures) (c .before .before .before .if1 .taken))
+returns c =
+    let at-log-length = c .before in
+    let at-others = at-log-length .before in
+    let at-if1 = at-others .before in
+    let at-is-sparse = at-if1 .before in
+    standalone-sparse _ _ _ _ (at-others .others .ensures) (at-log-length .log-length .ensures .0) (c .sparse-ops .ensures)
+    (told (at-is-sparse .is-sparse .ensures) (at-if1 .if1 .taken))
 
 dense-ops-requires : tie.Need-dense-ops-requires
 dense-ops-requires c κs = search needs

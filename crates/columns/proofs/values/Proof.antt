@@ -34,7 +34,16 @@ loop-less : tie.Need-loop-less Inv-loop μ-loop
 loop-less c = omega arith
 
 loop-again : tie.Need-loop-again Inv-loop μ-loop
-loop-again c = (omega arith, omega arith, c .before .before .with-new .kept .0 ∙ c .before .before .before .before .before .before .loop .inv .2, values-next _ _ _ _ _ (c .before .before .before .before .before .loop-test .taken) (c .before .before .with-new .ensures .0) (c .before .before .before .before .before .before .loop .inv .3))
+loop-again c =
+    let at-with-new = c .before .before in
+    let at-loop-test = at-with-new .before .before .before in
+    let at-loop = at-loop-test .before in (
+      omega arith,
+      omega arith,
+      at-with-new .with-new .kept .0 ∙ at-loop .loop .inv .2,
+      values-next _ _ _ _ _ (at-loop-test .loop-test .taken)
+          (at-with-new .with-new .ensures .0) (at-loop .loop .inv .3),
+    )
 
 same-length : tie.Need-same-length Inv-loop μ-loop
 same-length c = c .before .loop .inv .2

@@ -15,22 +15,68 @@ enum-told : tie.Need-enum-told
 enum-told c = search needs
 
 compact-sized-requires : tie.Need-compact-sized-requires
-compact-sized-requires c κs = may-compact (c .before .before .before .before .before .before .args .list .now) (c .before .before .before .before .before .before .args .n) (c .before .before .before .before .before .before .args .root) (c .before .before .before .before .before .before .args .result .now) (told (c .before .before .before .compact-check .ensures) (c .before .enum-told .given .1))
+compact-sized-requires c κs =
+    let at-enum-told = c .before in
+    let at-compact-check = at-enum-told .before .before in
+    let start = at-compact-check .before .before .before in
+    may-compact (start .args .list .now) (start .args .n) (start .args .root) (start .args .result .now)
+    (told (at-compact-check .compact-check .ensures) (at-enum-told .enum-told .given .1))
 
 mul-blank-from : tie.Need-mul-blank-from
-mul-blank-from c = omega (arith, may-blank (c .before .before .before .before .before .before .before .before .before .before .before .args .list .now) (c .before .before .before .before .before .before .before .before .before .before .before .args .n) (c .before .before .before .before .before .before .before .before .before .before .before .args .root) (c .before .before .before .before .before .before .before .before .before .before .before .args .result .now) (told (c .before .before .before .before .before .before .before .before .compact-check .ensures) (c .before .before .before .before .before .before .enum-told .given .1)) _ (c .before .before .before .before .compact-sized .ensures .0) _ (c .before .before .before .before .compact-sized .ensures .1), (c .before .before .before .before .compact-sized .kept .1 .1 .1 .0), (c .before .before .before .before .before .before .before .before .before .before .before .good .1 .1 .1 .0 .1))
+mul-blank-from c =
+    let at-compact-sized = c .before .before .before .before in
+    let at-enum-told = at-compact-sized .before .before in
+    let at-compact-check = at-enum-told .before .before in
+    let start = at-compact-check .before .before .before in
+    omega (
+      arith,
+      may-blank (start .args .list .now) (start .args .n) (start .args .root) (start .args .result .now)
+          (told (at-compact-check .compact-check .ensures) (at-enum-told .enum-told .given .1)) _ (at-compact-sized .compact-sized .ensures .0) _
+          (at-compact-sized .compact-sized .ensures .1),
+      (at-compact-sized .compact-sized .kept .1 .1 .1 .0),
+      (start .good .1 .1 .1 .0 .1),
+    )
 
 blank-from-requires : tie.Need-blank-from-requires
-blank-from-requires c κs = omega (arith, may-blank (c .before .before .before .before .before .before .before .before .before .before .before .args .list .now) (c .before .before .before .before .before .before .before .before .before .before .before .args .n) (c .before .before .before .before .before .before .before .before .before .before .before .args .root) (c .before .before .before .before .before .before .before .before .before .before .before .args .result .now) (told (c .before .before .before .before .before .before .before .before .compact-check .ensures) (c .before .before .before .before .before .before .enum-told .given .1)) _ (c .before .before .before .before .compact-sized .ensures .0) _ (c .before .before .before .before .compact-sized .ensures .1))
+blank-from-requires c κs =
+    let at-compact-sized = c .before .before .before .before in
+    let at-enum-told = at-compact-sized .before .before in
+    let at-compact-check = at-enum-told .before .before in
+    let start = at-compact-check .before .before .before in
+    omega (
+      arith,
+      may-blank (start .args .list .now) (start .args .n) (start .args .root) (start .args .result .now)
+          (told (at-compact-check .compact-check .ensures) (at-enum-told .enum-told .given .1)) _ (at-compact-sized .compact-sized .ensures .0) _
+          (at-compact-sized .compact-sized .ensures .1),
+    )
 
 returns : tie.Need-returns
-returns c = (answer-refused (c .before .before .before .before .before .before .args .list .now) (c .before .before .before .before .before .before .args .n) (c .before .before .before .before .before .before .args .root) (c .before .before .before .before .before .before .args .result .now) _ (told (c .before .before .before .compact-check .ensures) (c .before .checked .given .1)), result-refused (c .before .before .before .before .before .before .args .list .now) (c .before .before .before .before .before .before .args .n) (c .before .before .before .before .before .before .args .root) (c .before .before .before .before .before .before .args .result .now) _ (told (c .before .before .before .compact-check .ensures) (c .before .checked .given .1)))
+returns c =
+    let at-checked = c .before in
+    let at-compact-check = at-checked .before .before in
+    let start = at-compact-check .before .before .before in (
+      answer-refused (start .args .list .now) (start .args .n) (start .args .root) (start .args .result .now) _
+          (told (at-compact-check .compact-check .ensures) (at-checked .checked .given .1)),
+      result-refused (start .args .list .now) (start .args .n)
+          (start .args .root) (start .args .result .now) _ (told (at-compact-check .compact-check .ensures) (at-checked .checked .given .1)),
+    )
 
 same-length : tie.Need-same-length
 same-length c = search needs
 
 returns-2 : tie.Need-returns-2
-returns-2 c = (answer-done (c .before .before .before .before .before .before .before .before .before .before .before .before .before .before .args .list .now) (c .before .before .before .before .before .before .before .before .before .before .before .before .before .before .args .n) (c .before .before .before .before .before .before .before .before .before .before .before .before .before .before .args .root) (c .before .before .before .before .before .before .before .before .before .before .before .before .before .before .args .result .now) (told (c .before .before .before .before .before .before .before .before .before .before .before .compact-check .ensures) (c .before .before .before .before .before .before .before .before .before .enum-told .given .1)) _ (c .before .before .before .before .before .before .before .compact-sized .ensures .0), result-done (c .before .before .before .before .before .before .before .before .before .before .before .before .before .before .args .list .now) (c .before .before .before .before .before .before .before .before .before .before .before .before .before .before .args .n) (c .before .before .before .before .before .before .before .before .before .before .before .before .before .before .args .root) (c .before .before .before .before .before .before .before .before .before .before .before .before .before .before .args .result .now) (told (c .before .before .before .before .before .before .before .before .before .before .before .compact-check .ensures) (c .before .before .before .before .before .before .before .before .before .enum-told .given .1)) _ (c .before .before .before .before .before .before .before .compact-sized .ensures .0) _ (c .before .before .before .before .before .before .before .compact-sized .ensures .1) _ (c .before .before .blank-from .ensures))
+returns-2 c =
+    let at-blank-from = c .before .before in
+    let at-compact-sized = at-blank-from .before .before .before .before .before in
+    let at-enum-told = at-compact-sized .before .before in
+    let at-compact-check = at-enum-told .before .before in
+    let start = at-compact-check .before .before .before in (
+      answer-done (start .args .list .now) (start .args .n) (start .args .root) (start .args .result .now)
+          (told (at-compact-check .compact-check .ensures) (at-enum-told .enum-told .given .1)) _ (at-compact-sized .compact-sized .ensures .0),
+      result-done (start .args .list .now) (start .args .n) (start .args .root) (start .args .result .now)
+          (told (at-compact-check .compact-check .ensures) (at-enum-told .enum-told .given .1)) _ (at-compact-sized .compact-sized .ensures .0) _
+          (at-compact-sized .compact-sized .ensures .1) _ (at-blank-from .blank-from .ensures),
+    )
 
 pub compact-spec : {M : Type 1} → statement M
 compact-spec =

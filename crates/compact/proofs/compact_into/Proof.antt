@@ -25,7 +25,12 @@ same-length-2 c = search needs
 
 returns : tie.Need-returns
 unfolding Calls.keptOf
-returns c = (ap₂ kept-of (c .before .before .before .before .before .before .before .before .before .number-reachable .ensures .0) (c .before .before .write-numbered .ensures .0), (c .before .before .write-numbered .ensures .1))
+returns c =
+    let at-write-numbered = c .before .before in
+    let at-number-reachable = at-write-numbered .before .before .before .before .before .before .before in (
+      ap₂ kept-of (at-number-reachable .number-reachable .ensures .0) (at-write-numbered .write-numbered .ensures .0),
+      (at-write-numbered .write-numbered .ensures .1),
+    )
 
 pub compact-into-spec : {M : Type 1} → statement M
 compact-into-spec =

@@ -29,16 +29,34 @@ slice-read-if1 : tie.Need-slice-read-if1 Inv-loop μ-loop
 slice-read-if1 c = omega (arith, simp length-set at (c .before .before .loop .inv .1), c .before .before .before .before .before .pre .fits)
 
 node-at-requires : tie.Need-node-at-requires Inv-loop μ-loop
-node-at-requires c κs = omega (arith, c .before .before .before .before .before .before .before .pre .sound .room)
+node-at-requires c κs =
+    let at-point = c .before .before .before .before .before .before .before in
+    let start = at-point in
+    omega (arith, start .pre .sound .room)
 
 mark-operands-requires : tie.Need-mark-operands-requires Inv-loop μ-loop
-mark-operands-requires c κs = operands-inside _ _ _ _ _ (c .before .before .before .before .before .before .before .before .pre .sound) (omega arith) (omega (arith, simp length-set at (c .before .before .before .before .before .loop .inv .1), c .before .before .before .before .before .before .before .before .pre .fits)) (c .node-at .ensures)
+mark-operands-requires c κs =
+    let at-loop = c .before .before .before .before .before in
+    let start = at-loop .before .before .before in
+    operands-inside _ _ _ _ _ (start .pre .sound) (omega arith) (omega (arith, simp length-set at (at-loop .loop .inv .1), start .pre .fits))
+    (c .node-at .ensures)
 
 loop-less : tie.Need-loop-less Inv-loop μ-loop
 loop-less c = omega arith
 
 loop-again : tie.Need-loop-again Inv-loop μ-loop
-loop-again c = (omega arith, c .before .before .mark-operands .kept .0 ∙ c .before .before .before .before .before .before .before .before .loop .inv .1, c .before .before .before .before .before .before .before .before .loop .inv .2 ∙ (sweep-marked _ _ _ (c .before .before .before .before .before .before .before .loop-test .taken) _ (c .before .before .before .before .before .if1 .taken) (c .before .before .before .node-at .ensures ∙ sym (at-nodes _ _ _ (omega arith))) ∙ ap (sweep _ _) (sym (c .before .before .mark-operands .ensures))))
+loop-again c =
+    let at-mark-operands = c .before .before in
+    let at-node-at = at-mark-operands .before in
+    let at-if1 = at-node-at .before .before in
+    let at-loop-test = at-if1 .before .before in
+    let at-loop = at-loop-test .before in (
+      omega arith,
+      at-mark-operands .mark-operands .kept .0 ∙ at-loop .loop .inv .1,
+      at-loop .loop .inv .2 ∙
+          (sweep-marked _ _ _ (at-loop-test .loop-test .taken) _ (at-if1 .if1 .taken) (at-node-at .node-at .ensures ∙ sym (at-nodes _ _ _ (omega arith)))
+          ∙ ap (sweep _ _) (sym (at-mark-operands .mark-operands .ensures))),
+    )
 
 loop-less-2 : tie.Need-loop-less-2 Inv-loop μ-loop
 loop-less-2 c = omega arith

@@ -39,13 +39,29 @@ loop-less : tie.Need-loop-less Inv-loop μ-loop
 loop-less c = omega arith
 
 loop-again : tie.Need-loop-again Inv-loop μ-loop
-loop-again c = (omega arith, simp length-set (c .before .before .before .loop .inv .1), rank-up _ _ _ (c .before .before .before .loop .inv .2) (c .if1 .taken), ranks-more _ _ _ (c .before .before .before .loop .inv .2) _ _ (omega (arith, c .before .before .before .before .pre .1)) (c .before .before .before .loop .inv .3))
+loop-again c =
+    let at-loop = c .before .before .before in
+    let start = at-loop .before in (
+      omega arith,
+      simp length-set (at-loop .loop .inv .1),
+      rank-up _ _ _ (at-loop .loop .inv .2) (c .if1 .taken),
+      ranks-more _ _ _
+          (at-loop .loop .inv .2) _ _ (omega (arith, start .pre .1)) (at-loop .loop .inv .3),
+    )
 
 loop-less-2 : tie.Need-loop-less-2 Inv-loop μ-loop
 loop-less-2 c = omega arith
 
 loop-again-2 : tie.Need-loop-again-2 Inv-loop μ-loop
-loop-again-2 c = (omega arith, simp length-set (c .before .before .before .loop .inv .1), rank-stays _ _ _ (c .before .before .before .loop .inv .2) (c .if1 .left), ranks-more _ _ _ (c .before .before .before .loop .inv .2) _ _ (omega (arith, c .before .before .before .before .pre .1)) (c .before .before .before .loop .inv .3))
+loop-again-2 c =
+    let at-loop = c .before .before .before in
+    let start = at-loop .before in (
+      omega arith,
+      simp length-set (at-loop .loop .inv .1),
+      rank-stays _ _ _ (at-loop .loop .inv .2) (c .if1 .left),
+      ranks-more _ _ _
+          (at-loop .loop .inv .2) _ _ (omega (arith, start .pre .1)) (at-loop .loop .inv .3),
+    )
 
 same-length : tie.Need-same-length Inv-loop μ-loop
 same-length c = c .before .loop .inv .1

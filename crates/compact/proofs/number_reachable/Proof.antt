@@ -8,7 +8,11 @@ mark-reachable-requires : tie.Need-mark-reachable-requires
 mark-reachable-requires c κs = rw (unmarked-long 8192 _ (c .before .before .before .before .pre .1)) (c .before .before .before .before .pre .0)
 
 number-marked-requires : tie.Need-number-marked-requires
-number-marked-requires c κs = let h = unmarked-long 8192 _ (c .before .before .before .before .before .before .before .before .before .pre .1) in let k = (c .before .before .before .before .mark-reachable .kept .1 .1 .1 .0) in (omega (arith, h, k, (c .before .before .before .before .before .before .before .before .before .pre .0 .fits)), (c .before .before .before .before .before .before .before .before .before .pre .2))
+number-marked-requires c κs =
+    let at-mark-reachable = c .before .before .before .before in
+    let start = at-mark-reachable .before .before .before .before .before in
+    let h = unmarked-long 8192 _ (start .pre .1) in let k = (at-mark-reachable .mark-reachable .kept .1 .1 .1 .0) in
+    (omega (arith, h, k, (start .pre .0 .fits)), (start .pre .2))
 
 same-length : tie.Need-same-length
 same-length c = search needs
@@ -17,7 +21,13 @@ same-length-2 : tie.Need-same-length-2
 same-length-2 c = search needs
 
 returns : tie.Need-returns
-returns c = numbered (c .before .before .before .before .before .before .before .before .before .before .before .before .args .list .now) (c .before .before .before .before .before .before .before .before .before .before .before .before .args .n) (c .before .before .before .before .before .before .before .before .before .before .before .before .args .root) (c .before .before .before .before .before .before .before .before .before .before .before .before .args .reachable .now) _ (c .before .before .before .before .before .before .before .before .before .before .before .before .args .remap .now) _ _ (c .before .before .before .before .before .before .before .before .before .before .before .before .pre .0) (c .before .before .before .before .before .before .before .before .before .before .before .before .pre .1) (c .before .before .before .before .before .before .before .before .before .before .before .before .pre .2) (c .before .before .before .before .before .before .before .mark-reachable .ensures) (c .before .before .before .before .before .before .before .mark-reachable .kept .1 .1 .1 .0) (c .before .before .number-marked .ensures .0) (c .before .before .number-marked .ensures .1) (c .before .before .number-marked .kept .1 .1 .0)
+returns c =
+    let at-number-marked = c .before .before in
+    let at-mark-reachable = at-number-marked .before .before .before .before .before in
+    let start = at-mark-reachable .before .before .before .before .before in
+    numbered (start .args .list .now) (start .args .n) (start .args .root) (start .args .reachable .now) _ (start .args .remap .now) _ _ (start .pre .0)
+    (start .pre .1) (start .pre .2) (at-mark-reachable .mark-reachable .ensures) (at-mark-reachable .mark-reachable .kept .1 .1 .1 .0)
+    (at-number-marked .number-marked .ensures .0) (at-number-marked .number-marked .ensures .1) (at-number-marked .number-marked .kept .1 .1 .0)
 
 pub number-reachable-spec : {M : Type 1} → statement M
 number-reachable-spec =

@@ -22,34 +22,71 @@ unfolding kept
 loop-holds c = (omega arith, refl, sym (written-nil _))
 
 add-next : tie.Need-add-next Inv-loop μ-loop
-add-next c = omega (arith, (c .before .before .before .before .before .before .pre .marks), (c .before .before .before .before .before .before .good))
+add-next c =
+    let at-point = c .before .before .before .before .before .before in
+    let start = at-point in
+    omega (arith, (start .pre .marks), (start .good))
 
 shared-slice-read-if1 : tie.Need-shared-slice-read-if1 Inv-loop μ-loop
-shared-slice-read-if1 c = omega (arith, (c .before .before .before .before .before .before .before .pre .marks))
+shared-slice-read-if1 c =
+    let at-point = c .before .before .before .before .before .before .before in
+    let start = at-point in
+    omega (arith, (start .pre .marks))
 
 mapped-requires : tie.Need-mapped-requires Inv-loop μ-loop
-mapped-requires c κs = omega (arith, (c .before .before .before .before .before .before .before .before .before .pre .remaps .fits))
+mapped-requires c κs =
+    let at-point = c .before .before .before .before .before .before .before .before .before in
+    let start = at-point in
+    omega (arith, (start .pre .remaps .fits))
 
 node-at-requires : tie.Need-node-at-requires Inv-loop μ-loop
-node-at-requires c κs = omega (arith, (c .before .before .before .before .before .before .before .before .before .before .pre .sound .room))
+node-at-requires c κs =
+    let at-point = c .before .before .before .before .before .before .before .before .before .before in
+    let start = at-point in
+    omega (arith, (start .pre .sound .room))
 
 renamed-requires : tie.Need-renamed-requires Inv-loop μ-loop
-renamed-requires c κs = record-fine _ _ _ _ _ (c .before .before .before .before .before .before .before .before .before .before .before .pre .sound) (omega arith) (c .before .before .before .before .before .before .before .before .before .before .before .pre .remaps .fits) (c .node-at .ensures)
+renamed-requires c κs =
+    let at-point = c .before .before .before .before .before .before .before .before .before .before .before in
+    let start = at-point in
+    record-fine _ _ _ _ _ (start .pre .sound) (omega arith) (start .pre .remaps .fits) (c .node-at .ensures)
 
 put-node-requires : tie.Need-put-node-requires Inv-loop μ-loop
-put-node-requires c κs = rw ((c .before .before .before .before .before .before .before .loop .inv .1), (c .before .before .mapped .ensures)) (place-room _ _ _ _ (c .before .before .before .before .before .before .before .before .before .before .before .before .args .result .now) (c .before .before .before .before .before .before .before .before .before .before .before .before .pre) _ (omega arith) (c .before .before .before .before .if1 .taken))
+put-node-requires c κs =
+    let at-mapped = c .before .before in
+    let at-if1 = at-mapped .before .before in
+    let at-loop = at-if1 .before .before .before in
+    let start = at-loop .before .before .before .before .before in
+    rw ((at-loop .loop .inv .1), (at-mapped .mapped .ensures)) (place-room _ _ _ _ (start .args .result .now) (start .pre) _ (omega arith)
+    (at-if1 .if1 .taken))
 
 loop-less : tie.Need-loop-less Inv-loop μ-loop
 loop-less c = omega arith
 
 loop-again : tie.Need-loop-again Inv-loop μ-loop
-loop-again c = (omega arith, (c .before .before .put-node .kept .0) ∙ (c .before .before .before .before .before .before .before .before .before .before .loop .inv .1), (rw (c .before .before .before .before .before .mapped .ensures) at (c .before .before .put-node .ensures)) ∙ write-kept _ _ _ _ _ (c .before .before .before .before .before .before .before .before .before .before .before .before .before .before .before .pre) _ (omega arith) _ _ _ (c .before .before .before .before .before .before .before .before .before .before .loop .inv .2) (c .before .before .before .before .before .before .before .if1 .taken) (c .before .before .before .before .node-at .ensures) (c .before .before .before .renamed .ensures))
+loop-again c =
+    let at-put-node = c .before .before in
+    let at-renamed = at-put-node .before in
+    let at-node-at = at-renamed .before in
+    let at-mapped = at-node-at .before in
+    let at-if1 = at-mapped .before .before in
+    let at-loop = at-if1 .before .before .before in
+    let start = at-loop .before .before .before .before .before in (
+      omega arith,
+      (at-put-node .put-node .kept .0) ∙ (at-loop .loop .inv .1),
+      (rw (at-mapped .mapped .ensures) at (at-put-node .put-node .ensures)) ∙
+          write-kept _ _ _ _ _ (start .pre) _ (omega arith) _ _ _ (at-loop .loop .inv .2) (at-if1 .if1 .taken) (at-node-at .node-at .ensures)
+          (at-renamed .renamed .ensures),
+    )
 
 loop-less-2 : tie.Need-loop-less-2 Inv-loop μ-loop
 loop-less-2 c = omega arith
 
 loop-again-2 : tie.Need-loop-again-2 Inv-loop μ-loop
-loop-again-2 c = (omega arith, (c .before .before .before .loop .inv .1), write-skipped _ _ _ _ _ (c .before .before .before .before .before .before .before .before .pre) _ (omega arith) _ (c .before .before .before .loop .inv .2) (c .if1 .left))
+loop-again-2 c =
+    let at-loop = c .before .before .before in
+    let start = at-loop .before .before .before .before .before in
+    (omega arith, (at-loop .loop .inv .1), write-skipped _ _ _ _ _ (start .pre) _ (omega arith) _ (at-loop .loop .inv .2) (c .if1 .left))
 
 same-length : tie.Need-same-length Inv-loop μ-loop
 same-length c = (c .before .loop .inv .1)

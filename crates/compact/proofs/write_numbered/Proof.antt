@@ -6,7 +6,10 @@ use Rattle.compact.proofs.write_numbered.Statement.{statement}
 use Rattle.compact.proofs.write_numbered.Tie as tie
 
 write-marked-requires : tie.Need-write-marked-requires
-write-marked-requires c κs = may-write _ _ _ 8192 (c .before .before .before .before .before .pre .0 .markable) _ (c .before .before .before .before .before .pre .0 .marks-are) _ (c .before .before .before .before .before .pre .0 .behind) (c .before .before .before .before .before .pre .0 .places-are) (c .before .before .before .before .before .pre .0 .marks-fit) (c .before .before .before .before .before .pre .0 .places-fit) _ (c .before .before .before .before .before .pre .1)
+write-marked-requires c κs =
+    let start = c .before .before .before .before .before in
+    may-write _ _ _ 8192 (start .pre .0 .markable) _ (start .pre .0 .marks-are) _ (start .pre .0 .behind) (start .pre .0 .places-are)
+    (start .pre .0 .marks-fit) (start .pre .0 .places-fit) _ (start .pre .1)
 
 mapped-requires : tie.Need-mapped-requires
 mapped-requires c κs = search needs
@@ -15,7 +18,14 @@ same-length : tie.Need-same-length
 same-length c = search needs
 
 returns : tie.Need-returns
-returns c = ((c .mapped .ensures) ∙ root-place _ _ _ 8192 (c .before .before .before .before .before .before .before .before .before .pre .0 .markable) _ (c .before .before .before .before .before .before .before .before .before .pre .0 .marks-are) _ (c .before .before .before .before .before .before .before .before .before .pre .0 .behind) (c .before .before .before .before .before .before .before .before .before .pre .0 .places-are), (c .before .before .before .write-marked .ensures) ∙ ap (written _) (kept-list _ _ _ 8192 (c .before .before .before .before .before .before .before .before .before .pre .0 .markable) _ (c .before .before .before .before .before .before .before .before .before .pre .0 .marks-are)))
+returns c =
+    let at-write-marked = c .before .before .before in
+    let start = at-write-marked .before .before .before .before .before .before in (
+      (c .mapped .ensures) ∙ root-place _ _ _ 8192 (start .pre .0 .markable) _ (start .pre .0 .marks-are) _ (start .pre .0 .behind)
+          (start .pre .0 .places-are),
+      (at-write-marked .write-marked .ensures) ∙ ap (written _)
+          (kept-list _ _ _ 8192 (start .pre .0 .markable) _ (start .pre .0 .marks-are)),
+    )
 
 pub write-numbered-spec : {M : Type 1} → statement M
 write-numbered-spec =

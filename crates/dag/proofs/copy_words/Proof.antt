@@ -36,7 +36,16 @@ loop-less : tie.Need-loop-less Inv-loop μ-loop
 loop-less c = omega (arith, c .before .loop-test .taken)
 
 loop-again : tie.Need-loop-again Inv-loop μ-loop
-loop-again c = (omega (arith, c .before .loop-test .taken), simp length-set (c .before .before .loop .inv .1), rw (c .before .before .loop .inv .2) (copied-more (c .before .before .before .args .from .now) (c .before .before .before .args .to .now) (c .before .before .loop .i) (omega (arith, c .before .before .before .pre .0, c .before .loop-test .taken)) (omega (arith, c .before .before .before .pre .1, c .before .loop-test .taken))))
+loop-again c =
+    let at-loop-test = c .before in
+    let at-loop = at-loop-test .before in
+    let start = at-loop .before in (
+      omega (arith, at-loop-test .loop-test .taken),
+      simp length-set (at-loop .loop .inv .1),
+      rw (at-loop .loop .inv .2)
+          (copied-more (start .args .from .now) (start .args .to .now) (at-loop .loop .i) (omega (arith, start .pre .0, at-loop-test .loop-test .taken))
+          (omega (arith, start .pre .1, at-loop-test .loop-test .taken))),
+    )
 
 same-length : tie.Need-same-length Inv-loop μ-loop
 same-length c = c .before .loop .inv .1

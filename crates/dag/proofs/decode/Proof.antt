@@ -21,11 +21,35 @@ returns-4 c = simp (ne-eqb _ _ (c .before .before .before .if1 .left), ne-eqb _ 
 
 returns-5 : tie.Need-returns-5
 unfolding Nodes.decode
-returns-5 c = simp (ne-eqb _ _ (c .before .before .before .before .if1 .left), ne-eqb _ _ (c .before .before .before .if2 .left), ne-eqb _ _ (c .before .before .if3 .left), ne-eqb _ _ (c .before .if4 .left), eq-eqb _ _ (c .if5 .taken))
+returns-5 c =
+    let at-if4 = c .before in
+    let at-if3 = at-if4 .before in
+    let at-if2 = at-if3 .before in
+    let at-if1 = at-if2 .before in
+    simp (
+      ne-eqb _ _ (at-if1 .if1 .left),
+      ne-eqb _ _ (at-if2 .if2 .left),
+      ne-eqb _ _ (at-if3 .if3 .left),
+      ne-eqb _ _ (at-if4 .if4 .left),
+      eq-eqb _ _
+          (c .if5 .taken),
+    )
 
 returns-6 : tie.Need-returns-6
 unfolding Nodes.decode
-returns-6 c = simp (ne-eqb _ _ (c .before .before .before .before .if1 .left), ne-eqb _ _ (c .before .before .before .if2 .left), ne-eqb _ _ (c .before .before .if3 .left), ne-eqb _ _ (c .before .if4 .left), ne-eqb _ _ (c .if5 .left))
+returns-6 c =
+    let at-if4 = c .before in
+    let at-if3 = at-if4 .before in
+    let at-if2 = at-if3 .before in
+    let at-if1 = at-if2 .before in
+    simp (
+      ne-eqb _ _ (at-if1 .if1 .left),
+      ne-eqb _ _ (at-if2 .if2 .left),
+      ne-eqb _ _ (at-if3 .if3 .left),
+      ne-eqb _ _ (at-if4 .if4 .left),
+      ne-eqb _ _
+          (c .if5 .left),
+    )
 
 pub decode-spec : {M : Type 1} → statement M
 decode-spec = tie.close (tie.spec returns returns-2 returns-3 returns-4 returns-5 returns-6)

@@ -12,7 +12,11 @@ returns-3 : tie.Need-returns-3
 returns-3 c = two-fields (c .before .before .before .args .count) (c .before .before .before .args .number) (c .if3 .taken)
 
 returns-4 : tie.Need-returns-4
-returns-4 c = all-fields (c .before .before .before .args .count) (c .before .before .before .args .number) (c .before .before .if1 .left) (c .before .if2 .left) (c .if3 .left) (c .before .before .before .pre .0) (c .before .before .before .pre .1)
+returns-4 c =
+    let at-if2 = c .before in
+    let at-if1 = at-if2 .before in
+    let start = at-if1 .before in
+    all-fields (start .args .count) (start .args .number) (at-if1 .if1 .left) (at-if2 .if2 .left) (c .if3 .left) (start .pre .0) (start .pre .1)
 
 pub fields-hold-spec : {M : Type 1} → statement M
 fields-hold-spec = tie.close (tie.spec returns returns-2 returns-3 returns-4)

@@ -31,19 +31,51 @@ sub-i : tie.Need-sub-i Inv-loop μ-loop
 sub-i c = omega arith
 
 words-are-requires : tie.Need-words-are-requires Inv-loop μ-loop
-words-are-requires c κs = omega (arith, c .before .before .before .before .before .before .pre .room)
+words-are-requires c κs =
+    let start = c .before .before .before .before .before .before in
+    omega (arith, start .pre .room)
 
 returns : tie.Need-returns Inv-loop μ-loop
-returns c = search-hit p (c .before .before .before .before .before .before .before .before .args .list .now) (c .before .before .before .before .before .before .before .before .args .n) (c .before .before .before .before .before .before .before .before .args .x) (c .before .before .before .before .before .before .tag-of .result) (c .before .before .before .before .before .first-of .result) (c .before .before .before .before .second-of .result) (c .before .before .before .before .before .before .before .before .pre) (c .before .before .before .before .before .before .tag-of .ensures) (c .before .before .before .before .before .first-of .ensures) (c .before .before .before .before .second-of .ensures) (c .before .before .before .loop .i) (c .before .before .loop-test .taken) (c .before .before .before .loop .inv .1) (told (c .before .words-are .ensures) (c .if1 .taken))
+returns c =
+    let at-words-are = c .before in
+    let at-loop-test = at-words-are .before in
+    let at-loop = at-loop-test .before in
+    let at-second-of = at-loop .before in
+    let at-first-of = at-second-of .before in
+    let at-tag-of = at-first-of .before in
+    let start = at-tag-of .before .before in
+    search-hit p (start .args .list .now) (start .args .n) (start .args .x) (at-tag-of .tag-of .result) (at-first-of .first-of .result)
+    (at-second-of .second-of .result) (start .pre) (at-tag-of .tag-of .ensures) (at-first-of .first-of .ensures) (at-second-of .second-of .ensures)
+    (at-loop .loop .i) (at-loop-test .loop-test .taken) (at-loop .loop .inv .1) (told (at-words-are .words-are .ensures) (c .if1 .taken))
 
 loop-less : tie.Need-loop-less Inv-loop μ-loop
 loop-less c = omega arith
 
 loop-again : tie.Need-loop-again Inv-loop μ-loop
-loop-again c = (omega arith, search-on p (c .before .before .before .before .before .before .before .before .args .list .now) (c .before .before .before .before .before .before .before .before .args .n) (c .before .before .before .before .before .before .before .before .args .x) (c .before .before .before .before .before .before .tag-of .result) (c .before .before .before .before .before .first-of .result) (c .before .before .before .before .second-of .result) (c .before .before .before .loop .i) (c .before .before .loop-test .taken) (c .before .before .before .loop .inv .1) (told (c .before .words-are .ensures) (c .if1 .left)))
+loop-again c =
+    let at-words-are = c .before in
+    let at-loop-test = at-words-are .before in
+    let at-loop = at-loop-test .before in
+    let at-second-of = at-loop .before in
+    let at-first-of = at-second-of .before in
+    let at-tag-of = at-first-of .before in
+    let start = at-tag-of .before .before in (
+      omega arith,
+      search-on p (start .args .list .now) (start .args .n) (start .args .x) (at-tag-of .tag-of .result) (at-first-of .first-of .result)
+          (at-second-of .second-of .result) (at-loop .loop .i) (at-loop-test .loop-test .taken) (at-loop .loop .inv .1)
+          (told (at-words-are .words-are .ensures) (c .if1 .left)),
+    )
 
 returns-2 : tie.Need-returns-2 Inv-loop μ-loop
-returns-2 c = search-none p (c .before .before .before .before .before .before .args .list .now) (c .before .before .before .before .before .before .args .n) (c .before .before .before .before .before .before .args .x) (c .before .before .before .before .tag-of .result) (c .before .before .before .first-of .result) (c .before .before .second-of .result) (c .before .before .before .before .before .before .pre) (c .before .before .before .before .tag-of .ensures) (c .before .before .before .first-of .ensures) (c .before .before .second-of .ensures) (c .before .loop .i) (c .loop-test .left) (c .before .loop .inv .1)
+returns-2 c =
+    let at-loop = c .before in
+    let at-second-of = at-loop .before in
+    let at-first-of = at-second-of .before in
+    let at-tag-of = at-first-of .before in
+    let start = at-tag-of .before .before in
+    search-none p (start .args .list .now) (start .args .n) (start .args .x) (at-tag-of .tag-of .result) (at-first-of .first-of .result)
+    (at-second-of .second-of .result) (start .pre) (at-tag-of .tag-of .ensures) (at-first-of .first-of .ensures) (at-second-of .second-of .ensures)
+    (at-loop .loop .i) (c .loop-test .left) (at-loop .loop .inv .1)
 
 pub lookup-spec : {M : Type 1} → statement M
 lookup-spec =

@@ -22,11 +22,31 @@ earlier-requires c κs = search needs
 
 returns-3 : tie.Need-returns-3
 unfolding Check.recordCheck
-returns-3 c = simp (le-leb _ _ (c .before .before .before .before .if1 .left), told (c .before .before .before .formed .ensures) (not-false _ (c .before .before .if2 .left)), told (c .before .earlier .ensures) (not-true _ (c .if3 .taken)))
+returns-3 c =
+    let at-earlier = c .before in
+    let at-if2 = at-earlier .before in
+    let at-formed = at-if2 .before in
+    let at-if1 = at-formed .before in
+    simp (
+      le-leb _ _ (at-if1 .if1 .left),
+      told (at-formed .formed .ensures) (not-false _ (at-if2 .if2 .left)),
+      told (at-earlier .earlier .ensures)
+          (not-true _ (c .if3 .taken)),
+    )
 
 returns-4 : tie.Need-returns-4
 unfolding Check.recordCheck
-returns-4 c = simp (le-leb _ _ (c .before .before .before .before .if1 .left), told (c .before .before .before .formed .ensures) (not-false _ (c .before .before .if2 .left)), told (c .before .earlier .ensures) (not-false _ (c .if3 .left)))
+returns-4 c =
+    let at-earlier = c .before in
+    let at-if2 = at-earlier .before in
+    let at-formed = at-if2 .before in
+    let at-if1 = at-formed .before in
+    simp (
+      le-leb _ _ (at-if1 .if1 .left),
+      told (at-formed .formed .ensures) (not-false _ (at-if2 .if2 .left)),
+      told (at-earlier .earlier .ensures)
+          (not-false _ (c .if3 .left)),
+    )
 
 pub record-check-spec : {M : Type 1} → statement M
 record-check-spec =

@@ -29,7 +29,12 @@ is-refused-requires : tie.Need-is-refused-requires Inv-loop μ-loop
 is-refused-requires c κs = search needs
 
 returns : tie.Need-returns Inv-loop μ-loop
-returns c = c .before .before .check-at .ensures ∙ stops-here p _ _ _ (c .before .before .before .before .loop .inv .1) (bad-told (c .before .before .check-at .ensures) (c .before .is-refused .ensures) (c .if1 .taken)) (omega arith)
+returns c =
+    let at-is-refused = c .before in
+    let at-check-at = at-is-refused .before in
+    let at-loop = at-check-at .before .before in
+    at-check-at .check-at .ensures ∙ stops-here p _ _ _ (at-loop .loop .inv .1)
+    (bad-told (at-check-at .check-at .ensures) (at-is-refused .is-refused .ensures) (c .if1 .taken)) (omega arith)
 
 add-i : tie.Need-add-i Inv-loop μ-loop
 add-i c = omega arith
@@ -38,7 +43,14 @@ loop-less : tie.Need-loop-less Inv-loop μ-loop
 loop-less c = omega arith
 
 loop-again : tie.Need-loop-again Inv-loop μ-loop
-loop-again c = (omega arith, rw add-one (check-next p _ _ (c .before .before .before .before .loop .inv .1) ∙ good-told (c .before .before .check-at .ensures) (c .before .is-refused .ensures) (c .if1 .left)))
+loop-again c =
+    let at-is-refused = c .before in
+    let at-check-at = at-is-refused .before in
+    let at-loop = at-check-at .before .before in (
+      omega arith,
+      rw add-one (check-next p _ _ (at-loop .loop .inv .1) ∙ good-told (at-check-at .check-at .ensures) (at-is-refused .is-refused .ensures)
+          (c .if1 .left)),
+    )
 
 returns-2 : tie.Need-returns-2 Inv-loop μ-loop
 returns-2 c = sym (rw (le-antisymm (c .before .loop .inv .0) (c .loop-test .left)) at (c .before .loop .inv .1))

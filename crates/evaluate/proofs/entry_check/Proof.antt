@@ -32,7 +32,13 @@ returns-2 : tie.Need-returns-2
 returns-2 c = bad-words _ _ _ _ (told (c .before .words-below .ensures) (not-true _ (c .if2 .taken)))
 
 returns-3 : tie.Need-returns-3
-returns-3 c = good-entry _ _ _ _ (told (c .before .before .before .is-key .ensures ∙ ap isKey (c .before .before .before .before .key-at .ensures)) (not-false _ (c .before .before .if1 .left))) (told (c .before .words-below .ensures) (not-false _ (c .if2 .left)))
+returns-3 c =
+    let at-words-below = c .before in
+    let at-if1 = at-words-below .before in
+    let at-is-key = at-if1 .before in
+    let at-key-at = at-is-key .before in
+    good-entry _ _ _ _ (told (at-is-key .is-key .ensures ∙ ap isKey (at-key-at .key-at .ensures)) (not-false _ (at-if1 .if1 .left)))
+    (told (at-words-below .words-below .ensures) (not-false _ (c .if2 .left)))
 
 pub entry-check-spec : {M : Type 1} → statement M
 entry-check-spec =

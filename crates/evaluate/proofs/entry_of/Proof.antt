@@ -24,43 +24,92 @@ shared-slice-read-link : tie.Need-shared-slice-read-link Inv-loop μ-loop
 shared-slice-read-link c = omega (arith, (c .before .key-bucket .ensures .1))
 
 loop-holds : tie.Need-loop-holds Inv-loop μ-loop
-loop-holds c = find-begin (c .before .before .before .before .args .width) (c .before .before .before .before .args .entries .now) (c .before .before .before .before .args .m) (c .before .before .before .before .args .links .now) (c .before .before .before .before .args .key) (c .before .before .before .before .pre .1) _ (c .before .key-bucket .ensures .0)
+loop-holds c =
+    let at-key-bucket = c .before in
+    let start = at-key-bucket .before .before .before in
+    find-begin (start .args .width) (start .args .entries .now) (start .args .m) (start .args .links .now) (start .args .key) (start .pre .1) _
+    (at-key-bucket .key-bucket .ensures .0)
 
 entry-search-requires : tie.Need-entry-search-requires Inv-loop μ-loop
-entry-search-requires c κs = let h = standing-below _ _ _ _ _ _ (c .before .before .loop .inv) in lent-first _ _ _ _ h (c .before .before .before .before .before .before .before .pre .0)
+entry-search-requires c κs =
+    let at-loop = c .before .before in
+    let start = at-loop .before .before .before .before .before in
+    let h = standing-below _ _ _ _ _ _ (at-loop .loop .inv) in lent-first _ _ _ _ h (start .pre .0)
 
 returns : tie.Need-returns Inv-loop μ-loop
-returns c = find-plain (c .before .before .before .before .before .before .before .before .args .width) (c .before .before .before .before .before .before .before .before .args .entries .now) (c .before .before .before .before .before .before .before .before .args .m) (c .before .before .before .before .before .before .before .before .args .links .now) (c .before .before .before .before .before .before .before .before .args .key) _ (c .before .before .before .loop .inv) (c .entry-search .ensures)
+returns c =
+    let at-loop = c .before .before .before in
+    let start = at-loop .before .before .before .before .before in
+    find-plain (start .args .width) (start .args .entries .now) (start .args .m) (start .args .links .now) (start .args .key) _ (at-loop .loop .inv)
+    (c .entry-search .ensures)
 
 sub-entry : tie.Need-sub-entry Inv-loop μ-loop
 sub-entry c = omega (arith, (c .before .loop-test .taken))
 
 key-at-requires : tie.Need-key-at-requires Inv-loop μ-loop
-key-at-requires c κs = let h = standing-below _ _ _ _ _ _ (c .before .before .loop .inv) in key-room _ _ _ (c .before .before .before .before .before .before .before .pre .0) _ (omega (arith, h, (c .before .loop-test .taken)))
+key-at-requires c κs =
+    let at-loop-test = c .before in
+    let at-loop = at-loop-test .before in
+    let start = at-loop .before .before .before .before .before in
+    let h = standing-below _ _ _ _ _ _ (at-loop .loop .inv) in key-room _ _ _ (start .pre .0) _ (omega (arith, h, (at-loop-test .loop-test .taken)))
 
 returns-2 : tie.Need-returns-2 Inv-loop μ-loop
-returns-2 c = find-hit (c .before .before .before .before .before .before .before .before .before .args .width) (c .before .before .before .before .before .before .before .before .before .args .entries .now) (c .before .before .before .before .before .before .before .before .before .args .m) (c .before .before .before .before .before .before .before .before .before .args .links .now) (c .before .before .before .before .before .before .before .before .before .args .key) _ (c .before .before .before .before .loop .inv) (omega (arith, (c .before .before .before .loop-test .taken))) (told (c .before .key-at .ensures) (c .if2 .taken))
+returns-2 c =
+    let at-key-at = c .before in
+    let at-loop-test = at-key-at .before .before in
+    let at-loop = at-loop-test .before in
+    let start = at-loop .before .before .before .before .before in
+    find-hit (start .args .width) (start .args .entries .now) (start .args .m) (start .args .links .now) (start .args .key) _ (at-loop .loop .inv)
+    (omega (arith, (at-loop-test .loop-test .taken))) (told (at-key-at .key-at .ensures) (c .if2 .taken))
 
 add-link : tie.Need-add-link Inv-loop μ-loop
-add-link c = let h = standing-below _ _ _ _ _ _ (c .before .before .before .before .loop .inv) in omega (arith, h, (c .before .before .before .loop-test .taken), (c .before .before .before .before .before .before .before .before .before .pre .1 .room))
+add-link c =
+    let at-loop-test = c .before .before .before in
+    let at-loop = at-loop-test .before in
+    let start = at-loop .before .before .before .before .before in
+    let h = standing-below _ _ _ _ _ _ (at-loop .loop .inv) in omega (arith, h, (at-loop-test .loop-test .taken), (start .pre .1 .room))
 
 mul-link-2 : tie.Need-mul-link-2 Inv-loop μ-loop
-mul-link-2 c = let h = standing-below _ _ _ _ _ _ (c .before .before .before .before .loop .inv) in omega (arith, h, (c .before .before .before .loop-test .taken), (c .before .before .before .before .before .before .before .before .before .pre .1 .room))
+mul-link-2 c =
+    let at-loop-test = c .before .before .before in
+    let at-loop = at-loop-test .before in
+    let start = at-loop .before .before .before .before .before in
+    let h = standing-below _ _ _ _ _ _ (at-loop .loop .inv) in omega (arith, h, (at-loop-test .loop-test .taken), (start .pre .1 .room))
 
 shared-slice-read-link-2 : tie.Need-shared-slice-read-link-2 Inv-loop μ-loop
-shared-slice-read-link-2 c = let h = standing-below _ _ _ _ _ _ (c .before .before .before .before .before .loop .inv) in omega (arith, h, (c .before .before .before .before .loop-test .taken), (c .before .before .before .before .before .before .before .before .before .before .pre .1 .room))
+shared-slice-read-link-2 c =
+    let at-loop-test = c .before .before .before .before in
+    let at-loop = at-loop-test .before in
+    let start = at-loop .before .before .before .before .before in
+    let h = standing-below _ _ _ _ _ _ (at-loop .loop .inv) in omega (arith, h, (at-loop-test .loop-test .taken), (start .pre .1 .room))
 
 add-steps : tie.Need-add-steps Inv-loop μ-loop
 add-steps c = search needs
 
 loop-less : tie.Need-loop-less Inv-loop μ-loop
-loop-less c = find-down (c .before .before .before .before .before .before .before .before .before .before .args .width) (c .before .before .before .before .before .before .before .before .before .before .args .entries .now) (c .before .before .before .before .before .before .before .before .before .before .args .m) (c .before .before .before .before .before .before .before .before .before .before .args .links .now) (c .before .before .before .before .before .before .before .before .before .before .args .key) (c .before .before .before .before .before .before .before .before .before .before .pre .1) _ (c .before .before .before .before .before .loop .inv) (omega (arith, (c .before .before .before .before .loop-test .taken)))
+loop-less c =
+    let at-loop-test = c .before .before .before .before in
+    let at-loop = at-loop-test .before in
+    let start = at-loop .before .before .before .before .before in
+    find-down (start .args .width) (start .args .entries .now) (start .args .m) (start .args .links .now) (start .args .key) (start .pre .1) _
+    (at-loop .loop .inv) (omega (arith, (at-loop-test .loop-test .taken)))
 
 loop-again : tie.Need-loop-again Inv-loop μ-loop
-loop-again c = find-on (c .before .before .before .before .before .before .before .before .before .before .args .width) (c .before .before .before .before .before .before .before .before .before .before .args .entries .now) (c .before .before .before .before .before .before .before .before .before .before .args .m) (c .before .before .before .before .before .before .before .before .before .before .args .links .now) (c .before .before .before .before .before .before .before .before .before .before .args .key) (c .before .before .before .before .before .before .before .before .before .before .pre .1) _ (c .before .before .before .before .before .loop .inv) (omega (arith, (c .before .before .before .before .loop-test .taken))) (λ e. (c .before .if2 .left) ((c .before .before .key-at .ensures) ∙ e))
+loop-again c =
+    let at-if2 = c .before in
+    let at-key-at = at-if2 .before in
+    let at-loop-test = at-key-at .before .before in
+    let at-loop = at-loop-test .before in
+    let start = at-loop .before .before .before .before .before in
+    find-on (start .args .width) (start .args .entries .now) (start .args .m) (start .args .links .now) (start .args .key) (start .pre .1) _
+    (at-loop .loop .inv) (omega (arith, (at-loop-test .loop-test .taken))) (λ e. (at-if2 .if2 .left) ((at-key-at .key-at .ensures) ∙ e))
 
 returns-3 : tie.Need-returns-3 Inv-loop μ-loop
-returns-3 c = find-none (c .before .before .before .before .before .before .args .width) (c .before .before .before .before .before .before .args .entries .now) (c .before .before .before .before .before .before .args .m) (c .before .before .before .before .before .before .args .links .now) (c .before .before .before .before .before .before .args .key) _ (c .before .loop .inv) (omega (arith, (c .loop-test .left)))
+returns-3 c =
+    let at-loop = c .before in
+    let start = at-loop .before .before .before .before .before in
+    find-none (start .args .width) (start .args .entries .now) (start .args .m) (start .args .links .now) (start .args .key) _ (at-loop .loop .inv)
+    (omega (arith, (c .loop-test .left)))
 
 pub entry-of-spec : {M : Type 1} → statement M
 entry-of-spec =

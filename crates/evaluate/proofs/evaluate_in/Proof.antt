@@ -10,10 +10,19 @@ use Rattle.evaluate.proofs.evaluate_in.Statement.{statement}
 use Rattle.evaluate.proofs.evaluate_in.Tie as tie
 
 index-keys-requires : tie.Need-index-keys-requires
-index-keys-requires c κs = (may-fill _ _ _ _ _ (c .before .before .before .before .before .before .pre .0) (length (c .before .before .before .before .before .before .args .c0 .now)) (c .before .before .before .before .before .before .pre .1 .first) .lent, keyed-none _ _ _ (c .before .before .before .before .before .before .pre .1 .usable) (c .before .before .before .before .before .before .pre .1 .empty), c .before .before .before .before .before .before .pre .1 .entries)
+index-keys-requires c κs =
+    let start = c .before .before .before .before .before .before in (
+      may-fill _ _ _ _ _ (start .pre .0) (length (start .args .c0 .now)) (start .pre .1 .first) .lent,
+      keyed-none _ _ _ (start .pre .1 .usable)
+          (start .pre .1 .empty),
+      start .pre .1 .entries,
+    )
 
 fill-values-requires : tie.Need-fill-values-requires
-fill-values-requires c κs = ((may-fill _ _ _ _ _ (c .before .before .before .before .before .before .before .before .before .before .before .before .pre .0) _ (c .before .before .before .before .before .before .before .before .before .before .before .before .pre .1 .first), c .before .before .before .before .before .before .before .before .before .before .before .before .pre .1 .second), c .before .before .before .before .before .index-keys .ensures)
+fill-values-requires c κs =
+    let at-index-keys = c .before .before .before .before .before in
+    let start = at-index-keys .before .before .before .before .before .before .before in
+    ((may-fill _ _ _ _ _ (start .pre .0) _ (start .pre .1 .first), start .pre .1 .second), at-index-keys .index-keys .ensures)
 
 enum-known-filled : tie.Need-enum-known-filled
 enum-known-filled c = search needs
@@ -22,7 +31,14 @@ enum-told : tie.Need-enum-told
 enum-told c = search needs
 
 element-at-requires : tie.Need-element-at-requires
-element-at-requires c κs = let h = root-inside _ _ _ _ _ (c .before .before .before .before .before .before .before .before .before .before .before .before .before .before .before .before .before .before .before .before .before .pre .0) in (omega (arith, h, c .before .before .before .before .before .before .before .before .before .before .before .before .before .before .before .before .before .before .before .before .before .pre .1 .first, c .before .before .before .before .before .before .before .before .fill-values .kept), omega (arith, h, c .before .before .before .before .before .before .before .before .before .before .before .before .before .before .before .before .before .before .before .before .before .pre .1 .second, c .before .before .before .before .before .before .before .before .fill-values .kept))
+element-at-requires c κs =
+    let at-fill-values = c .before .before .before .before .before .before .before .before in
+    let start = at-fill-values .before .before .before .before .before .before .before .before .before .before .before .before .before in
+    let h = root-inside _ _ _ _ _ (start .pre .0) in (
+      omega (arith, h, start .pre .1 .first, at-fill-values .fill-values .kept),
+      omega
+          (arith, h, start .pre .1 .second, at-fill-values .fill-values .kept),
+    )
 
 same-length : tie.Need-same-length
 same-length c = search needs
@@ -34,7 +50,11 @@ same-length-3 : tie.Need-same-length-3
 same-length-3 c = search needs
 
 returns : tie.Need-returns
-returns c = inputs-refused _ _ _ _ _ (c .before .before .before .before .before .before .before .before .before .before .before .before .before .before .before .before .before .before .before .before .pre .0) _ (told (c .before .before .before .before .before .before .before .fill-values .ensures .0) (c .before .filled .given .1))
+returns c =
+    let at-filled = c .before in
+    let at-fill-values = at-filled .before .before .before .before .before .before in
+    let start = at-fill-values .before .before .before .before .before .before .before .before .before .before .before .before .before in
+    inputs-refused _ _ _ _ _ (start .pre .0) _ (told (at-fill-values .fill-values .ensures .0) (at-filled .filled .given .1))
 
 same-length-4 : tie.Need-same-length-4
 same-length-4 c = search needs
@@ -46,7 +66,12 @@ same-length-6 : tie.Need-same-length-6
 same-length-6 c = search needs
 
 returns-2 : tie.Need-returns-2
-returns-2 c = inputs-value _ _ _ _ _ (c .before .before .before .before .before .before .before .before .before .before .before .before .before .before .before .before .before .before .before .before .before .before .pre .0) (told (c .before .before .before .before .before .before .before .before .before .fill-values .ensures .0) (c .before .before .before .enum-told .given .1)) _ (c .element-at .ensures ∙ c .before .before .before .before .before .before .before .before .before .fill-values .ensures .1 (c .before .before .before .enum-told .given .1) _ (root-inside _ _ _ _ _ (c .before .before .before .before .before .before .before .before .before .before .before .before .before .before .before .before .before .before .before .before .before .before .pre .0)))
+returns-2 c =
+    let at-enum-told = c .before .before .before in
+    let at-fill-values = at-enum-told .before .before .before .before .before .before in
+    let start = at-fill-values .before .before .before .before .before .before .before .before .before .before .before .before .before in
+    inputs-value _ _ _ _ _ (start .pre .0) (told (at-fill-values .fill-values .ensures .0) (at-enum-told .enum-told .given .1)) _
+    (c .element-at .ensures ∙ at-fill-values .fill-values .ensures .1 (at-enum-told .enum-told .given .1) _ (root-inside _ _ _ _ _ (start .pre .0)))
 
 pub evaluate-in-spec : {M : Type 1} → statement M
 evaluate-in-spec =

@@ -20,7 +20,9 @@ returns-2 : tie.Need-returns-2
 returns-2 c = search needs
 
 evaluate-large-requires : tie.Need-evaluate-large-requires
-evaluate-large-requires c κs = (c .before .before .before .before .before .pre, list-most _ _ _ _ _ (c .before .before .before .before .before .pre), entries-most _ _ _ _ _ (c .before .before .before .before .before .pre))
+evaluate-large-requires c κs =
+    let start = c .before .before .before .before .before in
+    (start .pre, list-most _ _ _ _ _ (start .pre), entries-most _ _ _ _ _ (start .pre))
 
 returns-3 : tie.Need-returns-3
 returns-3 c = search needs

@@ -15,7 +15,18 @@ slice-aggregate-evaluate-in-3 : tie.Need-slice-aggregate-evaluate-in-3
 slice-aggregate-evaluate-in-3 c = search needs
 
 evaluate-in-requires : tie.Need-evaluate-in-requires
-evaluate-in-requires c κs = (c .before .before .before .before .before .pre .0, record { first = c .before .before .before .before .before .pre .1; second = c .before .before .before .before .before .pre .1; usable = record { some = omega arith; few = omega arith }; entries = c .before .before .before .before .before .pre .2; empty = λ k. all-zero 128 k })
+evaluate-in-requires c κs =
+    let start = c .before .before .before .before .before in (
+      start .pre .0,
+      record {
+        first = start .pre .1;
+        second = start .pre .1;
+        usable = record { some = omega arith; few = omega arith };
+        entries =
+            start .pre .2;
+        empty = λ k. all-zero 128 k;
+      },
+    )
 
 returns : tie.Need-returns
 returns c = search needs

@@ -33,31 +33,45 @@ unfolding inputsCheck firstRefused
 loop-holds c = (omega arith, refl, refl, (λ j h. absurd (omega arith)), refl)
 
 value-of-requires : tie.Need-value-of-requires Inv-loop μ-loop
-value-of-requires c κs = (
-  may-value _ _ _ _ _ (c .before .before .before .before .before .before .before .before .before .pre .0 .0) _ _ _ (omega arith) (omega (arith, c .before .before .before .before .before .before .before .before .before .pre .0 .0 .fits, c .before .before .before .loop .inv .1)) (omega (arith, c .before .before .before .before .before .before .before .before .before .pre .0 .1, c .before .before .before .loop .inv .2)) (c .before .before .before .loop .inv .3),
-  (c .before .before .before .before .before .before .before .before .before .pre .0 .0 .lent, c .before .before .before .before .before .before .before .before .before .pre .1),
-)
+value-of-requires c κs =
+    let at-loop = c .before .before .before in
+    let start = at-loop .before .before .before .before .before .before in (
+      may-value _ _ _ _ _ (start .pre .0 .0) _ _ _ (omega arith) (omega (arith, start .pre .0 .0 .fits, at-loop .loop .inv .1))
+          (omega (arith, start .pre .0 .1, at-loop .loop .inv .2)) (at-loop .loop .inv .3),
+      (start .pre .0 .0 .lent, start .pre .1),
+    )
 
 enum-told : tie.Need-enum-told Inv-loop μ-loop
 enum-told c = search needs
 
 same-length : tie.Need-same-length Inv-loop μ-loop
-same-length c = c .before .before .before .before .before .before .loop .inv .1
+same-length c =
+    let at-loop = c .before .before .before .before .before .before in
+    at-loop .loop .inv .1
 
 same-length-2 : tie.Need-same-length-2 Inv-loop μ-loop
-same-length-2 c = c .before .before .before .before .before .before .loop .inv .2
+same-length-2 c =
+    let at-loop = c .before .before .before .before .before .before in
+    at-loop .loop .inv .2
 
 returns : tie.Need-returns Inv-loop μ-loop
-returns c = (
-  input-none _ _ _ _ _ (c .before .before .before .before .before .before .before .before .before .before .before .before .pre .0 .0) _ _ (omega arith) (c .before .before .before .before .before .before .loop .inv .4) (sym (told (c .before .before .value-of .ensures) (c .enum-told .given .1))),
-  λ e. never e,
-)
+returns c =
+    let at-value-of = c .before .before in
+    let at-loop = at-value-of .before .before .before .before in
+    let start = at-loop .before .before .before .before .before .before in (
+      input-none _ _ _ _ _ (start .pre .0 .0) _ _ (omega arith) (at-loop .loop .inv .4)
+          (sym (told (at-value-of .value-of .ensures) (c .enum-told .given .1))),
+      λ e. never e,
+    )
 
 enum-known-value : tie.Need-enum-known-value Inv-loop μ-loop
 enum-known-value c = search needs
 
 put-element-requires : tie.Need-put-element-requires Inv-loop μ-loop
-put-element-requires c κs = (omega (arith, c .before .before .before .before .before .before .before .before .before .before .before .before .before .before .before .pre .0 .0 .fits, c .before .before .before .before .before .before .before .before .before .loop .inv .1), omega (arith, c .before .before .before .before .before .before .before .before .before .before .before .before .before .before .before .pre .0 .1, c .before .before .before .before .before .before .before .before .before .loop .inv .2))
+put-element-requires c κs =
+    let at-loop = c .before .before .before .before .before .before .before .before .before in
+    let start = at-loop .before .before .before .before .before .before in
+    (omega (arith, start .pre .0 .0 .fits, at-loop .loop .inv .1), omega (arith, start .pre .0 .1, at-loop .loop .inv .2))
 
 add-i : tie.Need-add-i Inv-loop μ-loop
 add-i c = omega arith
@@ -67,12 +81,19 @@ loop-less c = omega arith
 
 loop-again : tie.Need-loop-again Inv-loop μ-loop
 loop-again c =
-    let e = sym (told (c .before .before .before .before .before .before .before .before .before .before .value-of .ensures) (c .before .before .before .before .before .before .before .before .value .given .1)) in (
+    let at-put-element = c .before .before .before .before in
+    let at-value = at-put-element .before .before .before .before in
+    let at-value-of = at-value .before .before in
+    let at-loop = at-value-of .before .before .before .before in
+    let start = at-loop .before .before .before .before .before .before in
+    let e = sym (told (at-value-of .value-of .ensures) (at-value .value .given .1)) in (
       omega arith,
-      c .before .before .before .before .put-element .kept .0 ∙ c .before .before .before .before .before .before .before .before .before .before .before .before .before .before .loop .inv .1,
-      c .before .before .before .before .put-element .kept .1 .0 ∙ c .before .before .before .before .before .before .before .before .before .before .before .before .before .before .loop .inv .2,
-      filled-more _ _ _ _ _ (c .before .before .before .before .before .before .before .before .before .before .before .before .before .before .before .before .before .before .before .before .pre .0 .0) _ _ _ (omega arith) (omega (arith, c .before .before .before .before .before .before .before .before .before .before .before .before .before .before .before .before .before .before .before .before .pre .0 .0 .fits, c .before .before .before .before .before .before .before .before .before .before .before .before .before .before .loop .inv .1)) (omega (arith, c .before .before .before .before .before .before .before .before .before .before .before .before .before .before .before .before .before .before .before .before .pre .0 .1, c .before .before .before .before .before .before .before .before .before .before .before .before .before .before .loop .inv .2)) (c .before .before .before .before .before .before .before .before .before .before .before .before .before .before .loop .inv .3) _ _ _ e (c .before .before .before .before .put-element .ensures .0) (c .before .before .before .before .put-element .ensures .1),
-      input-more _ _ _ _ _ (c .before .before .before .before .before .before .before .before .before .before .before .before .before .before .before .before .before .before .before .before .pre .0 .0) _ _ (omega arith) (c .before .before .before .before .before .before .before .before .before .before .before .before .before .before .loop .inv .4) _ e,
+      at-put-element .put-element .kept .0 ∙ at-loop .loop .inv .1,
+      at-put-element .put-element .kept .1 .0 ∙ at-loop .loop .inv .2,
+      filled-more _ _ _ _ _ (start .pre .0 .0) _ _ _ (omega arith) (omega (arith, start .pre .0 .0 .fits, at-loop .loop .inv .1))
+          (omega (arith, start .pre .0 .1, at-loop .loop .inv .2)) (at-loop .loop .inv .3) _ _ _ e (at-put-element .put-element .ensures .0)
+          (at-put-element .put-element .ensures .1),
+      input-more _ _ _ _ _ (start .pre .0 .0) _ _ (omega arith) (at-loop .loop .inv .4) _ e,
     )
 
 same-length-3 : tie.Need-same-length-3 Inv-loop μ-loop

@@ -28,7 +28,12 @@ is-refused-requires : tie.Need-is-refused-requires Inv-loop μ-loop
 is-refused-requires c κs = search needs
 
 returns : tie.Need-returns Inv-loop μ-loop
-returns c = c .before .before .entry-check .ensures ∙ refused-here (Entries.entryCheck p _ _) _ _ (c .before .before .before .before .loop .inv .1) (bad-told (c .before .before .entry-check .ensures) (c .before .is-refused .ensures) (c .if1 .taken)) (omega arith)
+returns c =
+    let at-is-refused = c .before in
+    let at-entry-check = at-is-refused .before in
+    let at-loop = at-entry-check .before .before in
+    at-entry-check .entry-check .ensures ∙ refused-here (Entries.entryCheck p _ _) _ _ (at-loop .loop .inv .1)
+    (bad-told (at-entry-check .entry-check .ensures) (at-is-refused .is-refused .ensures) (c .if1 .taken)) (omega arith)
 
 add-i : tie.Need-add-i Inv-loop μ-loop
 add-i c = omega arith
@@ -37,7 +42,14 @@ loop-less : tie.Need-loop-less Inv-loop μ-loop
 loop-less c = omega arith
 
 loop-again : tie.Need-loop-again Inv-loop μ-loop
-loop-again c = (omega arith, refused-next (Entries.entryCheck p _ _) _ (c .before .before .before .before .loop .inv .1) (good-told (c .before .before .entry-check .ensures) (c .before .is-refused .ensures) (c .if1 .left)))
+loop-again c =
+    let at-is-refused = c .before in
+    let at-entry-check = at-is-refused .before in
+    let at-loop = at-entry-check .before .before in (
+      omega arith,
+      refused-next (Entries.entryCheck p _ _) _ (at-loop .loop .inv .1)
+          (good-told (at-entry-check .entry-check .ensures) (at-is-refused .is-refused .ensures) (c .if1 .left)),
+    )
 
 returns-2 : tie.Need-returns-2 Inv-loop μ-loop
 returns-2 c = sym (rw (le-antisymm (c .before .loop .inv .0) (c .loop-test .left)) at (c .before .loop .inv .1))

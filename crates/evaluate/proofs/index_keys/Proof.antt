@@ -19,7 +19,10 @@ loop-holds : tie.Need-loop-holds Inv-loop μ-loop
 loop-holds c = (omega arith, refl, c .before .before .pre .1)
 
 note-key-requires : tie.Need-note-key-requires Inv-loop μ-loop
-note-key-requires c κs = (c .before .before .loop .inv .2, rw (c .before .before .loop .inv .1) (omega (arith, c .before .before .before .before .before .pre .2)), key-room _ _ _ (c .before .before .before .before .before .pre .0) _ (omega arith))
+note-key-requires c κs =
+    let at-loop = c .before .before in
+    let start = at-loop .before .before .before in
+    (at-loop .loop .inv .2, rw (at-loop .loop .inv .1) (omega (arith, start .pre .2)), key-room _ _ _ (start .pre .0) _ (omega arith))
 
 add-i : tie.Need-add-i Inv-loop μ-loop
 add-i c = omega arith

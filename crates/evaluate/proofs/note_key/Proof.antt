@@ -16,7 +16,12 @@ same-length : tie.Need-same-length
 same-length c = search needs
 
 returns : tie.Need-returns
-returns c = keyed-next (c .before .before .before .before .before .before .before .args .width) (c .before .before .before .before .before .before .before .args .entries .now) (c .before .before .before .before .before .before .before .args .i) (c .before .before .before .before .before .before .before .args .links .now) _ _ (c .before .before .before .before .before .before .before .pre .0) (c .before .before .before .before .before .before .before .pre .1) (ap (keyBucket _) (c .before .before .before .key-at .ensures)) (c .before .before .note .ensures)
+returns c =
+    let at-note = c .before .before in
+    let at-key-at = at-note .before in
+    let start = at-key-at .before .before .before .before in
+    keyed-next (start .args .width) (start .args .entries .now) (start .args .i) (start .args .links .now) _ _ (start .pre .0) (start .pre .1)
+    (ap (keyBucket _) (at-key-at .key-at .ensures)) (at-note .note .ensures)
 
 pub note-key-spec : {M : Type 1} → statement M
 note-key-spec = tie.close (tie.spec key-at-requires note-requires same-length returns)

@@ -27,7 +27,17 @@ is-count-requires c κs = search needs
 
 returns-3 : tie.Need-returns-3
 unfolding File.formCheck
-returns-3 c = rw (← c .before .before .number .ensures) (simp (le-leb _ _ (c .before .before .before .before .before .if1 .left), eq-eqb _ _ (c .before .before .before .if2 .left), told (c .before .is-count .ensures) (not-true _ (c .if3 .taken))))
+returns-3 c =
+    let at-is-count = c .before in
+    let at-number = at-is-count .before in
+    let at-if2 = at-number .before in
+    let at-if1 = at-if2 .before .before in
+    rw (← at-number .number .ensures) (simp (
+      le-leb _ _ (at-if1 .if1 .left),
+      eq-eqb _ _ (at-if2 .if2 .left),
+      told (at-is-count .is-count .ensures)
+          (not-true _ (c .if3 .taken)),
+    ))
 
 mul-if4 : tie.Need-mul-if4
 mul-if4 c = omega (arith, count-range _ (told (c .before .is-count .ensures) (not-false _ (c .if3 .left))) .1)
@@ -37,11 +47,35 @@ add-if4 c = omega (arith, count-range _ (told (c .before .is-count .ensures) (no
 
 returns-4 : tie.Need-returns-4
 unfolding File.formCheck
-returns-4 c = rw (← c .before .before .before .number .ensures) (simp (le-leb _ _ (c .before .before .before .before .before .before .if1 .left), eq-eqb _ _ (c .before .before .before .before .if2 .left), told (c .before .before .is-count .ensures) (not-false _ (c .before .if3 .left)), ne-eqb _ _ (c .if4 .taken)))
+returns-4 c =
+    let at-if3 = c .before in
+    let at-is-count = at-if3 .before in
+    let at-number = at-is-count .before in
+    let at-if2 = at-number .before in
+    let at-if1 = at-if2 .before .before in
+    rw (← at-number .number .ensures) (simp (
+      le-leb _ _ (at-if1 .if1 .left),
+      eq-eqb _ _ (at-if2 .if2 .left),
+      told (at-is-count .is-count .ensures)
+          (not-false _ (at-if3 .if3 .left)),
+      ne-eqb _ _ (c .if4 .taken),
+    ))
 
 returns-5 : tie.Need-returns-5
 unfolding File.formCheck
-returns-5 c = rw (← c .before .before .before .number .ensures) (simp (le-leb _ _ (c .before .before .before .before .before .before .if1 .left), eq-eqb _ _ (c .before .before .before .before .if2 .left), told (c .before .before .is-count .ensures) (not-false _ (c .before .if3 .left)), eq-eqb _ _ (c .if4 .left)))
+returns-5 c =
+    let at-if3 = c .before in
+    let at-is-count = at-if3 .before in
+    let at-number = at-is-count .before in
+    let at-if2 = at-number .before in
+    let at-if1 = at-if2 .before .before in
+    rw (← at-number .number .ensures) (simp (
+      le-leb _ _ (at-if1 .if1 .left),
+      eq-eqb _ _ (at-if2 .if2 .left),
+      told (at-is-count .is-count .ensures)
+          (not-false _ (at-if3 .if3 .left)),
+      eq-eqb _ _ (c .if4 .left),
+    ))
 
 pub form-check-spec : {M : Type 1} → statement M
 form-check-spec =

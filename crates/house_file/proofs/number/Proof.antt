@@ -40,7 +40,16 @@ loop-less : tie.Need-loop-less Inv-loop μ-loop
 loop-less c = omega arith
 
 loop-again : tie.Need-loop-again Inv-loop μ-loop
-loop-again c = (omega arith, number-next (c .before .before .before .before .before .args .file .now) (c .before .before .before .before .before .args .at) (c .before .before .before .loop .i) (c .before .before .before .loop .value) (c .wide .result) (c .before .before .before .loop .inv .1) (c .before .before .before .loop .inv .2) (c .wide .ensures .0) (c .wide .ensures .1) .0, number-next (c .before .before .before .before .before .args .file .now) (c .before .before .before .before .before .args .at) (c .before .before .before .loop .i) (c .before .before .before .loop .value) (c .wide .result) (c .before .before .before .loop .inv .1) (c .before .before .before .loop .inv .2) (c .wide .ensures .0) (c .wide .ensures .1) .1)
+loop-again c =
+    let at-loop = c .before .before .before in
+    let start = at-loop .before .before in (
+      omega arith,
+      number-next (start .args .file .now) (start .args .at) (at-loop .loop .i) (at-loop .loop .value) (c .wide .result)
+          (at-loop .loop .inv .1) (at-loop .loop .inv .2) (c .wide .ensures .0) (c .wide .ensures .1) .0,
+      number-next (start .args .file .now)
+          (start .args .at) (at-loop .loop .i) (at-loop .loop .value) (c .wide .result) (at-loop .loop .inv .1) (at-loop .loop .inv .2)
+          (c .wide .ensures .0) (c .wide .ensures .1) .1,
+    )
 
 returns : tie.Need-returns Inv-loop μ-loop
 returns c = rw (le-antisymm (c .before .loop .inv .0) (c .loop-test .left)) at (c .before .loop .inv .1)

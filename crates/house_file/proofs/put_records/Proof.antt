@@ -25,16 +25,35 @@ decode-requires : tie.Need-decode-requires Inv-loop μ-loop
 decode-requires c κs = search needs
 
 put-node-requires : tie.Need-put-node-requires Inv-loop μ-loop
-put-node-requires c κs = omega (arith, c .before .before .before .before .before .before .before .pre .fits, c .before .before .before .before .loop .inv .1, c .before .before .before .loop-test .taken)
+put-node-requires c κs =
+    let at-loop-test = c .before .before .before in
+    let at-loop = at-loop-test .before in
+    let start = at-loop .before .before .before in
+    omega (arith, start .pre .fits, at-loop .loop .inv .1, at-loop-test .loop-test .taken)
 
 add-i : tie.Need-add-i Inv-loop μ-loop
-add-i c = omega (arith, c .before .before .before .before .before .before .loop-test .taken)
+add-i c =
+    let at-loop-test = c .before .before .before .before .before .before in
+    omega (arith, at-loop-test .loop-test .taken)
 
 loop-less : tie.Need-loop-less Inv-loop μ-loop
 loop-less c = omega arith
 
 loop-again : tie.Need-loop-again Inv-loop μ-loop
-loop-again c = (omega arith, c .before .before .put-node .kept .0 ∙ c .before .before .before .before .before .before .before .loop .inv .1, put-more (c .before .before .before .before .before .before .before .before .before .before .args .file .now) (c .before .before .before .before .before .before .before .before .before .before .args .n) (c .before .before .before .before .before .before .before .loop .i) (c .before .before .before .before .before .before .before .loop .list) _ _ _ (c .before .before .before .before .before .before .before .before .before .before .pre .sound) (c .before .before .before .before .before .before .before .loop .inv .2) (c .before .before .before .before .before .before .loop-test .taken) (omega (arith, c .before .before .before .before .before .before .before .before .before .before .pre .fits, c .before .before .before .before .before .before .before .loop .inv .1)) (c .before .before .before .before .before .words-at .ensures) (c .before .before .before .decode .ensures) (c .before .before .put-node .ensures))
+loop-again c =
+    let at-put-node = c .before .before in
+    let at-decode = at-put-node .before in
+    let at-words-at = at-decode .before .before in
+    let at-loop-test = at-words-at .before in
+    let at-loop = at-loop-test .before in
+    let start = at-loop .before .before .before in (
+      omega arith,
+      at-put-node .put-node .kept .0 ∙ at-loop .loop .inv .1,
+      put-more (start .args .file .now) (start .args .n) (at-loop .loop .i)
+          (at-loop .loop .list) _ _ _ (start .pre .sound) (at-loop .loop .inv .2) (at-loop-test .loop-test .taken)
+          (omega (arith, start .pre .fits, at-loop .loop .inv .1)) (at-words-at .words-at .ensures) (at-decode .decode .ensures)
+          (at-put-node .put-node .ensures),
+    )
 
 same-length : tie.Need-same-length Inv-loop μ-loop
 same-length c = c .before .loop .inv .1

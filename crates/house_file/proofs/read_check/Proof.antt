@@ -22,18 +22,42 @@ file-count-requires : tie.Need-file-count-requires
 file-count-requires c κs = let f = formed _ (good-told (c .before .before .form-check .ensures) (c .before .is-refused .ensures) (c .if1 .left)) in omega (arith, f .whole)
 
 mul-if2 : tie.Need-mul-if2
-mul-if2 c = let f = formed _ (good-told (c .before .before .before .form-check .ensures) (c .before .before .is-refused .ensures) (c .before .if1 .left)) in omega (arith, f .most, c .file-count .ensures)
+mul-if2 c =
+    let at-if1 = c .before in
+    let at-is-refused = at-if1 .before in
+    let at-form-check = at-is-refused .before in
+    let f = formed _ (good-told (at-form-check .form-check .ensures) (at-is-refused .is-refused .ensures) (at-if1 .if1 .left)) in omega
+    (arith, f .most, c .file-count .ensures)
 
 returns-2 : tie.Need-returns-2
 unfolding File.readCheck
-returns-2 c = rw (good-told (c .before .before .before .before .form-check .ensures) (c .before .before .before .is-refused .ensures) (c .before .before .if1 .left), ← c .before .file-count .ensures, lt-leb _ _ (c .if2 .taken))
+returns-2 c =
+    let at-file-count = c .before in
+    let at-if1 = at-file-count .before in
+    let at-is-refused = at-if1 .before in
+    let at-form-check = at-is-refused .before in
+    rw (
+      good-told (at-form-check .form-check .ensures) (at-is-refused .is-refused .ensures) (at-if1 .if1 .left),
+      ← at-file-count .file-count .ensures,
+      lt-leb _ _ (c .if2 .taken),
+    )
 
 held-check-requires : tie.Need-held-check-requires
 held-check-requires c κs = formed _ (good-told (c .before .before .before .before .form-check .ensures) (c .before .before .before .is-refused .ensures) (c .before .before .if1 .left))
 
 returns-3 : tie.Need-returns-3
 unfolding File.readCheck
-returns-3 c = rw (good-told (c .before .before .before .before .before .form-check .ensures) (c .before .before .before .before .is-refused .ensures) (c .before .before .before .if1 .left), ← c .before .before .file-count .ensures, le-leb _ _ (c .before .if2 .left)) (c .held-check .ensures)
+returns-3 c =
+    let at-if2 = c .before in
+    let at-file-count = at-if2 .before in
+    let at-if1 = at-file-count .before in
+    let at-is-refused = at-if1 .before in
+    let at-form-check = at-is-refused .before in
+    rw (
+      good-told (at-form-check .form-check .ensures) (at-is-refused .is-refused .ensures) (at-if1 .if1 .left),
+      ← at-file-count .file-count .ensures,
+      le-leb _ _ (at-if2 .if2 .left),
+    ) (c .held-check .ensures)
 
 pub read-check-spec : {M : Type 1} → statement M
 read-check-spec =

@@ -15,16 +15,31 @@ enum-told : tie.Need-enum-told
 enum-told c = search needs
 
 read-good-requires : tie.Need-read-good-requires
-read-good-requires c κs = passed (c .before .before .before .before .before .before .args .file .now) (length (c .before .before .before .before .before .before .args .list .now)) (told (c .before .before .before .read-check .ensures) (c .before .enum-told .given .1))
+read-good-requires c κs =
+    let at-enum-told = c .before in
+    let at-read-check = at-enum-told .before .before in
+    let start = at-read-check .before .before .before in
+    passed (start .args .file .now) (length (start .args .list .now)) (told (at-read-check .read-check .ensures) (at-enum-told .enum-told .given .1))
 
 returns : tie.Need-returns
-returns c = let h = told-refused (c .before .before .before .before .before .before .args .file .now) (c .before .before .before .before .before .before .args .list .now) _ (told (c .before .before .before .read-check .ensures) (c .before .checked .given .1)) in (h .answer, h .list-is)
+returns c =
+    let at-checked = c .before in
+    let at-read-check = at-checked .before .before in
+    let start = at-read-check .before .before .before in
+    let h = told-refused (start .args .file .now) (start .args .list .now) _ (told (at-read-check .read-check .ensures) (at-checked .checked .given .1))
+    in (h .answer, h .list-is)
 
 same-length : tie.Need-same-length
 same-length c = search needs
 
 returns-2 : tie.Need-returns-2
-returns-2 c = let h = told-done (c .before .before .before .before .before .before .before .before .before .args .file .now) (c .before .before .before .before .before .before .before .before .before .args .list .now) _ _ (told (c .before .before .before .before .before .before .read-check .ensures) (c .before .before .before .before .enum-told .given .1)) (c .before .before .read-good .ensures) in (h .answer, h .list-is)
+returns-2 c =
+    let at-read-good = c .before .before in
+    let at-enum-told = at-read-good .before .before in
+    let at-read-check = at-enum-told .before .before in
+    let start = at-read-check .before .before .before in
+    let h = told-done (start .args .file .now) (start .args .list .now) _ _
+    (told (at-read-check .read-check .ensures) (at-enum-told .enum-told .given .1)) (at-read-good .read-good .ensures) in (h .answer, h .list-is)
 
 pub read-file-spec : {M : Type 1} → statement M
 read-file-spec =

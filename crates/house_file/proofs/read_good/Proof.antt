@@ -7,7 +7,10 @@ file-count-requires : tie.Need-file-count-requires
 file-count-requires c κs = search needs
 
 put-records-requires : tie.Need-put-records-requires
-put-records-requires c κs = ready (c .before .before .before .before .args .file .now) (c .before .before .before .before .args .list .now) _ (c .before .before .before .before .pre) (c .before .file-count .ensures)
+put-records-requires c κs =
+    let at-file-count = c .before in
+    let start = at-file-count .before .before .before in
+    ready (start .args .file .now) (start .args .list .now) _ (start .pre) (at-file-count .file-count .ensures)
 
 mul-blank-from : tie.Need-mul-blank-from
 mul-blank-from c = search needs
@@ -22,7 +25,13 @@ same-length : tie.Need-same-length
 same-length c = search needs
 
 returns : tie.Need-returns
-returns c = done (c .before .before .before .before .before .before .before .before .before .before .before .before .args .file .now) (c .before .before .before .before .before .before .before .before .before .before .before .before .args .list .now) _ _ _ _ (c .before .before .before .before .before .before .before .before .before .before .before .before .pre) (c .before .before .before .before .before .before .before .put-records .ensures) (c .before .before .before .before .before .before .before .put-records .kept .1 .1 .0) (c .before .before .before .blank-from .ensures) (c .before .before .before .before .before .before .before .before .before .file-count .ensures) (c .file-root .ensures)
+returns c =
+    let at-blank-from = c .before .before .before in
+    let at-put-records = at-blank-from .before .before .before .before in
+    let at-file-count = at-put-records .before .before in
+    let start = at-file-count .before .before .before in
+    done (start .args .file .now) (start .args .list .now) _ _ _ _ (start .pre) (at-put-records .put-records .ensures)
+    (at-put-records .put-records .kept .1 .1 .0) (at-blank-from .blank-from .ensures) (at-file-count .file-count .ensures) (c .file-root .ensures)
 
 pub read-good-spec : {M : Type 1} → statement M
 read-good-spec =

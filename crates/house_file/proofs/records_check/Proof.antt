@@ -33,7 +33,18 @@ is-refused-requires : tie.Need-is-refused-requires Inv-loop μ-loop
 is-refused-requires c κs = search needs
 
 returns : tie.Need-returns Inv-loop μ-loop
-returns c = checked (c .before .before .before .before .before .before .before .args .file .now) (c .before .before .before .before .before .before .before .args .n) (c .before .before .before .before .before .loop .i) (c .before .before .before .before .loop-test .taken) _ (c .before .before .before .words-at .ensures) (c .before .before .record-check .ensures) ∙ stops-here p _ _ _ (c .before .before .before .before .before .loop .inv .1) (bad-told (checked (c .before .before .before .before .before .before .before .args .file .now) (c .before .before .before .before .before .before .before .args .n) (c .before .before .before .before .before .loop .i) (c .before .before .before .before .loop-test .taken) _ (c .before .before .before .words-at .ensures) (c .before .before .record-check .ensures)) (c .before .is-refused .ensures) (c .if1 .taken)) (c .before .before .before .before .loop-test .taken)
+returns c =
+    let at-is-refused = c .before in
+    let at-record-check = at-is-refused .before in
+    let at-words-at = at-record-check .before in
+    let at-loop-test = at-words-at .before in
+    let at-loop = at-loop-test .before in
+    let start = at-loop .before .before in
+    checked (start .args .file .now) (start .args .n) (at-loop .loop .i) (at-loop-test .loop-test .taken) _ (at-words-at .words-at .ensures)
+    (at-record-check .record-check .ensures) ∙ stops-here p _ _ _ (at-loop .loop .inv .1)
+    (bad-told (checked (start .args .file .now) (start .args .n) (at-loop .loop .i) (at-loop-test .loop-test .taken) _
+    (at-words-at .words-at .ensures) (at-record-check .record-check .ensures)) (at-is-refused .is-refused .ensures) (c .if1 .taken))
+    (at-loop-test .loop-test .taken)
 
 add-i : tie.Need-add-i Inv-loop μ-loop
 add-i c = omega arith
@@ -42,7 +53,18 @@ loop-less : tie.Need-loop-less Inv-loop μ-loop
 loop-less c = omega arith
 
 loop-again : tie.Need-loop-again Inv-loop μ-loop
-loop-again c = (omega arith, rw add-one (check-next p _ _ (c .before .before .before .before .before .loop .inv .1) ∙ good-told (checked (c .before .before .before .before .before .before .before .args .file .now) (c .before .before .before .before .before .before .before .args .n) (c .before .before .before .before .before .loop .i) (c .before .before .before .before .loop-test .taken) _ (c .before .before .before .words-at .ensures) (c .before .before .record-check .ensures)) (c .before .is-refused .ensures) (c .if1 .left)))
+loop-again c =
+    let at-is-refused = c .before in
+    let at-record-check = at-is-refused .before in
+    let at-words-at = at-record-check .before in
+    let at-loop-test = at-words-at .before in
+    let at-loop = at-loop-test .before in
+    let start = at-loop .before .before in (
+      omega arith,
+      rw add-one (check-next p _ _ (at-loop .loop .inv .1) ∙ good-told
+          (checked (start .args .file .now) (start .args .n) (at-loop .loop .i) (at-loop-test .loop-test .taken) _ (at-words-at .words-at .ensures)
+          (at-record-check .record-check .ensures)) (at-is-refused .is-refused .ensures) (c .if1 .left)),
+    )
 
 returns-2 : tie.Need-returns-2 Inv-loop μ-loop
 returns-2 c = sym (rw (le-antisymm (c .before .loop .inv .0) (c .loop-test .left)) at (c .before .loop .inv .1))

@@ -26,7 +26,9 @@ hash-requires : tie.Need-hash-requires Inv-loop μ-loop
 hash-requires c κs = search needs
 
 bucket-of-requires : tie.Need-bucket-of-requires Inv-loop μ-loop
-bucket-of-requires c κs = ((c .hash .ensures .1), (c .before .before .before .before .before .before .pre .1 .usable .some), (c .before .before .before .before .before .before .pre .1 .usable .few))
+bucket-of-requires c κs =
+    let start = c .before .before .before .before .before .before in
+    ((c .hash .ensures .1), (start .pre .1 .usable .some), (start .pre .1 .usable .few))
 
 mul-link : tie.Need-mul-link Inv-loop μ-loop
 mul-link c = omega (arith, (c .bucket-of .ensures .1))
@@ -35,43 +37,119 @@ shared-slice-read-link : tie.Need-shared-slice-read-link Inv-loop μ-loop
 shared-slice-read-link c = omega (arith, (c .before .bucket-of .ensures .1))
 
 loop-holds : tie.Need-loop-holds Inv-loop μ-loop
-loop-holds c = find-begin (c .before .before .before .before .before .before .before .before .args .list .now) (c .before .before .before .before .before .before .before .before .args .n) (c .before .before .before .before .before .before .before .before .args .links .now) (c .before .before .before .before .before .tag-of .result) (c .before .before .before .before .first-of .result) (c .before .before .before .second-of .result) p (c .before .before .before .before .before .before .before .before .pre .0) (c .before .before .before .before .before .before .before .before .pre .1) _ _ (c .before .bucket-of .ensures .0) (c .before .before .hash .ensures .0)
+loop-holds c =
+    let at-bucket-of = c .before in
+    let at-hash = at-bucket-of .before in
+    let at-second-of = at-hash .before in
+    let at-first-of = at-second-of .before in
+    let at-tag-of = at-first-of .before in
+    let start = at-tag-of .before .before .before in
+    find-begin (start .args .list .now) (start .args .n) (start .args .links .now) (at-tag-of .tag-of .result) (at-first-of .first-of .result)
+    (at-second-of .second-of .result) p (start .pre .0) (start .pre .1) _ _ (at-bucket-of .bucket-of .ensures .0) (at-hash .hash .ensures .0)
 
 lookup-requires : tie.Need-lookup-requires Inv-loop μ-loop
-lookup-requires c κs = let h = standing-below _ _ _ _ _ _ _ (c .before .before .loop .inv) in sound-first p _ _ _ h (c .before .before .before .before .before .before .before .before .before .before .before .pre .0)
+lookup-requires c κs =
+    let at-loop = c .before .before in
+    let start = at-loop .before .before .before .before .before .before .before .before .before in
+    let h = standing-below _ _ _ _ _ _ _ (at-loop .loop .inv) in sound-first p _ _ _ h (start .pre .0)
 
 returns : tie.Need-returns Inv-loop μ-loop
-returns c = find-plain (c .before .before .before .before .before .before .before .before .before .before .before .before .args .list .now) (c .before .before .before .before .before .before .before .before .before .before .before .before .args .n) (c .before .before .before .before .before .before .before .before .before .before .before .before .args .links .now) (c .before .before .before .before .before .before .before .before .before .tag-of .result) (c .before .before .before .before .before .before .before .before .first-of .result) (c .before .before .before .before .before .before .before .second-of .result) p (c .before .before .before .before .before .before .before .before .before .before .before .before .pre .0) (c .before .before .before .before .before .before .before .before .before .before .before .before .pre .1) (c .before .before .before .before .before .before .before .before .before .before .before .before .args .x) (c .before .before .before .before .before .before .before .before .before .tag-of .ensures) (c .before .before .before .before .before .before .before .before .first-of .ensures) (c .before .before .before .before .before .before .before .second-of .ensures) _ (c .before .before .before .loop .inv) (c .lookup .ensures)
+returns c =
+    let at-loop = c .before .before .before in
+    let at-second-of = at-loop .before .before .before .before in
+    let at-first-of = at-second-of .before in
+    let at-tag-of = at-first-of .before in
+    let start = at-tag-of .before .before .before in
+    find-plain (start .args .list .now) (start .args .n) (start .args .links .now) (at-tag-of .tag-of .result) (at-first-of .first-of .result)
+    (at-second-of .second-of .result) p (start .pre .0) (start .pre .1) (start .args .x) (at-tag-of .tag-of .ensures)
+    (at-first-of .first-of .ensures) (at-second-of .second-of .ensures) _ (at-loop .loop .inv) (c .lookup .ensures)
 
 sub-i : tie.Need-sub-i Inv-loop μ-loop
 sub-i c = omega (arith, (c .before .loop-test .taken))
 
 words-are-requires : tie.Need-words-are-requires Inv-loop μ-loop
-words-are-requires c κs = let h = standing-below _ _ _ _ _ _ _ (c .before .before .loop .inv) in omega (arith, h, (c .before .loop-test .taken), (c .before .before .before .before .before .before .before .before .before .before .before .pre .0 .room))
+words-are-requires c κs =
+    let at-loop-test = c .before in
+    let at-loop = at-loop-test .before in
+    let start = at-loop .before .before .before .before .before .before .before .before .before in
+    let h = standing-below _ _ _ _ _ _ _ (at-loop .loop .inv) in omega (arith, h, (at-loop-test .loop-test .taken), (start .pre .0 .room))
 
 returns-2 : tie.Need-returns-2 Inv-loop μ-loop
-returns-2 c = find-hit (c .before .before .before .before .before .before .before .before .before .before .before .before .before .args .list .now) (c .before .before .before .before .before .before .before .before .before .before .before .before .before .args .n) (c .before .before .before .before .before .before .before .before .before .before .before .before .before .args .links .now) (c .before .before .before .before .before .before .before .before .before .before .tag-of .result) (c .before .before .before .before .before .before .before .before .before .first-of .result) (c .before .before .before .before .before .before .before .before .second-of .result) p (c .before .before .before .before .before .before .before .before .before .before .before .before .before .pre .0) (c .before .before .before .before .before .before .before .before .before .before .before .before .before .pre .1) (c .before .before .before .before .before .before .before .before .before .before .before .before .before .args .x) (c .before .before .before .before .before .before .before .before .before .before .tag-of .ensures) (c .before .before .before .before .before .before .before .before .before .first-of .ensures) (c .before .before .before .before .before .before .before .before .second-of .ensures) _ (c .before .before .before .before .loop .inv) (omega (arith, (c .before .before .before .loop-test .taken))) (told (c .before .words-are .ensures) (c .if2 .taken))
+returns-2 c =
+    let at-words-are = c .before in
+    let at-loop-test = at-words-are .before .before in
+    let at-loop = at-loop-test .before in
+    let at-second-of = at-loop .before .before .before .before in
+    let at-first-of = at-second-of .before in
+    let at-tag-of = at-first-of .before in
+    let start = at-tag-of .before .before .before in
+    find-hit (start .args .list .now) (start .args .n) (start .args .links .now) (at-tag-of .tag-of .result) (at-first-of .first-of .result)
+    (at-second-of .second-of .result) p (start .pre .0) (start .pre .1) (start .args .x) (at-tag-of .tag-of .ensures)
+    (at-first-of .first-of .ensures) (at-second-of .second-of .ensures) _ (at-loop .loop .inv) (omega (arith, (at-loop-test .loop-test .taken)))
+    (told (at-words-are .words-are .ensures) (c .if2 .taken))
 
 add-link : tie.Need-add-link Inv-loop μ-loop
-add-link c = let h = standing-below _ _ _ _ _ _ _ (c .before .before .before .before .loop .inv) in omega (arith, h, (c .before .before .before .loop-test .taken), (c .before .before .before .before .before .before .before .before .before .before .before .before .before .pre .1 .room), length-nodes (c .before .before .before .before .before .before .before .before .before .before .before .before .before .args .list .now) (c .before .before .before .before .before .before .before .before .before .before .before .before .before .args .n))
+add-link c =
+    let at-loop-test = c .before .before .before in
+    let at-loop = at-loop-test .before in
+    let start = at-loop .before .before .before .before .before .before .before .before .before in
+    let h = standing-below _ _ _ _ _ _ _ (at-loop .loop .inv) in omega
+    (arith, h, (at-loop-test .loop-test .taken), (start .pre .1 .room), length-nodes (start .args .list .now) (start .args .n))
 
 mul-link-2 : tie.Need-mul-link-2 Inv-loop μ-loop
-mul-link-2 c = let h = standing-below _ _ _ _ _ _ _ (c .before .before .before .before .loop .inv) in omega (arith, h, (c .before .before .before .loop-test .taken), (c .before .before .before .before .before .before .before .before .before .before .before .before .before .pre .1 .room), length-nodes (c .before .before .before .before .before .before .before .before .before .before .before .before .before .args .list .now) (c .before .before .before .before .before .before .before .before .before .before .before .before .before .args .n))
+mul-link-2 c =
+    let at-loop-test = c .before .before .before in
+    let at-loop = at-loop-test .before in
+    let start = at-loop .before .before .before .before .before .before .before .before .before in
+    let h = standing-below _ _ _ _ _ _ _ (at-loop .loop .inv) in omega
+    (arith, h, (at-loop-test .loop-test .taken), (start .pre .1 .room), length-nodes (start .args .list .now) (start .args .n))
 
 shared-slice-read-link-2 : tie.Need-shared-slice-read-link-2 Inv-loop μ-loop
-shared-slice-read-link-2 c = let h = standing-below _ _ _ _ _ _ _ (c .before .before .before .before .before .loop .inv) in omega (arith, h, (c .before .before .before .before .loop-test .taken), (c .before .before .before .before .before .before .before .before .before .before .before .before .before .before .pre .1 .room), length-nodes (c .before .before .before .before .before .before .before .before .before .before .before .before .before .before .args .list .now) (c .before .before .before .before .before .before .before .before .before .before .before .before .before .before .args .n))
+shared-slice-read-link-2 c =
+    let at-loop-test = c .before .before .before .before in
+    let at-loop = at-loop-test .before in
+    let start = at-loop .before .before .before .before .before .before .before .before .before in
+    let h = standing-below _ _ _ _ _ _ _ (at-loop .loop .inv) in omega
+    (arith, h, (at-loop-test .loop-test .taken), (start .pre .1 .room), length-nodes (start .args .list .now) (start .args .n))
 
 add-steps : tie.Need-add-steps Inv-loop μ-loop
 add-steps c = search needs
 
 loop-less : tie.Need-loop-less Inv-loop μ-loop
-loop-less c = find-down (c .before .before .before .before .before .before .before .before .before .before .before .before .before .before .args .list .now) (c .before .before .before .before .before .before .before .before .before .before .before .before .before .before .args .n) (c .before .before .before .before .before .before .before .before .before .before .before .before .before .before .args .links .now) (c .before .before .before .before .before .before .before .before .before .before .before .tag-of .result) (c .before .before .before .before .before .before .before .before .before .before .first-of .result) (c .before .before .before .before .before .before .before .before .before .second-of .result) p (c .before .before .before .before .before .before .before .before .before .before .before .before .before .before .pre .0) (c .before .before .before .before .before .before .before .before .before .before .before .before .before .before .pre .1) _ (c .before .before .before .before .before .loop .inv) (omega (arith, (c .before .before .before .before .loop-test .taken)))
+loop-less c =
+    let at-loop-test = c .before .before .before .before in
+    let at-loop = at-loop-test .before in
+    let at-second-of = at-loop .before .before .before .before in
+    let at-first-of = at-second-of .before in
+    let at-tag-of = at-first-of .before in
+    let start = at-tag-of .before .before .before in
+    find-down (start .args .list .now) (start .args .n) (start .args .links .now) (at-tag-of .tag-of .result) (at-first-of .first-of .result)
+    (at-second-of .second-of .result) p (start .pre .0) (start .pre .1) _ (at-loop .loop .inv) (omega (arith, (at-loop-test .loop-test .taken)))
 
 loop-again : tie.Need-loop-again Inv-loop μ-loop
-loop-again c = find-on (c .before .before .before .before .before .before .before .before .before .before .before .before .before .before .args .list .now) (c .before .before .before .before .before .before .before .before .before .before .before .before .before .before .args .n) (c .before .before .before .before .before .before .before .before .before .before .before .before .before .before .args .links .now) (c .before .before .before .before .before .before .before .before .before .before .before .tag-of .result) (c .before .before .before .before .before .before .before .before .before .before .first-of .result) (c .before .before .before .before .before .before .before .before .before .second-of .result) p (c .before .before .before .before .before .before .before .before .before .before .before .before .before .before .pre .0) (c .before .before .before .before .before .before .before .before .before .before .before .before .before .before .pre .1) _ (c .before .before .before .before .before .loop .inv) (omega (arith, (c .before .before .before .before .loop-test .taken))) (told (c .before .before .words-are .ensures) (c .before .if2 .left))
+loop-again c =
+    let at-if2 = c .before in
+    let at-words-are = at-if2 .before in
+    let at-loop-test = at-words-are .before .before in
+    let at-loop = at-loop-test .before in
+    let at-second-of = at-loop .before .before .before .before in
+    let at-first-of = at-second-of .before in
+    let at-tag-of = at-first-of .before in
+    let start = at-tag-of .before .before .before in
+    find-on (start .args .list .now) (start .args .n) (start .args .links .now) (at-tag-of .tag-of .result) (at-first-of .first-of .result)
+    (at-second-of .second-of .result) p (start .pre .0) (start .pre .1) _ (at-loop .loop .inv) (omega (arith, (at-loop-test .loop-test .taken)))
+    (told (at-words-are .words-are .ensures) (at-if2 .if2 .left))
 
 returns-3 : tie.Need-returns-3 Inv-loop μ-loop
-returns-3 c = find-none (c .before .before .before .before .before .before .before .before .before .before .args .list .now) (c .before .before .before .before .before .before .before .before .before .before .args .n) (c .before .before .before .before .before .before .before .before .before .before .args .links .now) (c .before .before .before .before .before .before .before .tag-of .result) (c .before .before .before .before .before .before .first-of .result) (c .before .before .before .before .before .second-of .result) p (c .before .before .before .before .before .before .before .before .before .before .pre .0) (c .before .before .before .before .before .before .before .before .before .before .pre .1) (c .before .before .before .before .before .before .before .before .before .before .args .x) (c .before .before .before .before .before .before .before .tag-of .ensures) (c .before .before .before .before .before .before .first-of .ensures) (c .before .before .before .before .before .second-of .ensures) _ (c .before .loop .inv) (omega (arith, (c .loop-test .left)))
+returns-3 c =
+    let at-loop = c .before in
+    let at-second-of = at-loop .before .before .before .before in
+    let at-first-of = at-second-of .before in
+    let at-tag-of = at-first-of .before in
+    let start = at-tag-of .before .before .before in
+    find-none (start .args .list .now) (start .args .n) (start .args .links .now) (at-tag-of .tag-of .result) (at-first-of .first-of .result)
+    (at-second-of .second-of .result) p (start .pre .0) (start .pre .1) (start .args .x) (at-tag-of .tag-of .ensures)
+    (at-first-of .first-of .ensures) (at-second-of .second-of .ensures) _ (at-loop .loop .inv) (omega (arith, (c .loop-test .left)))
 
 pub find-spec : {M : Type 1} → statement M
 find-spec =

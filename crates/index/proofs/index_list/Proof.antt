@@ -25,49 +25,103 @@ unfolding Nodes.nodes
 loop-holds c = (omega arith, refl, (c .before .before .clear .ensures))
 
 mul-note : tie.Need-mul-note Inv-loop μ-loop
-mul-note c = omega (arith, (c .before .loop-test .taken), (c .before .before .before .before .before .before .before .before .before .pre .0 .room))
+mul-note c =
+    let at-loop-test = c .before in
+    let start = at-loop-test .before .before .before .before .before .before .before .before in
+    omega (arith, (at-loop-test .loop-test .taken), (start .pre .0 .room))
 
 mul-note-2 : tie.Need-mul-note-2 Inv-loop μ-loop
-mul-note-2 c = omega (arith, (c .before .loop-test .taken), (c .before .before .before .before .before .before .before .before .before .pre .0 .room))
+mul-note-2 c =
+    let at-loop-test = c .before in
+    let start = at-loop-test .before .before .before .before .before .before .before .before in
+    omega (arith, (at-loop-test .loop-test .taken), (start .pre .0 .room))
 
 shared-slice-read-note : tie.Need-shared-slice-read-note Inv-loop μ-loop
-shared-slice-read-note c = omega (arith, (c .before .before .loop-test .taken), (c .before .before .before .before .before .before .before .before .before .before .pre .0 .room))
+shared-slice-read-note c =
+    let at-loop-test = c .before .before in
+    let start = at-loop-test .before .before .before .before .before .before .before .before in
+    omega (arith, (at-loop-test .loop-test .taken), (start .pre .0 .room))
 
 mul-note-3 : tie.Need-mul-note-3 Inv-loop μ-loop
-mul-note-3 c = omega (arith, (c .before .before .loop-test .taken), (c .before .before .before .before .before .before .before .before .before .before .pre .0 .room))
+mul-note-3 c =
+    let at-loop-test = c .before .before in
+    let start = at-loop-test .before .before .before .before .before .before .before .before in
+    omega (arith, (at-loop-test .loop-test .taken), (start .pre .0 .room))
 
 add-note : tie.Need-add-note Inv-loop μ-loop
-add-note c = omega (arith, (c .before .before .loop-test .taken), (c .before .before .before .before .before .before .before .before .before .before .pre .0 .room))
+add-note c =
+    let at-loop-test = c .before .before in
+    let start = at-loop-test .before .before .before .before .before .before .before .before in
+    omega (arith, (at-loop-test .loop-test .taken), (start .pre .0 .room))
 
 mul-note-4 : tie.Need-mul-note-4 Inv-loop μ-loop
-mul-note-4 c = omega (arith, (c .before .before .loop-test .taken), (c .before .before .before .before .before .before .before .before .before .before .pre .0 .room))
+mul-note-4 c =
+    let at-loop-test = c .before .before in
+    let start = at-loop-test .before .before .before .before .before .before .before .before in
+    omega (arith, (at-loop-test .loop-test .taken), (start .pre .0 .room))
 
 shared-slice-read-note-2 : tie.Need-shared-slice-read-note-2 Inv-loop μ-loop
-shared-slice-read-note-2 c = omega (arith, (c .before .before .before .loop-test .taken), (c .before .before .before .before .before .before .before .before .before .before .before .pre .0 .room))
+shared-slice-read-note-2 c =
+    let at-loop-test = c .before .before .before in
+    let start = at-loop-test .before .before .before .before .before .before .before .before in
+    omega (arith, (at-loop-test .loop-test .taken), (start .pre .0 .room))
 
 mul-note-5 : tie.Need-mul-note-5 Inv-loop μ-loop
-mul-note-5 c = omega (arith, (c .before .before .before .loop-test .taken), (c .before .before .before .before .before .before .before .before .before .before .before .pre .0 .room))
+mul-note-5 c =
+    let at-loop-test = c .before .before .before in
+    let start = at-loop-test .before .before .before .before .before .before .before .before in
+    omega (arith, (at-loop-test .loop-test .taken), (start .pre .0 .room))
 
 add-note-2 : tie.Need-add-note-2 Inv-loop μ-loop
-add-note-2 c = omega (arith, (c .before .before .before .loop-test .taken), (c .before .before .before .before .before .before .before .before .before .before .before .pre .0 .room))
+add-note-2 c =
+    let at-loop-test = c .before .before .before in
+    let start = at-loop-test .before .before .before .before .before .before .before .before in
+    omega (arith, (at-loop-test .loop-test .taken), (start .pre .0 .room))
 
 mul-note-6 : tie.Need-mul-note-6 Inv-loop μ-loop
-mul-note-6 c = omega (arith, (c .before .before .before .loop-test .taken), (c .before .before .before .before .before .before .before .before .before .before .before .pre .0 .room))
+mul-note-6 c =
+    let at-loop-test = c .before .before .before in
+    let start = at-loop-test .before .before .before .before .before .before .before .before in
+    omega (arith, (at-loop-test .loop-test .taken), (start .pre .0 .room))
 
 shared-slice-read-note-3 : tie.Need-shared-slice-read-note-3 Inv-loop μ-loop
-shared-slice-read-note-3 c = omega (arith, (c .before .before .before .before .loop-test .taken), (c .before .before .before .before .before .before .before .before .before .before .before .before .pre .0 .room))
+shared-slice-read-note-3 c =
+    let at-loop-test = c .before .before .before .before in
+    let start = at-loop-test .before .before .before .before .before .before .before .before in
+    omega (arith, (at-loop-test .loop-test .taken), (start .pre .0 .room))
 
 note-requires : tie.Need-note-requires Inv-loop μ-loop
-note-requires c κs = ((c .before .before .before .before .before .loop .inv .2 .usable), rw ((c .before .before .before .before .before .loop .inv .1), (c .before .before .before .before .before .before .before .before .clear .kept .0)) (omega (arith, (c .before .before .before .before .before .before .before .before .before .before .before .before .pre .2), (c .before .before .before .before .loop-test .taken))))
+note-requires c κs =
+    let at-loop-test = c .before .before .before .before in
+    let at-loop = at-loop-test .before in
+    let at-clear = at-loop .before .before .before in
+    let start = at-clear .before .before .before .before in (
+      (at-loop .loop .inv .2 .usable),
+      rw ((at-loop .loop .inv .1), (at-clear .clear .kept .0))
+          (omega (arith, (start .pre .2), (at-loop-test .loop-test .taken))),
+    )
 
 add-i : tie.Need-add-i Inv-loop μ-loop
 add-i c = search needs
 
 loop-less : tie.Need-loop-less Inv-loop μ-loop
-loop-less c = omega (arith, (c .before .before .before .before .before .before .before .loop-test .taken))
+loop-less c =
+    let at-loop-test = c .before .before .before .before .before .before .before in
+    omega (arith, (at-loop-test .loop-test .taken))
 
 loop-again : tie.Need-loop-again Inv-loop μ-loop
-loop-again c = (omega (arith, (c .before .before .before .before .before .before .before .loop-test .taken)), (c .before .before .note .kept .0) ∙ (c .before .before .before .before .before .before .before .before .loop .inv .1), index-next p _ _ _ _ _ (c .before .before .before .before .before .before .before .before .before .before .before .before .before .before .before .pre .0) (c .before .before .before .before .before .before .before .loop-test .taken) (rw ((c .before .before .before .before .before .before .before .before .loop .inv .1), (c .before .before .before .before .before .before .before .before .before .before .before .clear .kept .0)) (c .before .before .before .before .before .before .before .before .before .before .before .before .before .before .before .pre .2)) (c .before .before .before .before .before .before .before .before .loop .inv .2) (c .before .before .note .ensures))
+loop-again c =
+    let at-note = c .before .before in
+    let at-loop-test = at-note .before .before .before .before .before in
+    let at-loop = at-loop-test .before in
+    let at-clear = at-loop .before .before .before in
+    let start = at-clear .before .before .before .before in (
+      omega (arith, (at-loop-test .loop-test .taken)),
+      (at-note .note .kept .0) ∙ (at-loop .loop .inv .1),
+      index-next p _ _ _ _ _ (start .pre .0)
+          (at-loop-test .loop-test .taken) (rw ((at-loop .loop .inv .1), (at-clear .clear .kept .0)) (start .pre .2)) (at-loop .loop .inv .2)
+          (at-note .note .ensures),
+    )
 
 same-length : tie.Need-same-length Inv-loop μ-loop
 same-length c = (c .before .loop .inv .1) ∙ (c .before .before .before .before .clear .kept .0)

@@ -16,7 +16,13 @@ same-length : tie.Need-same-length
 same-length c = search needs
 
 returns : tie.Need-returns
-returns c = noted-as (c .before .before .before .before .before .before .before .args .links .now) (c .before .before .before .before .before .before .before .args .n) (c .before .before .before .before .before .before .before .args .t) (c .before .before .before .before .before .before .before .args .a) (c .before .before .before .before .before .before .before .args .b) _ (c .before .before .link .ensures) (c .before .before .before .before .bucket-of .ensures .0) (c .before .before .before .before .before .hash .ensures .0)
+returns c =
+    let at-link = c .before .before in
+    let at-bucket-of = at-link .before .before in
+    let at-hash = at-bucket-of .before in
+    let start = at-hash .before .before in
+    noted-as (start .args .links .now) (start .args .n) (start .args .t) (start .args .a) (start .args .b) _ (at-link .link .ensures)
+    (at-bucket-of .bucket-of .ensures .0) (at-hash .hash .ensures .0)
 
 pub note-spec : {M : Type 1} → statement M
 note-spec = tie.close (tie.spec hash-requires bucket-of-requires link-requires same-length returns)

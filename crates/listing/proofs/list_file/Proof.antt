@@ -19,7 +19,15 @@ same-length : tie.Need-same-length
 same-length c = search needs
 
 returns : tie.Need-returns
-returns c = (c .before .before .before .before .before .list-in .ensures .length-is, (c .before .before .before .before .before .list-in .ensures .store-is, omega (arith, c .before .before .before .before .before .list-in .ensures .length-is, c .before .before .before .before .before .list-in .ensures .fits, c .before .before .before .before .before .list-in .kept .1 .1 .1 .1 .0)))
+returns c =
+    let at-list-in = c .before .before .before .before .before in (
+      at-list-in .list-in .ensures .length-is,
+      (
+        at-list-in .list-in .ensures .store-is,
+        omega
+            (arith, at-list-in .list-in .ensures .length-is, at-list-in .list-in .ensures .fits, at-list-in .list-in .kept .1 .1 .1 .1 .0),
+      ),
+    )
 
 pub list-file-spec : {M : Type 1} → statement M
 list-file-spec =

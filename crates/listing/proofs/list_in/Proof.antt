@@ -21,16 +21,53 @@ enum-known-answer-2 : tie.Need-enum-known-answer-2
 enum-known-answer-2 c = search needs
 
 mul-m : tie.Need-mul-m
-mul-m c = omega (arith, few (c .before .before .before .before .before .before .before .before .before .before .before .before .args .file .now) (length (c .before .before .before .before .before .before .before .before .before .before .before .before .args .list .now)) (c .before .before .before .before .before .before .before .before .before .before .before .before .pre .list-room) _ _ (told (c .before .before .before .before .before .read-file .ensures .0) (c .before .answer2 .given .1)))
+mul-m c =
+    let at-answer2 = c .before in
+    let at-read-file = at-answer2 .before .before .before .before in
+    let start = at-read-file .before .before .before .before .before .before .before in
+    omega (
+      arith,
+      few (start .args .file .now) (length (start .args .list .now)) (start .pre .list-room) _ _
+          (told (at-read-file .read-file .ensures .0) (at-answer2 .answer2 .given .1)),
+    )
 
 slice-reshare-prefix-list-words : tie.Need-slice-reshare-prefix-list-words
-slice-reshare-prefix-list-words c = omega (arith, few (c .before .before .before .before .before .before .before .before .before .before .before .before .args .file .now) (length (c .before .before .before .before .before .before .before .before .before .before .before .before .args .list .now)) (c .before .before .before .before .before .before .before .before .before .before .before .before .pre .list-room) _ _ (told (c .before .before .before .before .before .read-file .ensures .0) (c .before .answer2 .given .1)), c .before .before .before .before .before .read-file .kept .1 .0, c .before .before .before .before .before .before .before .before .before .before .before .before .pre .list-room)
+slice-reshare-prefix-list-words c =
+    let at-answer2 = c .before in
+    let at-read-file = at-answer2 .before .before .before .before in
+    let start = at-read-file .before .before .before .before .before .before .before in
+    omega (
+      arith,
+      few (start .args .file .now) (length (start .args .list .now)) (start .pre .list-room) _ _
+          (told (at-read-file .read-file .ensures .0) (at-answer2 .answer2 .given .1)),
+      at-read-file .read-file .kept .1 .0,
+      start .pre .list-room,
+    )
 
 slice-aggregate-list-words : tie.Need-slice-aggregate-list-words
-slice-aggregate-list-words c = sym (length-take-le _ _ (omega (arith, few (c .before .before .before .before .before .before .before .before .before .before .before .before .before .args .file .now) (length (c .before .before .before .before .before .before .before .before .before .before .before .before .before .args .list .now)) (c .before .before .before .before .before .before .before .before .before .before .before .before .before .pre .list-room) _ _ (told (c .before .before .before .before .before .before .read-file .ensures .0) (c .before .before .answer2 .given .1)), c .before .before .before .before .before .before .read-file .kept .1 .0, c .before .before .before .before .before .before .before .before .before .before .before .before .before .pre .list-room)))
+slice-aggregate-list-words c =
+    let at-answer2 = c .before .before in
+    let at-read-file = at-answer2 .before .before .before .before in
+    let start = at-read-file .before .before .before .before .before .before .before in
+    sym (length-take-le _ _ (omega (
+      arith,
+      few (start .args .file .now) (length (start .args .list .now)) (start .pre .list-room) _ _
+          (told (at-read-file .read-file .ensures .0) (at-answer2 .answer2 .given .1)),
+      at-read-file .read-file .kept .1 .0,
+      start .pre .list-room,
+    )))
 
 list-words-requires : tie.Need-list-words-requires
-list-words-requires c κs = omega (arith, few (c .before .before .before .before .before .before .before .before .before .before .before .before .before .before .before .before .args .file .now) (length (c .before .before .before .before .before .before .before .before .before .before .before .before .before .before .before .before .args .list .now)) (c .before .before .before .before .before .before .before .before .before .before .before .before .before .before .before .before .pre .list-room) _ _ (told (c .before .before .before .before .before .before .before .before .before .read-file .ensures .0) (c .before .before .before .before .before .answer2 .given .1)), c .before .before .before .before .before .before .before .before .before .before .before .before .before .before .before .before .pre .out-room)
+list-words-requires c κs =
+    let at-answer2 = c .before .before .before .before .before in
+    let at-read-file = at-answer2 .before .before .before .before in
+    let start = at-read-file .before .before .before .before .before .before .before in
+    omega (
+      arith,
+      few (start .args .file .now) (length (start .args .list .now)) (start .pre .list-room) _ _
+          (told (at-read-file .read-file .ensures .0) (at-answer2 .answer2 .given .1)),
+      start .pre .out-room,
+    )
 
 same-length : tie.Need-same-length
 same-length c = search needs
@@ -39,7 +76,13 @@ same-length-2 : tie.Need-same-length-2
 same-length-2 c = search needs
 
 returns : tie.Need-returns
-returns c = laid-as (file-refused (c .before .before .before .before .before .before .before .before .before .before .before .before .before .before .before .before .args .file .now) (length (c .before .before .before .before .before .before .before .before .before .before .before .before .before .before .before .before .args .list .now)) (c .before .before .before .before .before .before .before .before .before .before .before .before .before .before .before .before .pre .list-room) _ (told (c .before .before .before .before .before .before .before .before .before .read-file .ensures .0) (c .before .before .before .before .before .answer .given .1))) (c .before .before .write-refused .ensures)
+returns c =
+    let at-write-refused = c .before .before in
+    let at-answer = at-write-refused .before .before .before in
+    let at-read-file = at-answer .before .before .before .before in
+    let start = at-read-file .before .before .before .before .before .before .before in
+    laid-as (file-refused (start .args .file .now) (length (start .args .list .now)) (start .pre .list-room) _
+    (told (at-read-file .read-file .ensures .0) (at-answer .answer .given .1))) (at-write-refused .write-refused .ensures)
 
 same-length-3 : tie.Need-same-length-3
 same-length-3 c = search needs
@@ -54,7 +97,14 @@ same-length-6 : tie.Need-same-length-6
 same-length-6 c = search needs
 
 returns-2 : tie.Need-returns-2
-returns-2 c = laid-as (file-done (c .before .before .before .before .before .before .before .before .before .before .before .before .before .before .before .before .before .before .before .before .before .before .before .args .file .now) (length (c .before .before .before .before .before .before .before .before .before .before .before .before .before .before .before .before .before .before .before .before .before .before .before .args .list .now)) (c .before .before .before .before .before .before .before .before .before .before .before .before .before .before .before .before .before .before .before .before .before .before .before .pre .list-room) _ _ (told (c .before .before .before .before .before .before .before .before .before .before .before .before .before .before .before .before .read-file .ensures .0) (c .before .before .before .before .before .before .before .before .before .before .before .before .answer2 .given .1)) (c .before .before .before .before .before .before .before .before .before .before .before .before .before .before .before .before .before .before .before .before .before .before .before .args .list .now) _ refl (c .before .before .before .before .before .before .before .before .before .before .before .before .before .before .before .before .read-file .ensures .1) _ _ (c .before .before .before .before .before .before .before .before .before .before .before .before .before .before .before .before .before .before .before .before .before .before .before .pre .result-room) (c .before .before .before .before .before .before .before .before .before .before .before .before .before .before .before .before .before .before .before .before .before .before .before .pre .work-room)) (c .before .before .before .before .before .before .list-words .ensures)
+returns-2 c =
+    let at-list-words = c .before .before .before .before .before .before in
+    let at-answer2 = at-list-words .before .before .before .before .before .before in
+    let at-read-file = at-answer2 .before .before .before .before in
+    let start = at-read-file .before .before .before .before .before .before .before in
+    laid-as (file-done (start .args .file .now) (length (start .args .list .now)) (start .pre .list-room) _ _
+    (told (at-read-file .read-file .ensures .0) (at-answer2 .answer2 .given .1)) (start .args .list .now) _ refl
+    (at-read-file .read-file .ensures .1) _ _ (start .pre .result-room) (start .pre .work-room)) (at-list-words .list-words .ensures)
 
 pub list-in-spec : {M : Type 1} → statement M
 list-in-spec =

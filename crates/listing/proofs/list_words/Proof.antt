@@ -18,7 +18,12 @@ enum-known-answer-2 : tie.Need-enum-known-answer-2
 enum-known-answer-2 c = search needs
 
 write-listing-requires : tie.Need-write-listing-requires
-write-listing-requires c κs = may-list (c .before .before .before .before .before .before .before .before .before .before .before .before .before .before .before .before .args .list .now) (c .before .before .before .before .before .before .before .before .before .before .before .before .before .before .before .before .args .n) (c .before .before .before .before .before .before .before .before .before .before .before .before .before .before .before .before .args .root) (c .before .before .before .before .before .before .before .before .before .before .before .before .before .before .before .before .args .result .now) (length (c .before .before .before .before .before .before .before .before .before .before .before .before .before .before .before .before .args .work .now)) _ _ _ (told (c .before .before .before .before .before .before .before .before .before .normalize .ensures .0) (c .before .before .before .answer2 .given .1)) _ _ (c .before .before .before .before .before .before .before .before .before .normalize .kept .1 .1 .1 .0) (c .before .before .before .before .before .before .before .before .before .before .before .before .before .before .before .before .pre)
+write-listing-requires c κs =
+    let at-answer2 = c .before .before .before in
+    let at-normalize = at-answer2 .before .before .before .before .before .before in
+    let start = at-normalize .before .before .before .before .before .before .before in
+    may-list (start .args .list .now) (start .args .n) (start .args .root) (start .args .result .now) (length (start .args .work .now)) _ _ _
+    (told (at-normalize .normalize .ensures .0) (at-answer2 .answer2 .given .1)) _ _ (at-normalize .normalize .kept .1 .1 .1 .0) (start .pre)
 
 same-length : tie.Need-same-length
 same-length c = search needs
@@ -30,7 +35,13 @@ same-length-3 : tie.Need-same-length-3
 same-length-3 c = search needs
 
 returns : tie.Need-returns
-returns c = laid-as (words-refused (c .before .before .before .before .before .before .before .before .before .before .before .before .before .before .before .before .before .before .args .list .now) (c .before .before .before .before .before .before .before .before .before .before .before .before .before .before .before .before .before .before .args .n) (c .before .before .before .before .before .before .before .before .before .before .before .before .before .before .before .before .before .before .args .root) (c .before .before .before .before .before .before .before .before .before .before .before .before .before .before .before .before .before .before .args .result .now) (length (c .before .before .before .before .before .before .before .before .before .before .before .before .before .before .before .before .before .before .args .work .now)) _ (told (c .before .before .before .before .before .before .before .before .before .before .before .normalize .ensures .0) (c .before .before .before .before .before .answer .given .1))) (c .before .before .write-refused .ensures)
+returns c =
+    let at-write-refused = c .before .before in
+    let at-answer = at-write-refused .before .before .before in
+    let at-normalize = at-answer .before .before .before .before .before .before in
+    let start = at-normalize .before .before .before .before .before .before .before in
+    laid-as (words-refused (start .args .list .now) (start .args .n) (start .args .root) (start .args .result .now) (length (start .args .work .now)) _
+    (told (at-normalize .normalize .ensures .0) (at-answer .answer .given .1))) (at-write-refused .write-refused .ensures)
 
 same-length-4 : tie.Need-same-length-4
 same-length-4 c = search needs
@@ -42,7 +53,14 @@ same-length-6 : tie.Need-same-length-6
 same-length-6 c = search needs
 
 returns-2 : tie.Need-returns-2
-returns-2 c = laid-as (words-listed (c .before .before .before .before .before .before .before .before .before .before .before .before .before .before .before .before .before .before .before .args .list .now) (c .before .before .before .before .before .before .before .before .before .before .before .before .before .before .before .before .before .before .before .args .n) (c .before .before .before .before .before .before .before .before .before .before .before .before .before .before .before .before .before .before .before .args .root) (c .before .before .before .before .before .before .before .before .before .before .before .before .before .before .before .before .before .before .before .args .result .now) (length (c .before .before .before .before .before .before .before .before .before .before .before .before .before .before .before .before .before .before .before .args .work .now)) _ _ _ (told (c .before .before .before .before .before .before .before .before .before .before .before .before .normalize .ensures .0) (c .before .before .before .before .before .before .answer2 .given .1)) _ (c .before .before .before .before .before .before .before .before .before .before .before .before .normalize .ensures .1 .0)) (c .before .before .write-listing .ensures)
+returns-2 c =
+    let at-write-listing = c .before .before in
+    let at-answer2 = at-write-listing .before .before .before .before in
+    let at-normalize = at-answer2 .before .before .before .before .before .before in
+    let start = at-normalize .before .before .before .before .before .before .before in
+    laid-as (words-listed (start .args .list .now) (start .args .n) (start .args .root) (start .args .result .now) (length (start .args .work .now)) _ _
+    _ (told (at-normalize .normalize .ensures .0) (at-answer2 .answer2 .given .1)) _ (at-normalize .normalize .ensures .1 .0))
+    (at-write-listing .write-listing .ensures)
 
 pub list-words-spec : {M : Type 1} → statement M
 list-words-spec =

@@ -18,21 +18,64 @@ slice-aggregate-put-named-2 c = search needs
 
 put-named-requires-2 : tie.Need-put-named-requires-2
 unfolding ascii
-put-named-requires-2 c κs = omega (arith, c .before .before .before .before .before .before .before .before .pre, named-short (ascii "nodes") (c .before .before .before .before .before .before .before .before .args .count) 32 (c .before .before .before .before .before .before .before .before .fits .count .fits), named-short (ascii "root") (c .before .before .before .before .before .before .before .before .args .root) 32 (c .before .before .before .before .before .before .before .before .fits .root .fits), c .before .before .before .before .put-named .ensures .end-is, c .before .before .before .before .put-named .kept .0)
+put-named-requires-2 c κs =
+    let at-put-named = c .before .before .before .before in
+    let start = at-put-named .before .before .before .before in
+    omega (
+      arith,
+      start .pre,
+      named-short (ascii "nodes") (start .args .count) 32 (start .fits .count .fits),
+      named-short (ascii "root")
+          (start .args .root) 32 (start .fits .root .fits),
+      at-put-named .put-named .ensures .end-is,
+      at-put-named .put-named .kept .0,
+    )
 
 slice-aggregate-put-named-3 : tie.Need-slice-aggregate-put-named-3
 slice-aggregate-put-named-3 c = search needs
 
 put-named-requires-3 : tie.Need-put-named-requires-3
 unfolding ascii
-put-named-requires-3 c κs = omega (arith, c .before .before .before .before .before .before .before .before .before .before .before .before .before .pre, named-short (ascii "nodes") (c .before .before .before .before .before .before .before .before .before .before .before .before .before .args .count) 32 (c .before .before .before .before .before .before .before .before .before .before .before .before .before .fits .count .fits), named-short (ascii "root") (c .before .before .before .before .before .before .before .before .before .before .before .before .before .args .root) 32 (c .before .before .before .before .before .before .before .before .before .before .before .before .before .fits .root .fits), named-short (ascii "rounds") (c .before .before .before .before .before .before .before .before .before .before .before .before .before .args .rounds) 10 (c .before .before .before .before .before .before .before .before .before .before .before .before .before .fits .rounds .fits), c .before .before .before .before .before .before .before .before .before .put-named .ensures .end-is, c .before .before .before .before .before .before .before .before .before .put-named .kept .0, c .before .before .before .before .put-named2 .ensures .end-is, c .before .before .before .before .put-named2 .kept .0)
+put-named-requires-3 c κs =
+    let at-put-named2 = c .before .before .before .before in
+    let at-put-named = at-put-named2 .before .before .before .before .before in
+    let start = at-put-named .before .before .before .before in
+    omega (
+      arith,
+      start .pre,
+      named-short (ascii "nodes") (start .args .count) 32 (start .fits .count .fits),
+      named-short (ascii "root")
+          (start .args .root) 32 (start .fits .root .fits),
+      named-short (ascii "rounds") (start .args .rounds) 10 (start .fits .rounds .fits),
+      at-put-named .put-named .ensures .end-is,
+      at-put-named .put-named .kept .0,
+      at-put-named2 .put-named2 .ensures .end-is,
+      at-put-named2 .put-named2 .kept .0,
+    )
 
 same-length : tie.Need-same-length
 same-length c = search needs
 
 returns : tie.Need-returns
 unfolding ascii
-returns c = (wrote-as (first-is _ _ _) (and-then (c .before .before .before .before .before .before .before .before .before .before .before .before .put-named .ensures) (and-then (c .before .before .before .before .before .before .before .put-named2 .ensures) (c .before .before .put-named3 .ensures))), omega (arith, named-short (ascii "nodes") (c .before .before .before .before .before .before .before .before .before .before .before .before .before .before .before .before .args .count) 32 (c .before .before .before .before .before .before .before .before .before .before .before .before .before .before .before .before .fits .count .fits), named-short (ascii "root") (c .before .before .before .before .before .before .before .before .before .before .before .before .before .before .before .before .args .root) 32 (c .before .before .before .before .before .before .before .before .before .before .before .before .before .before .before .before .fits .root .fits), named-short (ascii "rounds") (c .before .before .before .before .before .before .before .before .before .before .before .before .before .before .before .before .args .rounds) 10 (c .before .before .before .before .before .before .before .before .before .before .before .before .before .before .before .before .fits .rounds .fits), c .before .before .before .before .before .before .before .before .before .before .before .before .put-named .ensures .end-is, c .before .before .before .before .before .before .before .put-named2 .ensures .end-is, c .before .before .put-named3 .ensures .end-is))
+returns c =
+    let at-put-named3 = c .before .before in
+    let at-put-named2 = at-put-named3 .before .before .before .before .before in
+    let at-put-named = at-put-named2 .before .before .before .before .before in
+    let start = at-put-named .before .before .before .before in (
+      wrote-as (first-is _ _ _) (and-then (at-put-named .put-named .ensures)
+          (and-then (at-put-named2 .put-named2 .ensures) (at-put-named3 .put-named3 .ensures))),
+      omega (
+        arith,
+        named-short (ascii "nodes") (start .args .count) 32 (start .fits .count .fits),
+        named-short (ascii "root") (start .args .root) 32
+            (start .fits .root .fits),
+        named-short (ascii "rounds") (start .args .rounds) 10 (start .fits .rounds .fits),
+        at-put-named .put-named .ensures .end-is,
+        at-put-named2 .put-named2 .ensures .end-is,
+        at-put-named3 .put-named3 .ensures .end-is,
+      ),
+    )
 
 pub put-first-spec : {M : Type 1} → statement M
 put-first-spec =

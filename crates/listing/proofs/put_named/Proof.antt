@@ -21,7 +21,10 @@ same-length c = search needs
 
 returns : tie.Need-returns
 unfolding named
-returns c = and-then (c .before .before .before .before .before .before .put-word .ensures) (c .before .before .put-number .ensures)
+returns c =
+    let at-put-number = c .before .before in
+    let at-put-word = at-put-number .before .before .before .before in
+    and-then (at-put-word .put-word .ensures) (at-put-number .put-number .ensures)
 
 pub put-named-spec : {M : Type 1} → statement M
 put-named-spec = tie.close (tie.spec put-word-requires put-number-requires same-length returns)

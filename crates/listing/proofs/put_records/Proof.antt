@@ -23,7 +23,14 @@ node-at-requires : tie.Need-node-at-requires Inv-loop μ-loop
 node-at-requires c κs = omega (arith, c .before .before .before .before .before .pre .0)
 
 put-record-requires : tie.Need-put-record-requires Inv-loop μ-loop
-put-record-requires c κs = (omega (arith, c .before .before .before .before .before .before .pre .1), let l = wrote-length (c .before .before .before .loop .inv .2) in omega (arith, c .before .before .before .before .before .before .pre .2, c .before .before .before .loop .inv .1, c .before .before .loop-test .taken))
+put-record-requires c κs =
+    let at-loop-test = c .before .before in
+    let at-loop = at-loop-test .before in
+    let start = at-loop .before .before .before in (
+      omega (arith, start .pre .1),
+      let l = wrote-length (at-loop .loop .inv .2) in omega
+          (arith, start .pre .2, at-loop .loop .inv .1, at-loop-test .loop-test .taken),
+    )
 
 add-i : tie.Need-add-i Inv-loop μ-loop
 add-i c = omega (arith, c .before .before .before .before .before .loop-test .taken)
@@ -32,7 +39,18 @@ loop-less : tie.Need-loop-less Inv-loop μ-loop
 loop-less c = omega arith
 
 loop-again : tie.Need-loop-again Inv-loop μ-loop
-loop-again c = (omega arith, omega (arith, c .before .before .before .before .before .before .loop .inv .1, c .before .before .put-record .ensures .1), lines-more (c .before .before .before .before .before .before .before .before .before .args .list .now) (c .before .before .before .before .before .before .before .before .before .args .n) (c .before .before .before .before .before .before .loop .i) (c .before .before .before .before .before .before .loop .inv .2) (c .before .before .before .before .before .loop-test .taken) (c .before .before .before .node-at .ensures) (c .before .before .put-record .ensures .0))
+loop-again c =
+    let at-put-record = c .before .before in
+    let at-node-at = at-put-record .before in
+    let at-loop-test = at-node-at .before .before in
+    let at-loop = at-loop-test .before in
+    let start = at-loop .before .before .before in (
+      omega arith,
+      omega (arith, at-loop .loop .inv .1, at-put-record .put-record .ensures .1),
+      lines-more (start .args .list .now) (start .args .n)
+          (at-loop .loop .i) (at-loop .loop .inv .2) (at-loop-test .loop-test .taken) (at-node-at .node-at .ensures)
+          (at-put-record .put-record .ensures .0),
+    )
 
 same-length : tie.Need-same-length Inv-loop μ-loop
 same-length c = wrote-length (c .before .loop .inv .2)

@@ -17,7 +17,12 @@ same-length : tie.Need-same-length
 same-length c = search needs
 
 returns : tie.Need-returns
-returns c = wrote-laid (wrote-as (answer-is _ _ _ _) (and-then (c .before .before .before .before .before .before .before .before .before .before .put-first .ensures .0) (c .before .before .before .before .before .before .put-records .ensures))) (c .before .before .blank-text .ensures)
+returns c =
+    let at-blank-text = c .before .before in
+    let at-put-records = at-blank-text .before .before .before .before in
+    let at-put-first = at-put-records .before .before .before .before in
+    wrote-laid (wrote-as (answer-is _ _ _ _) (and-then (at-put-first .put-first .ensures .0) (at-put-records .put-records .ensures)))
+    (at-blank-text .blank-text .ensures)
 
 pub write-listing-spec : {M : Type 1} → statement M
 write-listing-spec =

@@ -21,7 +21,19 @@ place-of-requires c κs = search needs
 
 put-number-requires : tie.Need-put-number-requires
 unfolding ascii
-put-number-requires c κs = omega (arith, c .before .before .before .before .before .before .before .before .before .pre, named-short (ascii "refused") (c .before .before .before .before .before .number-of .result) 32 (c .before .before .before .before .before .number-of .ok), word-short (c .place-of .result) 10 (c .place-of .ok), c .before .before .before .before .put-named .ensures .end-is, c .before .before .before .before .put-named .kept .0)
+put-number-requires c κs =
+    let at-put-named = c .before .before .before .before in
+    let at-number-of = at-put-named .before in
+    let start = at-number-of .before .before .before .before in
+    omega (
+      arith,
+      start .pre,
+      named-short (ascii "refused") (at-number-of .number-of .result) 32 (at-number-of .number-of .ok),
+      word-short
+          (c .place-of .result) 10 (c .place-of .ok),
+      at-put-named .put-named .ensures .end-is,
+      at-put-named .put-named .kept .0,
+    )
 
 blank-text-requires : tie.Need-blank-text-requires
 blank-text-requires c κs = search needs
@@ -31,7 +43,15 @@ same-length c = search needs
 
 returns : tie.Need-returns
 unfolding ascii
-returns c = wrote-laid (wrote-as (refused-is _) (and-then (wrote-named (ascii "refused") 32 (c .before .before .before .before .before .before .before .before .before .before .before .before .number-of .ensures) (c .before .before .before .before .before .before .before .before .before .before .before .put-named .ensures)) (wrote-number 10 (c .before .before .before .before .before .before .before .place-of .ensures) (c .before .before .before .before .before .before .put-number .ensures)))) (c .before .before .blank-text .ensures)
+returns c =
+    let at-blank-text = c .before .before in
+    let at-put-number = at-blank-text .before .before .before .before in
+    let at-place-of = at-put-number .before in
+    let at-put-named = at-place-of .before .before .before .before in
+    let at-number-of = at-put-named .before in
+    wrote-laid (wrote-as (refused-is _) (and-then (wrote-named (ascii "refused") 32 (at-number-of .number-of .ensures)
+    (at-put-named .put-named .ensures)) (wrote-number 10 (at-place-of .place-of .ensures) (at-put-number .put-number .ensures))))
+    (at-blank-text .blank-text .ensures)
 
 pub write-refused-spec : {M : Type 1} → statement M
 write-refused-spec =

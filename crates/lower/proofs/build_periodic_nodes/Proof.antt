@@ -29,28 +29,56 @@ gains-requires : tie.Need-gains-requires Inv-loop μ-loop
 gains-requires c κs = c .before .before .before .before .pre .1 .tested
 
 slice-aggregate-savings-each : tie.Need-slice-aggregate-savings-each Inv-loop μ-loop
-slice-aggregate-savings-each c = sym (ap length (c .before .gains .ensures) ∙ length-gains p _ _ (c .before .before .before .before .before .before .pre .1 .tested .handed))
+slice-aggregate-savings-each c =
+    let at-gains = c .before in
+    let start = at-gains .before .before .before .before .before in
+    sym (ap length (at-gains .gains .ensures) ∙ length-gains p _ _ (start .pre .1 .tested .handed))
 
 savings-each-requires : tie.Need-savings-each-requires Inv-loop μ-loop
-savings-each-requires c κs = (c .before .before .before .before .before .before .pre .1 .tested .handed, c .before .gains .ensures)
+savings-each-requires c κs =
+    let at-gains = c .before in
+    let start = at-gains .before .before .before .before .before in
+    (start .pre .1 .tested .handed, at-gains .gains .ensures)
 
 loop-holds : tie.Need-loop-holds Inv-loop μ-loop
-loop-holds c = (omega arith, refl, list-none _ _ _ _ _ _ refl (none-inside _), c .before .before .before .before .before .before .before .pre .0)
+loop-holds c =
+    let start = c .before .before .before .before .before .before .before in
+    (omega arith, refl, list-none _ _ _ _ _ _ refl (none-inside _), start .pre .0)
 
 slice-aggregate-column-node : tie.Need-slice-aggregate-column-node Inv-loop μ-loop
-slice-aggregate-column-node c = sym (ap length (c .before .before .before .before .before .before .gains .ensures) ∙ length-gains p _ _ (c .before .before .before .before .before .before .before .before .before .before .before .pre .1 .tested .handed))
+slice-aggregate-column-node c =
+    let at-gains = c .before .before .before .before .before .before in
+    let start = at-gains .before .before .before .before .before in
+    sym (ap length (at-gains .gains .ensures) ∙ length-gains p _ _ (start .pre .1 .tested .handed))
 
 slice-aggregate-column-node-2 : tie.Need-slice-aggregate-column-node-2 Inv-loop μ-loop
-slice-aggregate-column-node-2 c = sym (ap length (c .before .before .before .before .before .savings-each .ensures) ∙ length-each p _ _ (c .before .before .before .before .before .before .before .before .before .before .before .before .pre .1 .tested .handed))
+slice-aggregate-column-node-2 c =
+    let at-savings-each = c .before .before .before .before .before in
+    let start = at-savings-each .before .before .before .before .before .before .before in
+    sym (ap length (at-savings-each .savings-each .ensures) ∙ length-each p _ _ (start .pre .1 .tested .handed))
 
 column-node-requires : tie.Need-column-node-requires Inv-loop μ-loop
-column-node-requires c κs = (c .before .before .before .before .loop .inv .3, record { tested = c .before .before .before .before .before .before .before .before .before .before .before .before .pre .1 .tested; gained = c .before .before .before .before .before .before .before .gains .ensures; saved = c .before .before .before .before .before .savings-each .ensures }, c .before .before .before .before .before .before .before .before .before .before .before .before .pre .1, c .before .before .before .loop-test .taken)
+column-node-requires c κs =
+    let at-loop-test = c .before .before .before in
+    let at-loop = at-loop-test .before in
+    let at-savings-each = at-loop .before in
+    let at-gains = at-savings-each .before .before in
+    let start = at-gains .before .before .before .before .before in (
+      at-loop .loop .inv .3,
+      record { tested = start .pre .1 .tested; gained = at-gains .gains .ensures; saved = at-savings-each .savings-each .ensures },
+      start .pre .1,
+      at-loop-test .loop-test .taken,
+    )
 
 mul-places : tie.Need-mul-places Inv-loop μ-loop
-mul-places c = omega (arith, c .before .before .before .before .before .before .before .before .before .before .before .before .before .before .before .pre .2)
+mul-places c =
+    let start = c .before .before .before .before .before .before .before .before .before .before .before .before .before .before .before in
+    omega (arith, start .pre .2)
 
 slice-write-places : tie.Need-slice-write-places Inv-loop μ-loop
-slice-write-places c = omega (arith, c .before .before .before .before .before .before .before .before .before .before .before .before .before .before .before .pre .2)
+slice-write-places c =
+    let start = c .before .before .before .before .before .before .before .before .before .before .before .before .before .before .before in
+    omega (arith, start .pre .2)
 
 add-j : tie.Need-add-j Inv-loop μ-loop
 add-j c = omega arith
@@ -60,8 +88,16 @@ loop-less c = omega arith
 
 loop-again : tie.Need-loop-again Inv-loop μ-loop
 loop-again c =
-    let h : c .before .before .before .before .before .before .before .loop .j < length (c .before .before .before .before .before .before .before .loop .places) = omega (arith, c .before .before .before .before .before .before .before .before .before .before .before .before .before .before .before .pre .2) in
-    (omega arith, set-length (c .before .before .before .before .before .before .before .loop .places) _ _ _ (c .before .before .before .before .before .before .before .loop .inv .1), list-next _ _ _ _ _ _ _ _ _ _ _ h (c .before .before .before .before .before .before .before .loop .inv .2) (c .before .before .column-node .ensures), entered-ready _ _ _ _ _ (c .before .before .before .before .before .before .before .loop .inv .3) (c .before .before .column-node .ensures))
+    let at-column-node = c .before .before in
+    let at-loop = at-column-node .before .before .before .before .before in
+    let start = at-loop .before .before .before .before .before .before .before .before in
+    let h : at-loop .loop .j < length (at-loop .loop .places) = omega (arith, start .pre .2) in (
+      omega arith,
+      set-length (at-loop .loop .places) _ _ _ (at-loop .loop .inv .1),
+      list-next _ _ _ _ _ _ _ _ _ _ _ h (at-loop .loop .inv .2)
+          (at-column-node .column-node .ensures),
+      entered-ready _ _ _ _ _ (at-loop .loop .inv .3) (at-column-node .column-node .ensures),
+    )
 
 same-length : tie.Need-same-length Inv-loop μ-loop
 same-length c = c .before .loop .inv .2 .ran .kept
@@ -72,8 +108,10 @@ same-length-2 c = c .before .loop .inv .1
 returns : tie.Need-returns Inv-loop μ-loop
 unfolding Periodic.buildPeriodicNodes
 returns c =
-    let n = length-columns (c .before .before .before .before .before .before .before .before .before .args .lengths .now) (c .before .before .before .before .before .before .before .before .before .args .entries .now) in
-    rw n (list-all _ _ _ _ _ _ _ _ _ _ _ (c .before .loop .inv .0) (c .loop-test .left) (omega arith) (c .before .loop .inv .2))
+    let at-loop = c .before in
+    let start = at-loop .before .before .before .before .before .before .before .before in
+    let n = length-columns (start .args .lengths .now) (start .args .entries .now) in
+    rw n (list-all _ _ _ _ _ _ _ _ _ _ _ (at-loop .loop .inv .0) (c .loop-test .left) (omega arith) (at-loop .loop .inv .2))
 
 pub build-periodic-nodes-spec : {M : Type 1} → statement M
 build-periodic-nodes-spec =

@@ -8,7 +8,10 @@ enum-told : tie.Need-enum-told
 enum-told c = search needs
 
 sparse-value-requires : tie.Need-sparse-value-requires
-sparse-value-requires c κs = (c .before .before .before .before .before .pre .0, c .before .before .before .before .before .pre .1, c .before .before .before .before .before .pre .2 .few (c .before .enum-told .given .1))
+sparse-value-requires c κs =
+    let at-enum-told = c .before in
+    let start = at-enum-told .before .before .before .before in
+    (start .pre .0, start .pre .1, start .pre .2 .few (at-enum-told .enum-told .given .1))
 
 enum-told-2 : tie.Need-enum-told-2
 enum-told-2 c = search needs

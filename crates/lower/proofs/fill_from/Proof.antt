@@ -14,7 +14,12 @@ same-length : tie.Need-same-length
 same-length c = search needs
 
 returns : tie.Need-returns
-returns c = filled-told (c .before .before .before .before .before .before .before .before .before .before .args .from .now) _ _ (c .before .before .before .before .before .before .before .before .before .before .args .m) _ (c .before .before .before .before .before .before .before .before .before .before .pre .0) (copied-front _ _ _ (c .before .before .before .before .before .before .before .before .before .before .pre .0) (c .before .before .before .before .before .before .copy-words .ensures)) (c .before .before .before .before .before .before .copy-words .kept .1 .1 .0) (c .before .before .blank-from .ensures)
+returns c =
+    let at-blank-from = c .before .before in
+    let at-copy-words = at-blank-from .before .before .before .before in
+    let start = at-copy-words .before .before .before .before in
+    filled-told (start .args .from .now) _ _ (start .args .m) _ (start .pre .0) (copied-front _ _ _ (start .pre .0) (at-copy-words .copy-words .ensures))
+    (at-copy-words .copy-words .kept .1 .1 .0) (at-blank-from .blank-from .ensures)
 
 pub fill-from-spec : {M : Type 1} → statement M
 fill-from-spec = tie.close (tie.spec copy-words-requires blank-from-requires same-length returns)

@@ -28,7 +28,12 @@ same-length-2 : tie.Need-same-length-2
 same-length-2 c = search needs
 
 returns-3 : tie.Need-returns-3
-returns-3 c = handed-done _ _ _ _ _ _ _ (c .before .before .before .before .before .before .before .before .before .if1 .left) (c .before .before .before .before .before .before .before .before .if2 .left) (c .before .before .before .before .before .before .fill-from .ensures) (c .before .before .fill-from2 .ensures)
+returns-3 c =
+    let at-fill-from2 = c .before .before in
+    let at-fill-from = at-fill-from2 .before .before .before .before in
+    let at-if2 = at-fill-from .before .before in
+    let at-if1 = at-if2 .before in
+    handed-done _ _ _ _ _ _ _ (at-if1 .if1 .left) (at-if2 .if2 .left) (at-fill-from .fill-from .ensures) (at-fill-from2 .fill-from2 .ensures)
 
 pub hand-over-spec : {M : Type 1} → statement M
 hand-over-spec =

@@ -32,7 +32,11 @@ same-length-3 c = search needs
 
 returns-2 : tie.Need-returns-2
 returns-2 c =
-    let d = lower-done _ _ _ _ _ _ _ _ _ _ _ _ (sym (c .before .before .before .before .before .before .before .before .before .before .before .before .lower-check .ensures) ∙ c .before .before .before .before .before .before .before .before .before .before .enum-told .given .1) (c .before .before .before .before .before .before .lower-ready .ensures .0) (c .before .before .before .before .before .before .lower-ready .ensures .1) in
+    let at-lower-ready = c .before .before .before .before .before .before in
+    let at-enum-told = at-lower-ready .before .before .before .before in
+    let at-lower-check = at-enum-told .before .before in
+    let d = lower-done _ _ _ _ _ _ _ _ _ _ _ _ (sym (at-lower-check .lower-check .ensures) ∙ at-enum-told .enum-told .given .1)
+    (at-lower-ready .lower-ready .ensures .0) (at-lower-ready .lower-ready .ensures .1) in
     (d .answer, (d .result-is, (d .work-is, d .places-are)))
 
 pub lower-spec : {M : Type 1} → statement M

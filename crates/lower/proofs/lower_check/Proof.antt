@@ -22,25 +22,75 @@ is-refused-requires-2 : tie.Need-is-refused-requires-2
 is-refused-requires-2 c κs = search needs
 
 returns-2 : tie.Need-returns-2
-returns-2 c = check-columns _ _ _ _ _ _ _ (good-told (c .before .before .before .before .before .rootless-check .ensures) (c .before .before .before .before .is-refused .ensures) (c .before .before .before .if1 .left)) _ (c .before .before .prepare-check .ensures) (bad-told (c .before .before .prepare-check .ensures) (c .before .is-refused2 .ensures) (c .if2 .taken))
+returns-2 c =
+    let at-is-refused2 = c .before in
+    let at-prepare-check = at-is-refused2 .before in
+    let at-if1 = at-prepare-check .before in
+    let at-is-refused = at-if1 .before in
+    let at-rootless-check = at-is-refused .before in
+    check-columns _ _ _ _ _ _ _ (good-told (at-rootless-check .rootless-check .ensures) (at-is-refused .is-refused .ensures) (at-if1 .if1 .left)) _
+    (at-prepare-check .prepare-check .ensures) (bad-told (at-prepare-check .prepare-check .ensures) (at-is-refused2 .is-refused2 .ensures)
+    (c .if2 .taken))
 
 mul-if3 : tie.Need-mul-if3
 mul-if3 c = search needs
 
 returns-3 : tie.Need-returns-3
-returns-3 c = check-work _ _ _ _ _ _ _ (good-told (c .before .before .before .before .before .before .rootless-check .ensures) (c .before .before .before .before .before .is-refused .ensures) (c .before .before .before .before .if1 .left)) (good-told (c .before .before .before .prepare-check .ensures) (c .before .before .is-refused2 .ensures) (c .before .if2 .left)) (c .if3 .taken)
+returns-3 c =
+    let at-if2 = c .before in
+    let at-is-refused2 = at-if2 .before in
+    let at-prepare-check = at-is-refused2 .before in
+    let at-if1 = at-prepare-check .before in
+    let at-is-refused = at-if1 .before in
+    let at-rootless-check = at-is-refused .before in
+    check-work _ _ _ _ _ _ _ (good-told (at-rootless-check .rootless-check .ensures) (at-is-refused .is-refused .ensures) (at-if1 .if1 .left))
+    (good-told (at-prepare-check .prepare-check .ensures) (at-is-refused2 .is-refused2 .ensures) (at-if2 .if2 .left)) (c .if3 .taken)
 
 returns-4 : tie.Need-returns-4
-returns-4 c = check-places _ _ _ _ _ _ _ (good-told (c .before .before .before .before .before .before .before .rootless-check .ensures) (c .before .before .before .before .before .before .is-refused .ensures) (c .before .before .before .before .before .if1 .left)) (good-told (c .before .before .before .before .prepare-check .ensures) (c .before .before .before .is-refused2 .ensures) (c .before .before .if2 .left)) (c .before .if3 .left) (c .if4 .taken)
+returns-4 c =
+    let at-if3 = c .before in
+    let at-if2 = at-if3 .before in
+    let at-is-refused2 = at-if2 .before in
+    let at-prepare-check = at-is-refused2 .before in
+    let at-if1 = at-prepare-check .before in
+    let at-is-refused = at-if1 .before in
+    let at-rootless-check = at-is-refused .before in
+    check-places _ _ _ _ _ _ _ (good-told (at-rootless-check .rootless-check .ensures) (at-is-refused .is-refused .ensures) (at-if1 .if1 .left))
+    (good-told (at-prepare-check .prepare-check .ensures) (at-is-refused2 .is-refused2 .ensures) (at-if2 .if2 .left)) (at-if3 .if3 .left)
+    (c .if4 .taken)
 
 period-good-requires : tie.Need-period-good-requires
 period-good-requires c κs = search needs
 
 returns-5 : tie.Need-returns-5
-returns-5 c = check-period _ _ _ _ _ _ _ (good-told (c .before .before .before .before .before .before .before .before .before .rootless-check .ensures) (c .before .before .before .before .before .before .before .before .is-refused .ensures) (c .before .before .before .before .before .before .before .if1 .left)) (good-told (c .before .before .before .before .before .before .prepare-check .ensures) (c .before .before .before .before .before .is-refused2 .ensures) (c .before .before .before .before .if2 .left)) _ (c .before .before .before .if3 .left) (c .before .before .if4 .left) (sym (not-true _ (c .if5 .taken)) ∙ c .before .period-good .ensures)
+returns-5 c =
+    let at-period-good = c .before in
+    let at-if4 = at-period-good .before in
+    let at-if3 = at-if4 .before in
+    let at-if2 = at-if3 .before in
+    let at-is-refused2 = at-if2 .before in
+    let at-prepare-check = at-is-refused2 .before in
+    let at-if1 = at-prepare-check .before in
+    let at-is-refused = at-if1 .before in
+    let at-rootless-check = at-is-refused .before in
+    check-period _ _ _ _ _ _ _ (good-told (at-rootless-check .rootless-check .ensures) (at-is-refused .is-refused .ensures) (at-if1 .if1 .left))
+    (good-told (at-prepare-check .prepare-check .ensures) (at-is-refused2 .is-refused2 .ensures) (at-if2 .if2 .left)) _ (at-if3 .if3 .left)
+    (at-if4 .if4 .left) (sym (not-true _ (c .if5 .taken)) ∙ at-period-good .period-good .ensures)
 
 returns-6 : tie.Need-returns-6
-returns-6 c = check-period _ _ _ _ _ _ _ (good-told (c .before .before .before .before .before .before .before .before .before .rootless-check .ensures) (c .before .before .before .before .before .before .before .before .is-refused .ensures) (c .before .before .before .before .before .before .before .if1 .left)) (good-told (c .before .before .before .before .before .before .prepare-check .ensures) (c .before .before .before .before .before .is-refused2 .ensures) (c .before .before .before .before .if2 .left)) _ (c .before .before .before .if3 .left) (c .before .before .if4 .left) (sym (not-false _ (c .if5 .left)) ∙ c .before .period-good .ensures)
+returns-6 c =
+    let at-period-good = c .before in
+    let at-if4 = at-period-good .before in
+    let at-if3 = at-if4 .before in
+    let at-if2 = at-if3 .before in
+    let at-is-refused2 = at-if2 .before in
+    let at-prepare-check = at-is-refused2 .before in
+    let at-if1 = at-prepare-check .before in
+    let at-is-refused = at-if1 .before in
+    let at-rootless-check = at-is-refused .before in
+    check-period _ _ _ _ _ _ _ (good-told (at-rootless-check .rootless-check .ensures) (at-is-refused .is-refused .ensures) (at-if1 .if1 .left))
+    (good-told (at-prepare-check .prepare-check .ensures) (at-is-refused2 .is-refused2 .ensures) (at-if2 .if2 .left)) _ (at-if3 .if3 .left)
+    (at-if4 .if4 .left) (sym (not-false _ (c .if5 .left)) ∙ at-period-good .period-good .ensures)
 
 pub lower-check-spec : {M : Type 1} → statement M
 lower-check-spec =

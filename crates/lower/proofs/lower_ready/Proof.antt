@@ -23,7 +23,11 @@ same-length-3 : tie.Need-same-length-3
 same-length-3 c = search needs
 
 returns : tie.Need-returns
-returns c = (c .before .before .before .before .before .lower-with .ensures, blank-whole (c .before .before .before .before .before .before .before .before .before .before .before .before .before .before .before .before .before .before .before .args .work .now) _ _ refl (c .before .before .before .before .before .before .before .before .before .before .before .blank-from .ensures))
+returns c =
+    let at-lower-with = c .before .before .before .before .before in
+    let at-blank-from = at-lower-with .before .before .before .before .before .before in
+    let start = at-blank-from .before .before .before .before .before .before .before .before in
+    (at-lower-with .lower-with .ensures, blank-whole (start .args .work .now) _ _ refl (at-blank-from .blank-from .ensures))
 
 pub lower-ready-spec : {M : Type 1} → statement M
 lower-ready-spec =

@@ -18,23 +18,35 @@ slice-aggregate-build-periodic-nodes : tie.Need-slice-aggregate-build-periodic-n
 slice-aggregate-build-periodic-nodes c = search needs
 
 build-periodic-nodes-requires : tie.Need-build-periodic-nodes-requires
-build-periodic-nodes-requires c κs = (
-  stored-ready _ _ (c .before .before .before .before .before .before .before .before .before .before .before .before .before .pre .0 .list .most) (c .before .before .before .before .before .before .before .before .before .before .before .before .before .pre .0 .list .sound) _ (c .before .before .before .before .before .store-list .ensures),
-  subst (Said.Covered (c .before .before .before .before .before .before .before .before .before .before .before .before .before .args .lengths .now) (c .before .before .before .before .before .before .before .before .before .before .before .before .before .args .entries .now)) (sym (c .before .before .power-within .ensures .0)) (c .before .before .before .before .before .before .before .before .before .before .before .before .before .pre .0 .covered),
-  c .before .before .before .before .before .before .before .before .before .before .before .before .before .pre .0 .tested .handed .few,
-)
+build-periodic-nodes-requires c κs =
+    let at-power-within = c .before .before in
+    let at-store-list = at-power-within .before .before .before in
+    let start = at-store-list .before .before .before .before .before .before .before .before in (
+      stored-ready _ _ (start .pre .0 .list .most) (start .pre .0 .list .sound) _ (at-store-list .store-list .ensures),
+      subst
+          (Said.Covered (start .args .lengths .now) (start .args .entries .now)) (sym (at-power-within .power-within .ensures .0))
+          (start .pre .0 .covered),
+      start .pre .0 .tested .handed .few,
+    )
 
 array-share-prefix-nodes : tie.Need-array-share-prefix-nodes
 array-share-prefix-nodes c = search needs
 
 slice-aggregate-hand-over : tie.Need-slice-aggregate-hand-over
-slice-aggregate-hand-over c = sym (length-take-le _ _ (omega (arith, c .before .before .before .before .before .before .before .before .before .before .before .before .before .before .before .before .before .before .before .pre .0 .tested .handed .few)))
+slice-aggregate-hand-over c =
+    let start = c .before .before .before .before .before .before .before .before .before .before .before .before .before .before .before .before .before .before .before in
+    sym (length-take-le _ _ (omega (arith, start .pre .0 .tested .handed .few)))
 
 hand-over-requires : tie.Need-hand-over-requires
-hand-over-requires c κs = (
-  omega (arith, c .before .before .before .before .before .before .before .build-periodic-nodes .kept .0, c .before .before .before .before .before .before .before .before .before .before .before .before .before .store-list .ensures .long),
-  le-trans (le-of-eq (length-take-le _ (c .before .before .before .before .before .before .before .build-periodic-nodes .last .1 .1 .1 .1 .1 .0) (omega (arith, c .before .before .before .before .before .before .before .before .before .before .before .before .before .before .before .before .before .before .before .before .before .pre .0 .tested .handed .few)))) (c .before .before .before .before .before .before .before .before .before .before .before .before .before .before .before .before .before .before .before .before .before .pre .0 .place-room),
-)
+hand-over-requires c κs =
+    let at-build-periodic-nodes = c .before .before .before .before .before .before .before in
+    let at-store-list = at-build-periodic-nodes .before .before .before .before .before .before in
+    let start = at-store-list .before .before .before .before .before .before .before .before in (
+      omega (arith, at-build-periodic-nodes .build-periodic-nodes .kept .0, at-store-list .store-list .ensures .long),
+      le-trans
+          (le-of-eq (length-take-le _ (at-build-periodic-nodes .build-periodic-nodes .last .1 .1 .1 .1 .1 .0)
+          (omega (arith, start .pre .0 .tested .handed .few)))) (start .pre .0 .place-room),
+    )
 
 same-length : tie.Need-same-length
 same-length c = search needs
@@ -46,7 +58,14 @@ same-length-3 : tie.Need-same-length-3
 same-length-3 c = search needs
 
 returns : tie.Need-returns
-returns c = finished _ _ _ _ _ _ _ _ _ _ _ _ _ _ _ (c .before .before .before .before .before .before .before .before .before .before .before .before .before .before .before .before .before .before .before .before .before .before .before .before .before .before .pre .0) (c .before .before .before .before .before .before .before .before .before .before .before .before .before .before .before .before .before .before .store-list .ensures) (c .before .before .before .before .before .before .before .before .before .before .before .before .before .before .before .power-within .ensures .0) (c .before .before .before .before .before .before .before .before .before .before .before .before .build-periodic-nodes .ensures) (c .before .before .before .before .hand-over .ensures)
+returns c =
+    let at-hand-over = c .before .before .before .before in
+    let at-build-periodic-nodes = at-hand-over .before .before .before .before .before .before .before .before in
+    let at-power-within = at-build-periodic-nodes .before .before .before in
+    let at-store-list = at-power-within .before .before .before in
+    let start = at-store-list .before .before .before .before .before .before .before .before in
+    finished _ _ _ _ _ _ _ _ _ _ _ _ _ _ _ (start .pre .0) (at-store-list .store-list .ensures) (at-power-within .power-within .ensures .0)
+    (at-build-periodic-nodes .build-periodic-nodes .ensures) (at-hand-over .hand-over .ensures)
 
 pub lower-with-spec : {M : Type 1} → statement M
 lower-with-spec =

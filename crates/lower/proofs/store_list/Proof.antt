@@ -27,7 +27,12 @@ same-length : tie.Need-same-length
 same-length c = search needs
 
 returns : tie.Need-returns
-returns c = stored _ _ (c .before .before .before .before .before .before .before .before .before .before .pre .1) _ _ (copied-front _ _ _ (c .before .before .before .before .before .before .before .before .before .before .pre .0 .room) (c .before .before .before .before .before .before .copy-words .ensures)) ((c .before .before .before .before .before .before .copy-words .kept .1 .1 .0) ∙ (c .before .before .before .before .before .before .before .before .before .before .pre .2)) (c .before .before .index-list .ensures) (c .before .before .index-list .kept .1 .1 .0)
+returns c =
+    let at-index-list = c .before .before in
+    let at-copy-words = at-index-list .before .before .before .before in
+    let start = at-copy-words .before .before .before .before in
+    stored _ _ (start .pre .1) _ _ (copied-front _ _ _ (start .pre .0 .room) (at-copy-words .copy-words .ensures))
+    ((at-copy-words .copy-words .kept .1 .1 .0) ∙ (start .pre .2)) (at-index-list .index-list .ensures) (at-index-list .index-list .kept .1 .1 .0)
 
 pub store-list-spec : {M : Type 1} → statement M
 store-list-spec =

@@ -16,7 +16,13 @@ factor-plan-requires : tie.Need-factor-plan-requires
 factor-plan-requires c κs = search needs
 
 returns : tie.Need-returns
-returns c = add-factored (nodes (c .before .before .before .before .before .before .before .args .list .now) (c .before .before .before .before .before .before .before .args .n)) (read (c .before .before .before .before .before .before .before .args .fan .now)) (c .before .before .before .before .before .before .before .args .i) _ _ _ (c .before .before .before .common-factor .ensures) (told (c .before .before .is-shared .ensures) (c .before .if1 .taken)) _ (c .factor-plan .ensures)
+returns c =
+    let at-if1 = c .before in
+    let at-is-shared = at-if1 .before in
+    let at-common-factor = at-is-shared .before in
+    let start = at-common-factor .before .before .before .before in
+    add-factored (nodes (start .args .list .now) (start .args .n)) (read (start .args .fan .now)) (start .args .i) _ _ _
+    (at-common-factor .common-factor .ensures) (told (at-is-shared .is-shared .ensures) (at-if1 .if1 .taken)) _ (c .factor-plan .ensures)
 
 either-rotation-requires : tie.Need-either-rotation-requires
 either-rotation-requires c κs = search needs
@@ -25,7 +31,15 @@ rotation-plan-requires : tie.Need-rotation-plan-requires
 rotation-plan-requires c κs = search needs
 
 returns-2 : tie.Need-returns-2
-returns-2 c = add-rotated (nodes (c .before .before .before .before .before .before .before .before .args .list .now) (c .before .before .before .before .before .before .before .before .args .n)) (read (c .before .before .before .before .before .before .before .before .args .fan .now)) (c .before .before .before .before .before .before .before .before .args .i) _ _ _ (c .before .before .before .before .common-factor .ensures) (told (c .before .before .before .is-shared .ensures) (c .before .before .if1 .left)) _ (c .before .either-rotation .ensures) _ (c .rotation-plan .ensures)
+returns-2 c =
+    let at-either-rotation = c .before in
+    let at-if1 = at-either-rotation .before in
+    let at-is-shared = at-if1 .before in
+    let at-common-factor = at-is-shared .before in
+    let start = at-common-factor .before .before .before .before in
+    add-rotated (nodes (start .args .list .now) (start .args .n)) (read (start .args .fan .now)) (start .args .i) _ _ _
+    (at-common-factor .common-factor .ensures) (told (at-is-shared .is-shared .ensures) (at-if1 .if1 .left)) _
+    (at-either-rotation .either-rotation .ensures) _ (c .rotation-plan .ensures)
 
 pub add-plan-spec : {M : Type 1} → statement M
 add-plan-spec =

@@ -27,7 +27,13 @@ single-muls-requires : tie.Need-single-muls-requires
 single-muls-requires c κs = search needs
 
 returns : tie.Need-returns
-returns c = no-factor (c .before .before .before .before .before .before .before .before .args .list .now) (c .before .before .before .before .before .before .before .before .args .n) (c .before .before .before .before .before .before .before .before .args .a) (c .before .before .before .before .before .before .before .before .args .b) (c .before .before .before .before .before .before .before .before .pre .0) (c .before .before .before .before .before .before .before .before .args .fan .now) _ (c .before .before .before .before .before .node-at .ensures) _ (c .before .before .before .before .node-at2 .ensures) (told (c .before .single-muls .ensures) (not-true _ (c .if1 .taken)))
+returns c =
+    let at-single-muls = c .before in
+    let at-node-at2 = at-single-muls .before .before .before in
+    let at-node-at = at-node-at2 .before in
+    let start = at-node-at .before .before .before in
+    no-factor (start .args .list .now) (start .args .n) (start .args .a) (start .args .b) (start .pre .0) (start .args .fan .now) _
+    (at-node-at .node-at .ensures) _ (at-node-at2 .node-at2 .ensures) (told (at-single-muls .single-muls .ensures) (not-true _ (c .if1 .taken)))
 
 first-of-requires : tie.Need-first-of-requires
 first-of-requires c κs = search needs
@@ -45,7 +51,20 @@ shared-factor-requires : tie.Need-shared-factor-requires
 shared-factor-requires c κs = search needs
 
 returns-2 : tie.Need-returns-2
-returns-2 c = factor-read (c .before .before .before .before .before .before .before .before .before .before .before .before .before .args .list .now) (c .before .before .before .before .before .before .before .before .before .before .before .before .before .args .n) (c .before .before .before .before .before .before .before .before .before .before .before .before .before .args .a) (c .before .before .before .before .before .before .before .before .before .before .before .before .before .args .b) (c .before .before .before .before .before .before .before .before .before .before .before .before .before .pre .0) (c .before .before .before .before .before .before .before .before .before .before .before .before .before .args .fan .now) _ (c .before .before .before .before .before .before .before .before .before .before .node-at .ensures) _ (c .before .before .before .before .before .before .before .before .before .node-at2 .ensures) (told (c .before .before .before .before .before .before .single-muls .ensures) (not-false _ (c .before .before .before .before .before .if1 .left))) _ _ _ _ (c .before .before .before .before .first-of .ensures) (c .before .before .before .second-of .ensures) (c .before .before .first-of2 .ensures) (c .before .second-of2 .ensures) _ (c .shared-factor .ensures)
+returns-2 c =
+    let at-second-of2 = c .before in
+    let at-first-of2 = at-second-of2 .before in
+    let at-second-of = at-first-of2 .before in
+    let at-first-of = at-second-of .before in
+    let at-if1 = at-first-of .before in
+    let at-single-muls = at-if1 .before in
+    let at-node-at2 = at-single-muls .before .before .before in
+    let at-node-at = at-node-at2 .before in
+    let start = at-node-at .before .before .before in
+    factor-read (start .args .list .now) (start .args .n) (start .args .a) (start .args .b) (start .pre .0) (start .args .fan .now) _
+    (at-node-at .node-at .ensures) _ (at-node-at2 .node-at2 .ensures)
+    (told (at-single-muls .single-muls .ensures) (not-false _ (at-if1 .if1 .left))) _ _ _ _ (at-first-of .first-of .ensures)
+    (at-second-of .second-of .ensures) (at-first-of2 .first-of2 .ensures) (at-second-of2 .second-of2 .ensures) _ (c .shared-factor .ensures)
 
 pub common-factor-spec : {M : Type 1} → statement M
 common-factor-spec =

@@ -15,14 +15,23 @@ is-onto-requires c κs = search needs
 
 returns : tie.Need-returns
 unfolding Rounds.eitherRotation
-returns c = (c .before .before .existing-rotation .ensures) ∙ first-found _ _ (ap Asked.isOnto (sym (c .before .before .existing-rotation .ensures)) ∙ (told (c .before .is-onto .ensures) (c .if1 .taken)))
+returns c =
+    let at-is-onto = c .before in
+    let at-existing-rotation = at-is-onto .before in
+    (at-existing-rotation .existing-rotation .ensures) ∙ first-found _ _
+    (ap Asked.isOnto (sym (at-existing-rotation .existing-rotation .ensures)) ∙ (told (at-is-onto .is-onto .ensures) (c .if1 .taken)))
 
 existing-rotation-requires-2 : tie.Need-existing-rotation-requires-2
 existing-rotation-requires-2 c κs = search needs
 
 returns-2 : tie.Need-returns-2
 unfolding Rounds.eitherRotation
-returns-2 c = (c .existing-rotation2 .ensures) ∙ then-other _ _ (ap Asked.isOnto (sym (c .before .before .before .existing-rotation .ensures)) ∙ (told (c .before .before .is-onto .ensures) (c .before .if1 .left)))
+returns-2 c =
+    let at-if1 = c .before in
+    let at-is-onto = at-if1 .before in
+    let at-existing-rotation = at-is-onto .before in
+    (c .existing-rotation2 .ensures) ∙ then-other _ _ (ap Asked.isOnto (sym (at-existing-rotation .existing-rotation .ensures)) ∙
+    (told (at-is-onto .is-onto .ensures) (at-if1 .if1 .left)))
 
 pub either-rotation-spec : {M : Type 1} → statement M
 either-rotation-spec =

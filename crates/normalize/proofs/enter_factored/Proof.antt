@@ -15,13 +15,31 @@ like-requires : tie.Need-like-requires
 like-requires c κs = search needs
 
 push-requires : tie.Need-push-requires
-push-requires c κs = (Enter.inner-request (c .before .before .before .before .before .before .before .before .args .work .now) (c .before .before .before .before .before .before .before .before .args .count) (c .before .before .before .before .before .before .before .before .args .map .now) (c .before .before .before .before .before .before .before .before .pre .0 .0) (c .before .before .before .before .before .before .before .before .args .x) (Factored (c .before .before .before .before .before .before .before .before .args .factor) (c .before .before .before .before .before .before .before .before .args .a) (c .before .before .before .before .before .before .before .before .args .b)) (c .before .before .before .before .before .before .before .before .pre .0 .1) _ _ _ refl _ _ (c .before .before .mapped .ensures) (c .before .mapped2 .ensures) _ (c .like .ensures), Enter.push-room (c .before .before .before .before .before .before .before .before .args .work .now) (c .before .before .before .before .before .before .before .before .args .count) (c .before .before .before .before .before .before .before .before .args .map .now) (c .before .before .before .before .before .before .before .before .pre .0 .0) (c .before .before .before .before .before .before .before .before .args .x) (Factored (c .before .before .before .before .before .before .before .before .args .factor) (c .before .before .before .before .before .before .before .before .args .a) (c .before .before .before .before .before .before .before .before .args .b)) (c .before .before .before .before .before .before .before .before .pre .0 .1) _ (c .before .before .before .before .before .before .before .before .pre .1))
+push-requires c κs =
+    let at-mapped2 = c .before in
+    let at-mapped = at-mapped2 .before in
+    let start = at-mapped .before .before .before .before .before .before in (
+      Enter.inner-request (start .args .work .now) (start .args .count) (start .args .map .now) (start .pre .0 .0) (start .args .x)
+          (Factored (start .args .factor) (start .args .a) (start .args .b)) (start .pre .0 .1) _ _ _ refl _ _ (at-mapped .mapped .ensures)
+          (at-mapped2 .mapped2 .ensures) _ (c .like .ensures),
+      Enter.push-room (start .args .work .now) (start .args .count) (start .args .map .now)
+          (start .pre .0 .0) (start .args .x) (Factored (start .args .factor) (start .args .a) (start .args .b)) (start .pre .0 .1) _ (start .pre .1),
+    )
 
 mapped-requires-3 : tie.Need-mapped-requires-3
 mapped-requires-3 c κs = search needs
 
 push-requires-2 : tie.Need-push-requires-2
-push-requires-2 c κs = Enter.outer-request (c .before .before .before .before .before .before .before .before .before .before .before .before .before .before .before .before .args .work .now) (c .before .before .before .before .before .before .before .before .before .before .before .before .before .before .before .before .args .count) (c .before .before .before .before .before .before .before .before .before .before .before .before .before .before .before .before .args .map .now) (c .before .before .before .before .before .before .before .before .before .before .before .before .before .before .before .before .pre .0 .0) (c .before .before .before .before .before .before .before .before .before .before .before .before .before .before .before .before .args .x) (Factored (c .before .before .before .before .before .before .before .before .before .before .before .before .before .before .before .before .args .factor) (c .before .before .before .before .before .before .before .before .before .before .before .before .before .before .before .before .args .a) (c .before .before .before .before .before .before .before .before .before .before .before .before .before .before .before .before .args .b)) (c .before .before .before .before .before .before .before .before .before .before .before .before .before .before .before .before .pre .0 .1) _ _ _ refl _ _ (c .before .before .before .before .before .before .before .before .before .before .mapped .ensures) (c .before .before .before .before .before .before .before .before .before .mapped2 .ensures) _ (c .before .before .before .before .before .before .before .before .like .ensures) _ _ (c .before .before .before .before .before .before .before .push .ensures .pushed) _ (c .mapped3 .ensures) (c .before .before .before .before .before .before .before .before .before .before .before .before .before .before .before .before .args .links .now) _ (c .before .before .before .before .before .before .before .before .before .before .before .before .before .before .before .before .pre .1) (c .before .before .before .before .before .before .before .push .ensures .index) (c .before .before .before .before .before .before .before .push .kept .1 .1 .0)
+push-requires-2 c κs =
+    let at-push = c .before .before .before .before .before .before .before in
+    let at-like = at-push .before in
+    let at-mapped2 = at-like .before in
+    let at-mapped = at-mapped2 .before in
+    let start = at-mapped .before .before .before .before .before .before in
+    Enter.outer-request (start .args .work .now) (start .args .count) (start .args .map .now) (start .pre .0 .0) (start .args .x)
+    (Factored (start .args .factor) (start .args .a) (start .args .b)) (start .pre .0 .1) _ _ _ refl _ _ (at-mapped .mapped .ensures)
+    (at-mapped2 .mapped2 .ensures) _ (at-like .like .ensures) _ _ (at-push .push .ensures .pushed) _ (c .mapped3 .ensures)
+    (start .args .links .now) _ (start .pre .1) (at-push .push .ensures .index) (at-push .push .kept .1 .1 .0)
 
 same-length : tie.Need-same-length
 same-length c = search needs
@@ -30,7 +48,20 @@ same-length-2 : tie.Need-same-length-2
 same-length-2 c = search needs
 
 returns : tie.Need-returns
-returns c = (Enter.factored-planned (c .before .before .before .before .before .before .before .before .before .before .before .before .before .before .before .before .before .before .before .before .before .args .work .now) (c .before .before .before .before .before .before .before .before .before .before .before .before .before .before .before .before .before .before .before .before .before .args .count) (c .before .before .before .before .before .before .before .before .before .before .before .before .before .before .before .before .before .before .before .before .before .args .map .now) (c .before .before .before .before .before .before .before .before .before .before .before .before .before .before .before .before .before .before .before .before .before .pre .0 .0) (c .before .before .before .before .before .before .before .before .before .before .before .before .before .before .before .before .before .before .before .before .before .args .x) (Factored (c .before .before .before .before .before .before .before .before .before .before .before .before .before .before .before .before .before .before .before .before .before .args .factor) (c .before .before .before .before .before .before .before .before .before .before .before .before .before .before .before .before .before .before .before .before .before .args .a) (c .before .before .before .before .before .before .before .before .before .before .before .before .before .before .before .before .before .before .before .before .before .args .b)) (c .before .before .before .before .before .before .before .before .before .before .before .before .before .before .before .before .before .before .before .before .before .pre .0 .1) _ _ _ refl _ _ (c .before .before .before .before .before .before .before .before .before .before .before .before .before .before .before .mapped .ensures) (c .before .before .before .before .before .before .before .before .before .before .before .before .before .before .mapped2 .ensures) _ (c .before .before .before .before .before .before .before .before .before .before .before .before .before .like .ensures) _ _ (c .before .before .before .before .before .before .before .before .before .before .before .before .push .ensures .pushed) _ (c .before .before .before .before .before .mapped3 .ensures) _ _ (c .before .before .before .before .push2 .ensures .pushed), (c .before .before .before .before .push2 .ensures .index))
+returns c =
+    let at-push2 = c .before .before .before .before in
+    let at-mapped3 = at-push2 .before in
+    let at-push = at-mapped3 .before .before .before .before .before .before .before in
+    let at-like = at-push .before in
+    let at-mapped2 = at-like .before in
+    let at-mapped = at-mapped2 .before in
+    let start = at-mapped .before .before .before .before .before .before in (
+      Enter.factored-planned (start .args .work .now) (start .args .count) (start .args .map .now) (start .pre .0 .0) (start .args .x)
+          (Factored (start .args .factor) (start .args .a) (start .args .b)) (start .pre .0 .1) _ _ _ refl _ _ (at-mapped .mapped .ensures)
+          (at-mapped2 .mapped2 .ensures) _ (at-like .like .ensures) _ _ (at-push .push .ensures .pushed) _ (at-mapped3 .mapped3 .ensures) _ _
+          (at-push2 .push2 .ensures .pushed),
+      (at-push2 .push2 .ensures .index),
+    )
 
 pub enter-factored-spec : {M : Type 1} → statement M
 enter-factored-spec =

@@ -19,7 +19,13 @@ rotates-requires : tie.Need-rotates-requires
 rotates-requires c κs = search needs
 
 returns : tie.Need-returns
-returns c = no-rotation (c .before .before .before .before .before .before .before .args .list .now) (c .before .before .before .before .before .before .before .args .n) (c .before .before .before .before .before .before .before .args .inner) (c .before .before .before .before .before .before .before .args .other) (c .before .before .before .before .before .before .before .pre .0) (c .before .before .before .before .before .before .before .args .fan .now) _ (c .before .before .before .node-at .ensures) (Asked.operation (c .before .before .before .before .before .before .before .args .op)) (c .before .before .before .before .before .before .before .args .i) (told (c .before .rotates .ensures) (not-true _ (c .if1 .taken)))
+returns c =
+    let at-rotates = c .before in
+    let at-node-at = at-rotates .before .before in
+    let start = at-node-at .before .before .before .before in
+    no-rotation (start .args .list .now) (start .args .n) (start .args .inner) (start .args .other) (start .pre .0) (start .args .fan .now) _
+    (at-node-at .node-at .ensures) (Asked.operation (start .args .op)) (start .args .i)
+    (told (at-rotates .rotates .ensures) (not-true _ (c .if1 .taken)))
 
 first-of-requires : tie.Need-first-of-requires
 first-of-requires c κs = search needs
@@ -37,7 +43,20 @@ is-onto-requires : tie.Need-is-onto-requires
 is-onto-requires c κs = search needs
 
 returns-2 : tie.Need-returns-2
-returns-2 c = rotation-first (c .before .before .before .before .before .before .before .before .before .before .before .before .before .args .list .now) (c .before .before .before .before .before .before .before .before .before .before .before .before .before .args .n) (c .before .before .before .before .before .before .before .before .before .before .before .before .before .args .inner) (c .before .before .before .before .before .before .before .before .before .before .before .before .before .args .other) (c .before .before .before .before .before .before .before .before .before .before .before .before .before .pre .0) (c .before .before .before .before .before .before .before .before .before .before .before .before .before .args .fan .now) _ (c .before .before .before .before .before .before .before .before .before .node-at .ensures) (Asked.operation (c .before .before .before .before .before .before .before .before .before .before .before .before .before .args .op)) (c .before .before .before .before .before .before .before .before .before .before .before .before .before .args .i) (told (c .before .before .before .before .before .before .before .rotates .ensures) (not-false _ (c .before .before .before .before .before .before .if1 .left))) _ _ (c .before .before .before .before .before .first-of .ensures) (c .before .before .before .before .second-of .ensures) _ (c .before .before .before .canonical .ensures) _ (c .before .before .onto-before .ensures) (told (c .before .is-onto .ensures) (c .if2 .taken))
+returns-2 c =
+    let at-is-onto = c .before in
+    let at-onto-before = at-is-onto .before in
+    let at-canonical = at-onto-before .before in
+    let at-second-of = at-canonical .before in
+    let at-first-of = at-second-of .before in
+    let at-if1 = at-first-of .before in
+    let at-rotates = at-if1 .before in
+    let at-node-at = at-rotates .before .before in
+    let start = at-node-at .before .before .before .before in
+    rotation-first (start .args .list .now) (start .args .n) (start .args .inner) (start .args .other) (start .pre .0) (start .args .fan .now) _
+    (at-node-at .node-at .ensures) (Asked.operation (start .args .op)) (start .args .i)
+    (told (at-rotates .rotates .ensures) (not-false _ (at-if1 .if1 .left))) _ _ (at-first-of .first-of .ensures) (at-second-of .second-of .ensures)
+    _ (at-canonical .canonical .ensures) _ (at-onto-before .onto-before .ensures) (told (at-is-onto .is-onto .ensures) (c .if2 .taken))
 
 canonical-requires-2 : tie.Need-canonical-requires-2
 canonical-requires-2 c κs = search needs
@@ -46,7 +65,23 @@ onto-before-requires-2 : tie.Need-onto-before-requires-2
 onto-before-requires-2 c κs = search needs
 
 returns-3 : tie.Need-returns-3
-returns-3 c = rotation-other (c .before .before .before .before .before .before .before .before .before .before .before .before .before .before .before .args .list .now) (c .before .before .before .before .before .before .before .before .before .before .before .before .before .before .before .args .n) (c .before .before .before .before .before .before .before .before .before .before .before .before .before .before .before .args .inner) (c .before .before .before .before .before .before .before .before .before .before .before .before .before .before .before .args .other) (c .before .before .before .before .before .before .before .before .before .before .before .before .before .before .before .pre .0) (c .before .before .before .before .before .before .before .before .before .before .before .before .before .before .before .args .fan .now) _ (c .before .before .before .before .before .before .before .before .before .before .before .node-at .ensures) (Asked.operation (c .before .before .before .before .before .before .before .before .before .before .before .before .before .before .before .args .op)) (c .before .before .before .before .before .before .before .before .before .before .before .before .before .before .before .args .i) (told (c .before .before .before .before .before .before .before .before .before .rotates .ensures) (not-false _ (c .before .before .before .before .before .before .before .before .if1 .left))) _ _ (c .before .before .before .before .before .before .before .first-of .ensures) (c .before .before .before .before .before .before .second-of .ensures) _ (c .before .before .before .before .before .canonical .ensures) _ (c .before .before .before .before .onto-before .ensures) (told (c .before .before .before .is-onto .ensures) (c .before .before .if2 .left)) _ (c .before .canonical2 .ensures) _ (c .onto-before2 .ensures)
+returns-3 c =
+    let at-canonical2 = c .before in
+    let at-if2 = at-canonical2 .before in
+    let at-is-onto = at-if2 .before in
+    let at-onto-before = at-is-onto .before in
+    let at-canonical = at-onto-before .before in
+    let at-second-of = at-canonical .before in
+    let at-first-of = at-second-of .before in
+    let at-if1 = at-first-of .before in
+    let at-rotates = at-if1 .before in
+    let at-node-at = at-rotates .before .before in
+    let start = at-node-at .before .before .before .before in
+    rotation-other (start .args .list .now) (start .args .n) (start .args .inner) (start .args .other) (start .pre .0) (start .args .fan .now) _
+    (at-node-at .node-at .ensures) (Asked.operation (start .args .op)) (start .args .i)
+    (told (at-rotates .rotates .ensures) (not-false _ (at-if1 .if1 .left))) _ _ (at-first-of .first-of .ensures) (at-second-of .second-of .ensures)
+    _ (at-canonical .canonical .ensures) _ (at-onto-before .onto-before .ensures) (told (at-is-onto .is-onto .ensures) (at-if2 .if2 .left)) _
+    (at-canonical2 .canonical2 .ensures) _ (c .onto-before2 .ensures)
 
 pub existing-rotation-spec : {M : Type 1} → statement M
 existing-rotation-spec =

@@ -18,31 +18,72 @@ abbrev μ-loop : tie.MeasureT-loop
 μ-loop list n root fan₀ i₀ fan i = n - i
 
 loop-holds : tie.Need-loop-holds Inv-loop μ-loop
-loop-holds c = (omega arith, refl, Fanouts.counted-none (Nodes.nodes (c .before .before .args .list .now) (c .before .before .args .n)) (c .before .before .args .fan .now) (c .before .before .pre .zeros))
+loop-holds c =
+    let start = c .before .before in
+    (omega arith, refl, Fanouts.counted-none (Nodes.nodes (start .args .list .now) (start .args .n)) (start .args .fan .now) (start .pre .zeros))
 
 node-at-requires : tie.Need-node-at-requires Inv-loop μ-loop
 node-at-requires c κs = omega (arith, c .before .before .before .before .before .pre .sound .room, c .before .loop-test .taken)
 
 mention-operands-requires : tie.Need-mention-operands-requires Inv-loop μ-loop
-mention-operands-requires c κs = (Fanouts.operands-inside (c .before .before .before .before .before .before .args .list .now) (c .before .before .before .before .before .before .args .n) (c .before .before .before .before .before .before .args .root) (c .before .before .before .before .before .before .args .fan .now) (c .before .before .before .before .before .before .pre) (c .before .before .before .loop .i) (c .before .before .before .loop .fan) (c .before .before .before .loop .inv .1) (c .before .before .before .loop .inv .2) (c .before .before .loop-test .taken) _ (c .node-at .ensures ∙ sym (at-nodes _ _ _ (c .before .before .loop-test .taken))), λ j. let h = Fanouts.counted-few (c .before .before .before .before .before .before .args .list .now) (c .before .before .before .before .before .before .args .n) (c .before .before .before .before .before .before .args .root) (c .before .before .before .before .before .before .args .fan .now) (c .before .before .before .before .before .before .pre) (c .before .before .before .loop .i) (c .before .before .before .loop .fan) (c .before .before .before .loop .inv .1) (c .before .before .before .loop .inv .2) (c .before .before .before .loop .inv .0) j in omega arith)
+mention-operands-requires c κs =
+    let at-loop-test = c .before .before in
+    let at-loop = at-loop-test .before in
+    let start = at-loop .before .before .before in (
+      Fanouts.operands-inside (start .args .list .now) (start .args .n) (start .args .root) (start .args .fan .now) (start .pre) (at-loop .loop .i)
+          (at-loop .loop .fan) (at-loop .loop .inv .1) (at-loop .loop .inv .2) (at-loop-test .loop-test .taken) _
+          (c .node-at .ensures ∙ sym (at-nodes _ _ _ (at-loop-test .loop-test .taken))),
+      λ j. let h = Fanouts.counted-few (start .args .list .now)
+          (start .args .n) (start .args .root) (start .args .fan .now) (start .pre) (at-loop .loop .i) (at-loop .loop .fan) (at-loop .loop .inv .1)
+          (at-loop .loop .inv .2) (at-loop .loop .inv .0) j in omega arith,
+    )
 
 add-i : tie.Need-add-i Inv-loop μ-loop
-add-i c = omega (arith, c .before .before .before .before .before .before .before .before .before .pre .few, c .before .before .before .before .before .loop-test .taken)
+add-i c =
+    let at-loop-test = c .before .before .before .before .before in
+    let start = at-loop-test .before .before .before .before in
+    omega (arith, start .pre .few, at-loop-test .loop-test .taken)
 
 loop-less : tie.Need-loop-less Inv-loop μ-loop
 loop-less c = omega (arith, c .before .before .before .before .before .loop-test .taken)
 
 loop-again : tie.Need-loop-again Inv-loop μ-loop
-loop-again c = (omega (arith, c .before .before .before .before .before .loop-test .taken), c .before .before .mention-operands .kept .0 ∙ c .before .before .before .before .before .before .loop .inv .1, rw (c .before .before .mention-operands .ensures) (Fanouts.counted-more (c .before .before .before .before .before .before .before .before .before .args .list .now) (c .before .before .before .before .before .before .before .before .before .args .n) (c .before .before .before .before .before .before .before .before .before .args .root) (c .before .before .before .before .before .before .before .before .before .args .fan .now) (c .before .before .before .before .before .before .before .before .before .pre) (c .before .before .before .before .before .before .loop .i) (c .before .before .before .before .before .before .loop .fan) (c .before .before .before .before .before .before .loop .inv .1) (c .before .before .before .before .before .before .loop .inv .2) (c .before .before .before .before .before .loop-test .taken) _ (c .before .before .before .node-at .ensures ∙ sym (at-nodes _ _ _ (c .before .before .before .before .before .loop-test .taken)))))
+loop-again c =
+    let at-mention-operands = c .before .before in
+    let at-node-at = at-mention-operands .before in
+    let at-loop-test = at-node-at .before .before in
+    let at-loop = at-loop-test .before in
+    let start = at-loop .before .before .before in (
+      omega (arith, at-loop-test .loop-test .taken),
+      at-mention-operands .mention-operands .kept .0 ∙ at-loop .loop .inv .1,
+      rw
+          (at-mention-operands .mention-operands .ensures) (Fanouts.counted-more (start .args .list .now) (start .args .n) (start .args .root)
+          (start .args .fan .now) (start .pre) (at-loop .loop .i) (at-loop .loop .fan) (at-loop .loop .inv .1) (at-loop .loop .inv .2)
+          (at-loop-test .loop-test .taken) _ (at-node-at .node-at .ensures ∙ sym (at-nodes _ _ _ (at-loop-test .loop-test .taken)))),
+    )
 
 mention-requires : tie.Need-mention-requires Inv-loop μ-loop
-mention-requires c κs = (omega (arith, c .before .before .before .before .before .pre .fits, c .before .before .before .before .before .pre .inside, c .before .before .loop .inv .1), let h = Fanouts.counted-few (c .before .before .before .before .before .args .list .now) (c .before .before .before .before .before .args .n) (c .before .before .before .before .before .args .root) (c .before .before .before .before .before .args .fan .now) (c .before .before .before .before .before .pre) (c .before .before .loop .i) (c .before .before .loop .fan) (c .before .before .loop .inv .1) (c .before .before .loop .inv .2) (c .before .before .loop .inv .0) (c .before .before .before .before .before .args .root) in omega arith)
+mention-requires c κs =
+    let at-loop = c .before .before in
+    let start = at-loop .before .before .before in (
+      omega (arith, start .pre .fits, start .pre .inside, at-loop .loop .inv .1),
+      let h = Fanouts.counted-few (start .args .list .now) (start .args .n)
+          (start .args .root) (start .args .fan .now) (start .pre) (at-loop .loop .i) (at-loop .loop .fan) (at-loop .loop .inv .1)
+          (at-loop .loop .inv .2) (at-loop .loop .inv .0) (start .args .root) in omega arith,
+    )
 
 same-length : tie.Need-same-length Inv-loop μ-loop
 same-length c = c .before .before .mention .kept .0 ∙ c .before .before .before .before .before .loop .inv .1
 
 returns : tie.Need-returns Inv-loop μ-loop
-returns c = ap read (c .before .before .mention .ensures) ∙ Fanouts.counted-root (c .before .before .before .before .before .before .before .before .args .list .now) (c .before .before .before .before .before .before .before .before .args .n) (c .before .before .before .before .before .before .before .before .args .root) (c .before .before .before .before .before .before .before .before .args .fan .now) (c .before .before .before .before .before .before .before .before .pre) (c .before .before .before .before .before .loop .fan) (c .before .before .before .before .before .loop .inv .1) (rw (le-antisymm (c .before .before .before .before .before .loop .inv .0) (c .before .before .before .before .loop-test .left)) at (c .before .before .before .before .before .loop .inv .2))
+returns c =
+    let at-mention = c .before .before in
+    let at-loop-test = at-mention .before .before in
+    let at-loop = at-loop-test .before in
+    let start = at-loop .before .before .before in
+    ap read (at-mention .mention .ensures) ∙ Fanouts.counted-root (start .args .list .now) (start .args .n) (start .args .root) (start .args .fan .now)
+    (start .pre) (at-loop .loop .fan) (at-loop .loop .inv .1)
+    (rw (le-antisymm (at-loop .loop .inv .0) (at-loop-test .loop-test .left)) at (at-loop .loop .inv .2))
 
 pub fanout-spec : {M : Type 1} → statement M
 fanout-spec =

@@ -13,28 +13,40 @@ enum-known-x c = search needs
 
 mention-pair-requires : tie.Need-mention-pair-requires
 unfolding Nodes.operands
-mention-pair-requires c κs = let h = Fanouts.operands-as _ (c .before .before .x .given .1) (c .before .before .before .before .before .pre .0) in (h _ here, h _ (there here), c .before .before .before .before .before .pre .1)
+mention-pair-requires c κs =
+    let at-x = c .before .before in
+    let start = at-x .before .before .before in
+    let h = Fanouts.operands-as _ (at-x .x .given .1) (start .pre .0) in (h _ here, h _ (there here), start .pre .1)
 
 enum-known-x-2 : tie.Need-enum-known-x-2
 enum-known-x-2 c = search needs
 
 mention-pair-requires-2 : tie.Need-mention-pair-requires-2
 unfolding Nodes.operands
-mention-pair-requires-2 c κs = let h = Fanouts.operands-as _ (c .before .before .x2 .given .1) (c .before .before .before .before .before .pre .0) in (h _ here, h _ (there here), c .before .before .before .before .before .pre .1)
+mention-pair-requires-2 c κs =
+    let at-x2 = c .before .before in
+    let start = at-x2 .before .before .before in
+    let h = Fanouts.operands-as _ (at-x2 .x2 .given .1) (start .pre .0) in (h _ here, h _ (there here), start .pre .1)
 
 enum-known-x-3 : tie.Need-enum-known-x-3
 enum-known-x-3 c = search needs
 
 mention-pair-requires-3 : tie.Need-mention-pair-requires-3
 unfolding Nodes.operands
-mention-pair-requires-3 c κs = let h = Fanouts.operands-as _ (c .before .before .x3 .given .1) (c .before .before .before .before .before .pre .0) in (h _ here, h _ (there here), c .before .before .before .before .before .pre .1)
+mention-pair-requires-3 c κs =
+    let at-x3 = c .before .before in
+    let start = at-x3 .before .before .before in
+    let h = Fanouts.operands-as _ (at-x3 .x3 .given .1) (start .pre .0) in (h _ here, h _ (there here), start .pre .1)
 
 enum-known-x-4 : tie.Need-enum-known-x-4
 enum-known-x-4 c = search needs
 
 mention-requires : tie.Need-mention-requires
 unfolding Nodes.operands
-mention-requires c κs = let h = Fanouts.operands-as _ (c .before .before .x4 .given .1) (c .before .before .before .before .before .pre .0) in (h _ here, let k = c .before .before .before .before .before .pre .1 (c .before .before .x4 .given .0 .0) in omega arith)
+mention-requires c κs =
+    let at-x4 = c .before .before in
+    let start = at-x4 .before .before .before in
+    let h = Fanouts.operands-as _ (at-x4 .x4 .given .1) (start .pre .0) in (h _ here, let k = start .pre .1 (at-x4 .x4 .given .0 .0) in omega arith)
 
 enum-told : tie.Need-enum-told
 enum-told c = search needs

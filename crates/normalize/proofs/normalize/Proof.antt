@@ -15,10 +15,20 @@ enum-told : tie.Need-enum-told
 enum-told c = search needs
 
 normalize-ready-requires : tie.Need-normalize-ready-requires
-normalize-ready-requires c κs = passed (c .before .before .before .before .before .before .before .before .args .list .now) (c .before .before .before .before .before .before .before .before .args .n) (c .before .before .before .before .before .before .before .before .args .root) (length (c .before .before .before .before .before .before .before .before .args .result .now)) (length (c .before .before .before .before .before .before .before .before .args .work .now)) (told (c .before .before .before .before .normalize-check .ensures) (c .before .before .enum-told .given .1))
+normalize-ready-requires c κs =
+    let at-enum-told = c .before .before in
+    let at-normalize-check = at-enum-told .before .before in
+    let start = at-normalize-check .before .before .before .before in
+    passed (start .args .list .now) (start .args .n) (start .args .root) (length (start .args .result .now)) (length (start .args .work .now))
+    (told (at-normalize-check .normalize-check .ensures) (at-enum-told .enum-told .given .1))
 
 returns : tie.Need-returns
-returns c = let h = normalize-refused (c .before .before .before .before .before .before .before .args .list .now) (c .before .before .before .before .before .before .before .args .n) (c .before .before .before .before .before .before .before .args .root) (c .before .before .before .before .before .before .before .args .result .now) (c .before .before .before .before .before .before .before .args .work .now) _ (told (c .before .before .before .normalize-check .ensures) (c .before .checked .given .1)) in (h .answer, (h .list-is, h .work-is))
+returns c =
+    let at-checked = c .before in
+    let at-normalize-check = at-checked .before .before in
+    let start = at-normalize-check .before .before .before .before in
+    let h = normalize-refused (start .args .list .now) (start .args .n) (start .args .root) (start .args .result .now) (start .args .work .now) _
+    (told (at-normalize-check .normalize-check .ensures) (at-checked .checked .given .1)) in (h .answer, (h .list-is, h .work-is))
 
 same-length : tie.Need-same-length
 same-length c = search needs
@@ -27,7 +37,14 @@ same-length-2 : tie.Need-same-length-2
 same-length-2 c = search needs
 
 returns-2 : tie.Need-returns-2
-returns-2 c = let h = normalize-done (c .before .before .before .before .before .before .before .before .before .before .before .before .before .args .list .now) (c .before .before .before .before .before .before .before .before .before .before .before .before .before .args .n) (c .before .before .before .before .before .before .before .before .before .before .before .before .before .args .root) (c .before .before .before .before .before .before .before .before .before .before .before .before .before .args .result .now) (c .before .before .before .before .before .before .before .before .before .before .before .before .before .args .work .now) _ _ _ (told (c .before .before .before .before .before .before .before .before .before .normalize-check .ensures) (c .before .before .before .before .before .before .before .enum-told .given .1)) (c .before .before .before .before .normalize-ready .ensures) in (h .answer, (h .list-is, h .work-is))
+returns-2 c =
+    let at-normalize-ready = c .before .before .before .before in
+    let at-enum-told = at-normalize-ready .before .before .before in
+    let at-normalize-check = at-enum-told .before .before in
+    let start = at-normalize-check .before .before .before .before in
+    let h = normalize-done (start .args .list .now) (start .args .n) (start .args .root) (start .args .result .now) (start .args .work .now) _ _ _
+    (told (at-normalize-check .normalize-check .ensures) (at-enum-told .enum-told .given .1)) (at-normalize-ready .normalize-ready .ensures) in
+    (h .answer, (h .list-is, h .work-is))
 
 pub normalize-spec : {M : Type 1} → statement M
 normalize-spec =

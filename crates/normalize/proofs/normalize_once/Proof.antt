@@ -9,13 +9,17 @@ slice-relend-prefix-once-in : tie.Need-slice-relend-prefix-once-in
 slice-relend-prefix-once-in c = search needs
 
 slice-aggregate-once-in : tie.Need-slice-aggregate-once-in
-slice-aggregate-once-in c = sym (length-take-le _ _ (c .before .before .before .before .before .before .before .before .before .pre .2 .fan-long))
+slice-aggregate-once-in c =
+    let start = c .before .before .before .before .before .before .before .before .before in
+    sym (length-take-le _ _ (start .pre .2 .fan-long))
 
 slice-relend-prefix-once-in-2 : tie.Need-slice-relend-prefix-once-in-2
 slice-relend-prefix-once-in-2 c = search needs
 
 slice-aggregate-once-in-2 : tie.Need-slice-aggregate-once-in-2
-slice-aggregate-once-in-2 c = sym (length-take-le _ _ (c .before .before .before .before .before .before .before .before .before .before .pre .2 .places-long))
+slice-aggregate-once-in-2 c =
+    let start = c .before .before .before .before .before .before .before .before .before .before in
+    sym (length-take-le _ _ (start .pre .2 .places-long))
 
 mul-once-in : tie.Need-mul-once-in
 mul-once-in c = search needs
@@ -24,7 +28,9 @@ slice-relend-prefix-once-in-3 : tie.Need-slice-relend-prefix-once-in-3
 slice-relend-prefix-once-in-3 c = search needs
 
 slice-aggregate-once-in-3 : tie.Need-slice-aggregate-once-in-3
-slice-aggregate-once-in-3 c = sym (length-take-le _ _ (c .before .before .before .before .before .before .before .before .before .before .before .pre .2 .own-long))
+slice-aggregate-once-in-3 c =
+    let start = c .before .before .before .before .before .before .before .before .before .before .before in
+    sym (length-take-le _ _ (start .pre .2 .own-long))
 
 mul-once-in-2 : tie.Need-mul-once-in-2
 mul-once-in-2 c = search needs
@@ -33,10 +39,18 @@ slice-relend-prefix-once-in-4 : tie.Need-slice-relend-prefix-once-in-4
 slice-relend-prefix-once-in-4 c = search needs
 
 slice-aggregate-once-in-4 : tie.Need-slice-aggregate-once-in-4
-slice-aggregate-once-in-4 c = sym (length-take-le _ _ (c .before .before .before .before .before .before .before .before .before .before .before .before .pre .2 .links-long))
+slice-aggregate-once-in-4 c =
+    let start = c .before .before .before .before .before .before .before .before .before .before .before .before in
+    sym (length-take-le _ _ (start .pre .2 .links-long))
 
 once-in-requires : tie.Need-once-in-requires
-once-in-requires c κs = ((c .before .before .before .before .before .before .before .before .before .before .before .before .pre .0), (c .before .before .before .before .before .before .before .before .before .before .before .before .pre .1), Rounded.scratch-part (c .before .before .before .before .before .before .before .before .before .before .before .before .args .n) (c .before .before .before .before .before .before .before .before .before .before .before .before .args .fan .now) (c .before .before .before .before .before .before .before .before .before .before .before .before .args .map .now) (c .before .before .before .before .before .before .before .before .before .before .before .before .args .own .now) (c .before .before .before .before .before .before .before .before .before .before .before .before .args .links .now) (c .before .before .before .before .before .before .before .before .before .before .before .before .pre .2))
+once-in-requires c κs =
+    let start = c .before .before .before .before .before .before .before .before .before .before .before .before in (
+      (start .pre .0),
+      (start .pre .1),
+      Rounded.scratch-part (start .args .n) (start .args .fan .now) (start .args .map .now) (start .args .own .now)
+          (start .args .links .now) (start .pre .2),
+    )
 
 same-length : tie.Need-same-length
 same-length c = search needs

@@ -11,7 +11,14 @@ copy-words-requires : tie.Need-copy-words-requires
 copy-words-requires c κs = search needs
 
 rounds-of-requires : tie.Need-rounds-of-requires
-rounds-of-requires c κs = (rw (c .before .before .before .before .copy-words .kept .1 .1 .0) (c .before .before .before .before .before .before .before .before .before .pre), running-begins (c .before .before .before .before .before .before .before .before .before .args .list .now) (c .before .before .before .before .before .before .before .before .before .args .n) (c .before .before .before .before .before .before .before .before .before .args .root) (c .before .before .before .before .before .before .before .before .before .args .result .now) _ (c .before .before .before .before .before .before .before .before .before .pre .sound) (c .before .before .before .before .before .before .before .before .before .pre .inside) ((c .before .before .before .before .copy-words .ensures) ∙ copied-list (c .before .before .before .before .before .before .before .before .before .args .list .now) (c .before .before .before .before .before .before .before .before .before .args .result .now) (c .before .before .before .before .before .before .before .before .before .args .n) (c .before .before .before .before .before .before .before .before .before .pre .sound)))
+rounds-of-requires c κs =
+    let at-copy-words = c .before .before .before .before in
+    let start = at-copy-words .before .before .before .before .before in (
+      rw (at-copy-words .copy-words .kept .1 .1 .0) (start .pre),
+      running-begins (start .args .list .now) (start .args .n) (start .args .root)
+          (start .args .result .now) _ (start .pre .sound) (start .pre .inside)
+          ((at-copy-words .copy-words .ensures) ∙ copied-list (start .args .list .now) (start .args .result .now) (start .args .n) (start .pre .sound)),
+    )
 
 mul-blank-from : tie.Need-mul-blank-from
 mul-blank-from c = search needs
@@ -29,7 +36,16 @@ same-length-2 : tie.Need-same-length-2
 same-length-2 c = search needs
 
 returns : tie.Need-returns
-returns c = finished (c .before .before .before .before .before .before .before .before .before .before .before .before .before .before .before .before .before .before .before .before .before .before .before .args .list .now) (c .before .before .before .before .before .before .before .before .before .before .before .before .before .before .before .before .before .before .before .before .before .before .before .args .n) (c .before .before .before .before .before .before .before .before .before .before .before .before .before .before .before .before .before .before .before .before .before .before .before .args .root) (c .before .before .before .before .before .before .before .before .before .before .before .before .before .before .before .before .before .before .before .before .before .before .before .args .result .now) (c .before .before .before .before .before .before .before .before .before .before .before .before .before .before .before .before .before .before .before .before .before .before .before .args .work .now) _ _ (c .before .before .before .before .before .before .before .before .before .before .before .before .before .rounds-of .ensures) ((c .before .before .before .before .before .before .before .before .before .before .before .before .before .rounds-of .kept .1 .1 .1 .0) ∙ (c .before .before .before .before .before .before .before .before .before .before .before .before .before .before .before .before .before .before .copy-words .kept .1 .1 .0)) _ (c .before .before .before .before .before .before .before .before .before .before .before .before .before .rounds-of .last .1 .1 .1 .1 .0) _ (c .before .before .before .before .before .before .blank-from .ensures) (c .before .before .before .before .before .before .before .before .before .before .before .before .before .rounds-of .kept .1 .1 .1 .1 .0) (c .before .before .blank-from2 .ensures)
+returns c =
+    let at-blank-from2 = c .before .before in
+    let at-blank-from = at-blank-from2 .before .before .before .before in
+    let at-rounds-of = at-blank-from .before .before .before .before .before .before .before in
+    let at-copy-words = at-rounds-of .before .before .before .before .before in
+    let start = at-copy-words .before .before .before .before .before in
+    finished (start .args .list .now) (start .args .n) (start .args .root) (start .args .result .now) (start .args .work .now) _ _
+    (at-rounds-of .rounds-of .ensures) ((at-rounds-of .rounds-of .kept .1 .1 .1 .0) ∙ (at-copy-words .copy-words .kept .1 .1 .0)) _
+    (at-rounds-of .rounds-of .last .1 .1 .1 .1 .0) _ (at-blank-from .blank-from .ensures) (at-rounds-of .rounds-of .kept .1 .1 .1 .1 .0)
+    (at-blank-from2 .blank-from2 .ensures)
 
 pub normalize-ready-spec : {M : Type 1} → statement M
 normalize-ready-spec =

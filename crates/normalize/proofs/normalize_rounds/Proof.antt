@@ -15,40 +15,97 @@ abbrev μ-loop : tie.MeasureT-loop
 μ-loop list n root result₀ work₀ fan₀ map₀ own₀ links₀ count₀ place₀ rounds₀ result work fan map own links count place rounds = count
 
 loop-holds : tie.Need-loop-holds Inv-loop μ-loop
-loop-holds c = (refl, refl, (c .before .before .before .before .before .before .before .pre .1), refl, refl, refl, refl)
+loop-holds c =
+    let start = c .before .before .before .before .before .before .before in
+    (refl, refl, (start .pre .1), refl, refl, refl, refl)
 
 normalize-once-requires : tie.Need-normalize-once-requires Inv-loop μ-loop
-normalize-once-requires c κs = let a = (c .before .before .before .before .before .before .loop .inv .2 .lost) in (running-ready (c .before .before .before .before .before .before .before .before .before .before .before .before .before .before .args .list .now) (c .before .before .before .before .before .before .before .before .before .before .before .before .before .before .args .n) (c .before .before .before .before .before .before .before .before .before .before .before .before .before .before .args .root) (c .before .before .before .before .before .before .loop .result) (c .before .before .before .before .before .before .loop .count) (c .before .before .before .before .before .before .loop .place) (c .before .before .before .before .before .before .loop .rounds) (c .before .before .before .before .before .before .loop .inv .2) _ (c .before .before .before .before .before .before .before .before .before .before .before .before .before .before .pre .0 .few) (omega (arith, (c .before .before .before .before .before .before .before .before .before .before .before .before .before .before .pre .0 .work-room), (c .before .before .before .before .before .before .loop .inv .1))), omega (arith, a, (c .before .before .before .before .before .before .before .before .before .before .before .before .before .before .pre .0 .result-room), (c .before .before .before .before .before .before .loop .inv .0)), scratch-fewer (c .before .before .before .before .before .before .before .before .before .before .before .before .before .before .args .n) (c .before .before .before .before .before .before .loop .count) (c .before .before .before .before .before .before .before .before .before .before .before .before .before .before .pre .2) (omega arith) (c .before .before .before .before .before .before .loop .inv .3) (c .before .before .before .before .before .before .loop .inv .4) (c .before .before .before .before .before .before .loop .inv .5) (c .before .before .before .before .before .before .loop .inv .6))
+normalize-once-requires c κs =
+    let at-loop = c .before .before .before .before .before .before in
+    let start = at-loop .before .before .before .before .before .before .before .before in
+    let a = (at-loop .loop .inv .2 .lost) in (
+      running-ready (start .args .list .now) (start .args .n) (start .args .root) (at-loop .loop .result)
+          (at-loop .loop .count) (at-loop .loop .place) (at-loop .loop .rounds) (at-loop .loop .inv .2) _ (start .pre .0 .few)
+          (omega (arith, (start .pre .0 .work-room), (at-loop .loop .inv .1))),
+      omega (arith, a, (start .pre .0 .result-room), (at-loop .loop .inv .0)),
+      scratch-fewer (start .args .n) (at-loop .loop .count) (start .pre .2) (omega arith) (at-loop .loop .inv .3) (at-loop .loop .inv .4)
+          (at-loop .loop .inv .5) (at-loop .loop .inv .6),
+    )
 
 same-length : tie.Need-same-length Inv-loop μ-loop
-same-length c = (c .before .before .before .before .before .before .before .before .before .before .before .before .before .before .normalize-once .kept .0) ∙ (c .before .before .before .before .before .before .before .before .before .before .before .before .before .before .before .before .before .before .before .before .before .loop .inv .0)
+same-length c =
+    let at-normalize-once = c .before .before .before .before .before .before .before .before .before .before .before .before .before .before in
+    let at-loop = at-normalize-once .before .before .before .before .before .before .before in
+    (at-normalize-once .normalize-once .kept .0) ∙ (at-loop .loop .inv .0)
 
 same-length-2 : tie.Need-same-length-2 Inv-loop μ-loop
-same-length-2 c = (c .before .before .before .before .before .before .before .before .before .before .before .before .before .before .normalize-once .kept .1 .1 .1 .0) ∙ (c .before .before .before .before .before .before .before .before .before .before .before .before .before .before .before .before .before .before .before .before .before .loop .inv .1)
+same-length-2 c =
+    let at-normalize-once = c .before .before .before .before .before .before .before .before .before .before .before .before .before .before in
+    let at-loop = at-normalize-once .before .before .before .before .before .before .before in
+    (at-normalize-once .normalize-once .kept .1 .1 .1 .0) ∙ (at-loop .loop .inv .1)
 
 same-length-3 : tie.Need-same-length-3 Inv-loop μ-loop
-same-length-3 c = (c .before .before .before .before .before .before .before .before .before .before .before .before .before .before .normalize-once .kept .1 .1 .1 .1 .0) ∙ (c .before .before .before .before .before .before .before .before .before .before .before .before .before .before .before .before .before .before .before .before .before .loop .inv .3)
+same-length-3 c =
+    let at-normalize-once = c .before .before .before .before .before .before .before .before .before .before .before .before .before .before in
+    let at-loop = at-normalize-once .before .before .before .before .before .before .before in
+    (at-normalize-once .normalize-once .kept .1 .1 .1 .1 .0) ∙ (at-loop .loop .inv .3)
 
 same-length-4 : tie.Need-same-length-4 Inv-loop μ-loop
-same-length-4 c = (c .before .before .before .before .before .before .before .before .before .before .before .before .before .before .normalize-once .kept .1 .1 .1 .1 .1 .0) ∙ (c .before .before .before .before .before .before .before .before .before .before .before .before .before .before .before .before .before .before .before .before .before .loop .inv .4)
+same-length-4 c =
+    let at-normalize-once = c .before .before .before .before .before .before .before .before .before .before .before .before .before .before in
+    let at-loop = at-normalize-once .before .before .before .before .before .before .before in
+    (at-normalize-once .normalize-once .kept .1 .1 .1 .1 .1 .0) ∙ (at-loop .loop .inv .4)
 
 same-length-5 : tie.Need-same-length-5 Inv-loop μ-loop
-same-length-5 c = (c .before .before .before .before .before .before .before .before .before .before .before .before .before .before .normalize-once .kept .1 .1 .1 .1 .1 .1 .0) ∙ (c .before .before .before .before .before .before .before .before .before .before .before .before .before .before .before .before .before .before .before .before .before .loop .inv .5)
+same-length-5 c =
+    let at-normalize-once = c .before .before .before .before .before .before .before .before .before .before .before .before .before .before in
+    let at-loop = at-normalize-once .before .before .before .before .before .before .before in
+    (at-normalize-once .normalize-once .kept .1 .1 .1 .1 .1 .1 .0) ∙ (at-loop .loop .inv .5)
 
 same-length-6 : tie.Need-same-length-6 Inv-loop μ-loop
-same-length-6 c = (c .before .before .before .before .before .before .before .before .before .before .before .before .before .before .normalize-once .kept .1 .1 .1 .1 .1 .1 .1 .0) ∙ (c .before .before .before .before .before .before .before .before .before .before .before .before .before .before .before .before .before .before .before .before .before .loop .inv .6)
+same-length-6 c =
+    let at-normalize-once = c .before .before .before .before .before .before .before .before .before .before .before .before .before .before in
+    let at-loop = at-normalize-once .before .before .before .before .before .before .before in
+    (at-normalize-once .normalize-once .kept .1 .1 .1 .1 .1 .1 .1 .0) ∙ (at-loop .loop .inv .6)
 
 returns : tie.Need-returns Inv-loop μ-loop
-returns c = ended (c .before .before .before .before .before .before .before .before .before .before .before .before .before .before .before .before .before .before .before .before .before .before .before .before .before .before .before .before .before .args .list .now) (c .before .before .before .before .before .before .before .before .before .before .before .before .before .before .before .before .before .before .before .before .before .before .before .before .before .before .before .before .before .args .n) (c .before .before .before .before .before .before .before .before .before .before .before .before .before .before .before .before .before .before .before .before .before .before .before .before .before .before .before .before .before .args .root) (c .before .before .before .before .before .before .before .before .before .before .before .before .before .before .before .before .before .before .before .before .before .loop .result) (c .before .before .before .before .before .before .before .before .before .before .before .before .before .before .before .before .before .before .before .before .before .loop .count) (c .before .before .before .before .before .before .before .before .before .before .before .before .before .before .before .before .before .before .before .before .before .loop .place) (c .before .before .before .before .before .before .before .before .before .before .before .before .before .before .before .before .before .before .before .before .before .loop .rounds) (c .before .before .before .before .before .before .before .before .before .before .before .before .before .before .before .before .before .before .before .before .before .loop .inv .2) _ _ (c .before .before .before .before .before .before .before .before .before .before .before .before .before .before .normalize-once .ensures) (not-true _ (c .if1 .taken))
+returns c =
+    let at-normalize-once = c .before .before .before .before .before .before .before .before .before .before .before .before .before .before in
+    let at-loop = at-normalize-once .before .before .before .before .before .before .before in
+    let start = at-loop .before .before .before .before .before .before .before .before in
+    ended (start .args .list .now) (start .args .n) (start .args .root) (at-loop .loop .result) (at-loop .loop .count) (at-loop .loop .place)
+    (at-loop .loop .rounds) (at-loop .loop .inv .2) _ _ (at-normalize-once .normalize-once .ensures) (not-true _ (c .if1 .taken))
 
 add-rounds : tie.Need-add-rounds Inv-loop μ-loop
-add-rounds c = let a = (c .before .before .before .before .before .before .before .before .before .before .before .before .before .before .before .before .before .before .before .before .before .loop .inv .2 .lost) in omega (arith, a, (c .before .before .before .before .before .before .before .before .before .before .before .before .before .before .before .before .before .before .before .before .before .before .before .before .before .before .before .before .before .pre .0 .few))
+add-rounds c =
+    let at-loop = c .before .before .before .before .before .before .before .before .before .before .before .before .before .before .before .before .before .before .before .before .before in
+    let start = at-loop .before .before .before .before .before .before .before .before in
+    let a = (at-loop .loop .inv .2 .lost) in omega (arith, a, (start .pre .0 .few))
 
 loop-less : tie.Need-loop-less Inv-loop μ-loop
-loop-less c = fewer (c .before .before .before .before .before .before .before .before .before .before .before .before .before .before .before .before .before .before .before .before .before .before .before .before .before .before .before .before .before .args .list .now) (c .before .before .before .before .before .before .before .before .before .before .before .before .before .before .before .before .before .before .before .before .before .before .before .before .before .before .before .before .before .args .n) (c .before .before .before .before .before .before .before .before .before .before .before .before .before .before .before .before .before .before .before .before .before .before .before .before .before .before .before .before .before .args .root) (c .before .before .before .before .before .before .before .before .before .before .before .before .before .before .before .before .before .before .before .before .before .loop .result) (c .before .before .before .before .before .before .before .before .before .before .before .before .before .before .before .before .before .before .before .before .before .loop .count) (c .before .before .before .before .before .before .before .before .before .before .before .before .before .before .before .before .before .before .before .before .before .loop .place) (c .before .before .before .before .before .before .before .before .before .before .before .before .before .before .before .before .before .before .before .before .before .loop .rounds) (c .before .before .before .before .before .before .before .before .before .before .before .before .before .before .before .before .before .before .before .before .before .loop .inv .2) _ _ (c .before .before .before .before .before .before .before .before .before .before .before .before .before .before .normalize-once .ensures) (not-false _ (c .if1 .left))
+loop-less c =
+    let at-normalize-once = c .before .before .before .before .before .before .before .before .before .before .before .before .before .before in
+    let at-loop = at-normalize-once .before .before .before .before .before .before .before in
+    let start = at-loop .before .before .before .before .before .before .before .before in
+    fewer (start .args .list .now) (start .args .n) (start .args .root) (at-loop .loop .result) (at-loop .loop .count) (at-loop .loop .place)
+    (at-loop .loop .rounds) (at-loop .loop .inv .2) _ _ (at-normalize-once .normalize-once .ensures) (not-false _ (c .if1 .left))
 
 loop-again : tie.Need-loop-again Inv-loop μ-loop
-loop-again c = ((c .before .before .before .before .before .before .before .before .before .before .before .before .before .before .normalize-once .kept .0) ∙ (c .before .before .before .before .before .before .before .before .before .before .before .before .before .before .before .before .before .before .before .before .before .loop .inv .0), (c .before .before .before .before .before .before .before .before .before .before .before .before .before .before .normalize-once .kept .1 .1 .1 .0) ∙ (c .before .before .before .before .before .before .before .before .before .before .before .before .before .before .before .before .before .before .before .before .before .loop .inv .1), running-on (c .before .before .before .before .before .before .before .before .before .before .before .before .before .before .before .before .before .before .before .before .before .before .before .before .before .before .before .before .before .args .list .now) (c .before .before .before .before .before .before .before .before .before .before .before .before .before .before .before .before .before .before .before .before .before .before .before .before .before .before .before .before .before .args .n) (c .before .before .before .before .before .before .before .before .before .before .before .before .before .before .before .before .before .before .before .before .before .before .before .before .before .before .before .before .before .args .root) (c .before .before .before .before .before .before .before .before .before .before .before .before .before .before .before .before .before .before .before .before .before .loop .result) (c .before .before .before .before .before .before .before .before .before .before .before .before .before .before .before .before .before .before .before .before .before .loop .count) (c .before .before .before .before .before .before .before .before .before .before .before .before .before .before .before .before .before .before .before .before .before .loop .place) (c .before .before .before .before .before .before .before .before .before .before .before .before .before .before .before .before .before .before .before .before .before .loop .rounds) (c .before .before .before .before .before .before .before .before .before .before .before .before .before .before .before .before .before .before .before .before .before .loop .inv .2) _ _ (c .before .before .before .before .before .before .before .before .before .before .before .before .before .before .normalize-once .ensures) (not-false _ (c .if1 .left)), (c .before .before .before .before .before .before .before .before .before .before .before .before .before .before .normalize-once .kept .1 .1 .1 .1 .0) ∙ (c .before .before .before .before .before .before .before .before .before .before .before .before .before .before .before .before .before .before .before .before .before .loop .inv .3), (c .before .before .before .before .before .before .before .before .before .before .before .before .before .before .normalize-once .kept .1 .1 .1 .1 .1 .0) ∙ (c .before .before .before .before .before .before .before .before .before .before .before .before .before .before .before .before .before .before .before .before .before .loop .inv .4), (c .before .before .before .before .before .before .before .before .before .before .before .before .before .before .normalize-once .kept .1 .1 .1 .1 .1 .1 .0) ∙ (c .before .before .before .before .before .before .before .before .before .before .before .before .before .before .before .before .before .before .before .before .before .loop .inv .5), (c .before .before .before .before .before .before .before .before .before .before .before .before .before .before .normalize-once .kept .1 .1 .1 .1 .1 .1 .1 .0) ∙ (c .before .before .before .before .before .before .before .before .before .before .before .before .before .before .before .before .before .before .before .before .before .loop .inv .6))
+loop-again c =
+    let at-normalize-once = c .before .before .before .before .before .before .before .before .before .before .before .before .before .before in
+    let at-loop = at-normalize-once .before .before .before .before .before .before .before in
+    let start = at-loop .before .before .before .before .before .before .before .before in (
+      (at-normalize-once .normalize-once .kept .0) ∙ (at-loop .loop .inv .0),
+      (at-normalize-once .normalize-once .kept .1 .1 .1 .0) ∙
+          (at-loop .loop .inv .1),
+      running-on (start .args .list .now) (start .args .n) (start .args .root) (at-loop .loop .result)
+          (at-loop .loop .count) (at-loop .loop .place) (at-loop .loop .rounds) (at-loop .loop .inv .2) _ _ (at-normalize-once .normalize-once .ensures)
+          (not-false _ (c .if1 .left)),
+      (at-normalize-once .normalize-once .kept .1 .1 .1 .1 .0) ∙ (at-loop .loop .inv .3),
+      (at-normalize-once .normalize-once .kept .1 .1 .1 .1 .1 .0) ∙ (at-loop .loop .inv .4),
+      (at-normalize-once .normalize-once .kept .1 .1 .1 .1 .1 .1 .0) ∙ (at-loop .loop .inv .5),
+      (at-normalize-once .normalize-once .kept .1 .1 .1 .1 .1 .1 .1 .0) ∙ (at-loop .loop .inv .6),
+    )
 
 pub normalize-rounds-spec : {M : Type 1} → statement M
 normalize-rounds-spec =

@@ -18,7 +18,9 @@ slice-aggregate-normalize-rounds-4 : tie.Need-slice-aggregate-normalize-rounds-4
 slice-aggregate-normalize-rounds-4 c = search needs
 
 normalize-rounds-requires : tie.Need-normalize-rounds-requires
-normalize-rounds-requires c κs = ((c .before .before .before .before .before .before .before .before .before .pre .0), (c .before .before .before .before .before .before .before .before .before .pre .1), scratch-new (c .before .before .before .before .before .before .before .before .before .args .n) 4096 8192 16384 (c .before .before .before .before .before .before .before .before .before .pre .0 .few) refl refl (omega arith))
+normalize-rounds-requires c κs =
+    let start = c .before .before .before .before .before .before .before .before .before in
+    ((start .pre .0), (start .pre .1), scratch-new (start .args .n) 4096 8192 16384 (start .pre .0 .few) refl refl (omega arith))
 
 same-length : tie.Need-same-length
 same-length c = search needs

@@ -12,13 +12,29 @@ fill-requires : tie.Need-fill-requires
 fill-requires c κs = search needs
 
 fanout-requires : tie.Need-fanout-requires
-fanout-requires c κs = Rounded.countable (c .before .before .before .before .before .before .before .before .before .before .before .before .args .result .now) (c .before .before .before .before .before .before .before .before .before .before .before .before .args .n) (c .before .before .before .before .before .before .before .before .before .before .before .before .args .root) _ _ _ _ _ (c .before .before .before .before .before .before .before .before .before .before .before .before .pre .0) (c .before .before .before .before .before .before .before .before .before .before .before .before .pre .2) (c .before .before .before .before .before .before .before .before .before .before .before .before .args .fan .now) _ refl (c .before .before .before .before .fill .ensures)
+fanout-requires c κs =
+    let at-fill = c .before .before .before .before in
+    let start = at-fill .before .before .before .before .before .before .before .before in
+    Rounded.countable (start .args .result .now) (start .args .n) (start .args .root) _ _ _ _ _ (start .pre .0) (start .pre .2) (start .args .fan .now) _
+    refl (at-fill .fill .ensures)
 
 index-list-requires : tie.Need-index-list-requires
 index-list-requires c κs = search needs
 
 round-requires : tie.Need-round-requires
-round-requires c κs = let u = Rounded.linkable (c .before .before .before .before .before .before .before .before .before .before .before .before .before .before .before .before .before .before .before .before .before .before .before .before .before .before .args .result .now) (c .before .before .before .before .before .before .before .before .before .before .before .before .before .before .before .before .before .before .before .before .before .before .before .before .before .before .args .n) (c .before .before .before .before .before .before .before .before .before .before .before .before .before .before .before .before .before .before .before .before .before .before .before .before .before .before .args .root) _ _ _ _ _ (c .before .before .before .before .before .before .before .before .before .before .before .before .before .before .before .before .before .before .before .before .before .before .before .before .before .before .pre .0) (c .before .before .before .before .before .before .before .before .before .before .before .before .before .before .before .before .before .before .before .before .before .before .before .before .before .before .pre .2) (c .before .before .before .before .before .before .before .before .before .before .before .before .before .before .before .before .before .before .before .before .before .before .before .before .before .before .args .links .now) refl in (Rounded.roundable (c .before .before .before .before .before .before .before .before .before .before .before .before .before .before .before .before .before .before .before .before .before .before .before .before .before .before .args .result .now) (c .before .before .before .before .before .before .before .before .before .before .before .before .before .before .before .before .before .before .before .before .before .before .before .before .before .before .args .n) (c .before .before .before .before .before .before .before .before .before .before .before .before .before .before .before .before .before .before .before .before .before .before .before .before .before .before .args .root) _ _ _ _ _ (c .before .before .before .before .before .before .before .before .before .before .before .before .before .before .before .before .before .before .before .before .before .before .before .before .before .before .pre .0) (c .before .before .before .before .before .before .before .before .before .before .before .before .before .before .before .before .before .before .before .before .before .before .before .before .before .before .pre .2) _ _ _ ((c .before .before .before .before .before .before .before .before .before .before .before .before .before .fanout .kept .1 .1 .1 .0) ∙ (c .before .before .before .before .before .before .before .before .before .before .before .before .before .before .before .before .before .before .fill .kept .0)) refl refl, (c .before .before .before .before .before .before .before .before .index-list .ensures), u .0, u .1)
+round-requires c κs =
+    let at-index-list = c .before .before .before .before .before .before .before .before in
+    let at-fanout = at-index-list .before .before .before .before .before in
+    let at-fill = at-fanout .before .before .before .before .before in
+    let start = at-fill .before .before .before .before .before .before .before .before in
+    let u = Rounded.linkable (start .args .result .now) (start .args .n) (start .args .root) _ _ _ _ _ (start .pre .0) (start .pre .2)
+    (start .args .links .now) refl in (
+      Rounded.roundable (start .args .result .now) (start .args .n) (start .args .root) _ _ _ _ _ (start .pre .0)
+          (start .pre .2) _ _ _ ((at-fanout .fanout .kept .1 .1 .1 .0) ∙ (at-fill .fill .kept .0)) refl refl,
+      (at-index-list .index-list .ensures),
+      u .0,
+      u .1,
+    )
 
 same-length : tie.Need-same-length
 same-length c = search needs
@@ -39,16 +55,38 @@ same-length-6 : tie.Need-same-length-6
 same-length-6 c = search needs
 
 returns : tie.Need-returns
-returns c = Rounded.not-fired (c .before .before .before .before .before .before .before .before .before .before .before .before .before .before .before .before .before .before .before .before .before .before .before .before .before .before .before .before .before .before .before .before .before .before .before .args .result .now) (c .before .before .before .before .before .before .before .before .before .before .before .before .before .before .before .before .before .before .before .before .before .before .before .before .before .before .before .before .before .before .before .before .before .before .before .args .n) (c .before .before .before .before .before .before .before .before .before .before .before .before .before .before .before .before .before .before .before .before .before .before .before .before .before .before .before .before .before .before .before .before .before .before .before .args .root) (c .before .before .before .before .before .before .before .before .before .before .before .before .before .before .before .before .before .before .before .before .before .before .fanout .last .1 .1 .1 .0) (c .before .before .before .before .before .before .before .before .before .before .before .before .before .before .before .before .before .before .before .before .before .before .before .before .before .before .before .before .before .before .before .before .before .before .before .pre .0 .sound) (c .before .before .before .before .before .before .before .before .before .before .before .before .before .before .before .before .before .before .before .before .before .before .before .before .before .before .before .before .before .before .before .before .before .before .before .pre .0 .few) (c .before .before .before .before .before .before .before .before .before .before .before .before .before .before .before .before .before .before .before .before .before .before .before .before .before .before .before .before .before .before .before .before .before .before .before .pre .0 .inside) (c .before .before .before .before .before .before .before .before .before .before .before .before .before .before .before .before .before .before .before .before .before .before .fanout .ensures) _ _ _ _ (c .before .before .before .before .before .before .before .before .round .ensures) (not-true _ (c .if1 .taken)) _ refl
+returns c =
+    let at-round = c .before .before .before .before .before .before .before .before in
+    let at-fanout = at-round .before .before .before .before .before .before .before .before .before .before .before .before .before .before in
+    let start = at-fanout .before .before .before .before .before .before .before .before .before .before .before .before .before in
+    Rounded.not-fired (start .args .result .now) (start .args .n) (start .args .root) (at-fanout .fanout .last .1 .1 .1 .0) (start .pre .0 .sound)
+    (start .pre .0 .few) (start .pre .0 .inside) (at-fanout .fanout .ensures) _ _ _ _ (at-round .round .ensures) (not-true _ (c .if1 .taken)) _ refl
 
 mapped-requires : tie.Need-mapped-requires
-mapped-requires c κs = let h = (c .before .before .before .before .before .before .before .before .before .round .kept .1 .1 .1 .1 .1 .1 .0) in omega (arith, h, (c .before .before .before .before .before .before .before .before .before .before .before .before .before .before .before .before .before .before .before .before .before .before .before .before .before .before .before .before .before .before .before .before .before .before .before .before .pre .0 .inside), (c .before .before .before .before .before .before .before .before .before .before .before .before .before .before .before .before .before .before .before .before .before .before .before .before .before .before .before .before .before .before .before .before .before .before .before .before .pre .2 .places-long))
+mapped-requires c κs =
+    let at-round = c .before .before .before .before .before .before .before .before .before in
+    let start = at-round .before .before .before .before .before .before .before .before .before .before .before .before .before .before .before .before .before .before .before .before .before .before .before .before .before .before .before in
+    let h = (at-round .round .kept .1 .1 .1 .1 .1 .1 .0) in omega (arith, h, (start .pre .0 .inside), (start .pre .2 .places-long))
 
 slice-aggregate-number-reachable : tie.Need-slice-aggregate-number-reachable
 slice-aggregate-number-reachable c = search needs
 
 number-reachable-requires : tie.Need-number-reachable-requires
-number-reachable-requires c κs = let h = Rounded.round-short (c .before .before .before .before .before .before .before .before .before .before .before .before .before .before .before .before .before .before .before .before .before .before .before .before .before .before .before .before .before .before .before .before .before .before .before .before .before .before .before .before .args .result .now) (c .before .before .before .before .before .before .before .before .before .before .before .before .before .before .before .before .before .before .before .before .before .before .before .before .before .before .before .before .before .before .before .before .before .before .before .before .before .before .before .before .args .n) (c .before .before .before .before .before .before .before .before .before .before .before .before .before .before .before .before .before .before .before .before .before .before .before .before .before .before .before .before .before .before .before .before .before .before .before .before .before .before .before .before .args .root) (c .before .before .before .before .before .before .before .before .before .before .before .before .before .before .before .before .before .before .before .before .before .before .before .before .before .before .before .fanout .last .1 .1 .1 .0) (c .before .before .before .before .before .before .before .before .before .before .before .before .before .before .before .before .before .before .before .before .before .before .before .before .before .before .before .before .before .before .before .before .before .before .before .before .before .before .before .before .pre .0 .sound) (c .before .before .before .before .before .before .before .before .before .before .before .before .before .before .before .before .before .before .before .before .before .before .before .before .before .before .before .before .before .before .before .before .before .before .before .before .before .before .before .before .pre .0 .few) (c .before .before .before .before .before .before .before .before .before .before .before .before .before .before .before .before .before .before .before .before .before .before .before .before .before .before .before .before .before .before .before .before .before .before .before .before .before .before .before .before .pre .0 .inside) (c .before .before .before .before .before .before .before .before .before .before .before .before .before .before .before .before .before .before .before .before .before .before .before .before .before .before .before .fanout .ensures) _ _ _ _ (c .before .before .before .before .before .before .before .before .before .before .before .before .before .round .ensures) in let k = (c .before .before .before .before .before .before .before .before .before .before .before .before .before .before .before .before .before .before .before .before .before .before .index-list .kept .1 .1 .0) in (Rounded.markable (c .before .before .before .before .before .before .before .before .before .before .before .before .before .before .before .before .before .before .before .before .before .before .before .before .before .before .before .before .before .before .before .before .before .before .before .before .before .before .before .before .args .result .now) (c .before .before .before .before .before .before .before .before .before .before .before .before .before .before .before .before .before .before .before .before .before .before .before .before .before .before .before .before .before .before .before .before .before .before .before .before .before .before .before .before .args .n) (c .before .before .before .before .before .before .before .before .before .before .before .before .before .before .before .before .before .before .before .before .before .before .before .before .before .before .before .before .before .before .before .before .before .before .before .before .before .before .before .before .args .root) (c .before .before .before .before .before .before .before .before .before .before .before .before .before .before .before .before .before .before .before .before .before .before .before .before .before .before .before .fanout .last .1 .1 .1 .0) (c .before .before .before .before .before .before .before .before .before .before .before .before .before .before .before .before .before .before .before .before .before .before .before .before .before .before .before .before .before .before .before .before .before .before .before .before .before .before .before .before .pre .0 .sound) (c .before .before .before .before .before .before .before .before .before .before .before .before .before .before .before .before .before .before .before .before .before .before .before .before .before .before .before .before .before .before .before .before .before .before .before .before .before .before .before .before .pre .0 .few) (c .before .before .before .before .before .before .before .before .before .before .before .before .before .before .before .before .before .before .before .before .before .before .before .before .before .before .before .before .before .before .before .before .before .before .before .before .before .before .before .before .pre .0 .inside) (c .before .before .before .before .before .before .before .before .before .before .before .before .before .before .before .before .before .before .before .before .before .before .before .before .before .before .before .fanout .ensures) _ _ _ _ (c .before .before .before .before .before .before .before .before .before .before .before .before .before .round .ensures) _ (c .before .before .before .mapped .ensures), refl, omega (arith, h, k, (c .before .before .before .before .before .before .before .before .before .before .before .before .before .before .before .before .before .before .before .before .before .before .before .before .before .before .before .before .before .before .before .before .before .before .before .before .before .before .before .before .pre .2 .own-long)))
+number-reachable-requires c κs =
+    let at-mapped = c .before .before .before in
+    let at-round = at-mapped .before .before .before .before .before .before .before .before .before .before in
+    let at-index-list = at-round .before .before .before .before .before .before .before .before .before in
+    let at-fanout = at-index-list .before .before .before .before .before in
+    let start = at-fanout .before .before .before .before .before .before .before .before .before .before .before .before .before in
+    let h = Rounded.round-short (start .args .result .now) (start .args .n) (start .args .root) (at-fanout .fanout .last .1 .1 .1 .0)
+    (start .pre .0 .sound) (start .pre .0 .few) (start .pre .0 .inside) (at-fanout .fanout .ensures) _ _ _ _ (at-round .round .ensures) in let k =
+    (at-index-list .index-list .kept .1 .1 .0) in (
+      Rounded.markable (start .args .result .now) (start .args .n) (start .args .root)
+          (at-fanout .fanout .last .1 .1 .1 .0) (start .pre .0 .sound) (start .pre .0 .few) (start .pre .0 .inside) (at-fanout .fanout .ensures) _ _ _ _
+          (at-round .round .ensures) _ (at-mapped .mapped .ensures),
+      refl,
+      omega (arith, h, k, (start .pre .2 .own-long)),
+    )
 
 same-length-7 : tie.Need-same-length-7
 same-length-7 c = search needs
@@ -57,7 +95,10 @@ same-length-8 : tie.Need-same-length-8
 same-length-8 c = search needs
 
 same-length-9 : tie.Need-same-length-9
-same-length-9 c = (c .before .before .before .before .before .before .before .before .before .before .before .before .before .before .before .before .before .before .before .before .before .before .before .before .before .before .before .before .before .before .before .before .fanout .kept .1 .1 .1 .0) ∙ (c .before .before .before .before .before .before .before .before .before .before .before .before .before .before .before .before .before .before .before .before .before .before .before .before .before .before .before .before .before .before .before .before .before .before .before .before .before .fill .kept .0)
+same-length-9 c =
+    let at-fanout = c .before .before .before .before .before .before .before .before .before .before .before .before .before .before .before .before .before .before .before .before .before .before .before .before .before .before .before .before .before .before .before .before in
+    let at-fill = at-fanout .before .before .before .before .before in
+    (at-fanout .fanout .kept .1 .1 .1 .0) ∙ (at-fill .fill .kept .0)
 
 same-length-10 : tie.Need-same-length-10
 same-length-10 c = search needs
@@ -69,13 +110,34 @@ same-length-12 : tie.Need-same-length-12
 same-length-12 c = search needs
 
 returns-2 : tie.Need-returns-2
-returns-2 c = Rounded.no-shorter (c .before .before .before .before .before .before .before .before .before .before .before .before .before .before .before .before .before .before .before .before .before .before .before .before .before .before .before .before .before .before .before .before .before .before .before .before .before .before .before .before .before .before .before .before .before .args .result .now) (c .before .before .before .before .before .before .before .before .before .before .before .before .before .before .before .before .before .before .before .before .before .before .before .before .before .before .before .before .before .before .before .before .before .before .before .before .before .before .before .before .before .before .before .before .before .args .n) (c .before .before .before .before .before .before .before .before .before .before .before .before .before .before .before .before .before .before .before .before .before .before .before .before .before .before .before .before .before .before .before .before .before .before .before .before .before .before .before .before .before .before .before .before .before .args .root) (c .before .before .before .before .before .before .before .before .before .before .before .before .before .before .before .before .before .before .before .before .before .before .before .before .before .before .before .before .before .before .before .before .fanout .last .1 .1 .1 .0) (c .before .before .before .before .before .before .before .before .before .before .before .before .before .before .before .before .before .before .before .before .before .before .before .before .before .before .before .before .before .before .before .before .before .before .before .before .before .before .before .before .before .before .before .before .before .pre .0 .sound) (c .before .before .before .before .before .before .before .before .before .before .before .before .before .before .before .before .before .before .before .before .before .before .before .before .before .before .before .before .before .before .before .before .before .before .before .before .before .before .before .before .before .before .before .before .before .pre .0 .few) (c .before .before .before .before .before .before .before .before .before .before .before .before .before .before .before .before .before .before .before .before .before .before .before .before .before .before .before .before .before .before .before .before .before .before .before .before .before .before .before .before .before .before .before .before .before .pre .0 .inside) (c .before .before .before .before .before .before .before .before .before .before .before .before .before .before .before .before .before .before .before .before .before .before .before .before .before .before .before .before .before .before .before .before .fanout .ensures) _ _ _ _ (c .before .before .before .before .before .before .before .before .before .before .before .before .before .before .before .before .before .before .round .ensures) _ (c .before .before .before .before .before .before .before .before .mapped .ensures) _ (c .before .before .before .before .number-reachable .ensures .0) (omega (arith, (c .if2 .taken))) _ refl
+returns-2 c =
+    let at-number-reachable = c .before .before .before .before in
+    let at-mapped = at-number-reachable .before .before .before .before in
+    let at-round = at-mapped .before .before .before .before .before .before .before .before .before .before in
+    let at-fanout = at-round .before .before .before .before .before .before .before .before .before .before .before .before .before .before in
+    let start = at-fanout .before .before .before .before .before .before .before .before .before .before .before .before .before in
+    Rounded.no-shorter (start .args .result .now) (start .args .n) (start .args .root) (at-fanout .fanout .last .1 .1 .1 .0) (start .pre .0 .sound)
+    (start .pre .0 .few) (start .pre .0 .inside) (at-fanout .fanout .ensures) _ _ _ _ (at-round .round .ensures) _ (at-mapped .mapped .ensures) _
+    (at-number-reachable .number-reachable .ensures .0) (omega (arith, (c .if2 .taken))) _ refl
 
 slice-aggregate-write-numbered : tie.Need-slice-aggregate-write-numbered
 slice-aggregate-write-numbered c = search needs
 
 write-numbered-requires : tie.Need-write-numbered-requires
-write-numbered-requires c κs = ((c .before .before .before .before .before .before .before .before .number-reachable .ensures .1), Rounded.write-fits (c .before .before .before .before .before .before .before .before .before .before .before .before .before .before .before .before .before .before .before .before .before .before .before .before .before .before .before .before .before .before .before .before .before .before .before .before .before .before .before .before .before .before .before .before .before .before .before .before .before .args .result .now) (c .before .before .before .before .before .before .before .before .before .before .before .before .before .before .before .before .before .before .before .before .before .before .before .before .before .before .before .before .before .before .before .before .before .before .before .before .before .before .before .before .before .before .before .before .before .before .before .before .before .args .n) (c .before .before .before .before .before .before .before .before .before .before .before .before .before .before .before .before .before .before .before .before .before .before .before .before .before .before .before .before .before .before .before .before .before .before .before .before .before .before .before .before .before .before .before .before .before .before .before .before .before .args .root) (c .before .before .before .before .before .before .before .before .before .before .before .before .before .before .before .before .before .before .before .before .before .before .before .before .before .before .before .before .before .before .before .before .before .before .before .before .fanout .last .1 .1 .1 .0) (c .before .before .before .before .before .before .before .before .before .before .before .before .before .before .before .before .before .before .before .before .before .before .before .before .before .before .before .before .before .before .before .before .before .before .before .before .before .before .before .before .before .before .before .before .before .before .before .before .before .pre .0 .sound) (c .before .before .before .before .before .before .before .before .before .before .before .before .before .before .before .before .before .before .before .before .before .before .before .before .before .before .before .before .before .before .before .before .before .before .before .before .before .before .before .before .before .before .before .before .before .before .before .before .before .pre .0 .few) (c .before .before .before .before .before .before .before .before .before .before .before .before .before .before .before .before .before .before .before .before .before .before .before .before .before .before .before .before .before .before .before .before .before .before .before .before .before .before .before .before .before .before .before .before .before .before .before .before .before .pre .0 .inside) (c .before .before .before .before .before .before .before .before .before .before .before .before .before .before .before .before .before .before .before .before .before .before .before .before .before .before .before .before .before .before .before .before .before .before .before .before .fanout .ensures) _ _ _ _ (c .before .before .before .before .before .before .before .before .before .before .before .before .before .before .before .before .before .before .before .before .before .before .round .ensures) _ (c .before .before .before .before .before .before .before .before .before .before .before .before .mapped .ensures) (not-false _ (c .before .before .before .before .before .before .before .before .before .before .before .before .before .before .if1 .left)) _ (c .before .before .before .before .before .before .before .before .number-reachable .ensures .0) (omega (arith, (c .before .before .before .before .if2 .left))) _ (c .before .before .before .before .before .before .before .before .before .before .before .before .before .before .before .before .before .before .before .before .before .before .before .before .before .before .before .before .before .before .before .before .before .before .before .before .before .before .before .before .before .before .before .before .before .before .before .before .before .pre .1))
+write-numbered-requires c κs =
+    let at-if2 = c .before .before .before .before in
+    let at-number-reachable = at-if2 .before .before .before .before in
+    let at-mapped = at-number-reachable .before .before .before .before in
+    let at-if1 = at-mapped .before .before in
+    let at-round = at-if1 .before .before .before .before .before .before .before .before in
+    let at-fanout = at-round .before .before .before .before .before .before .before .before .before .before .before .before .before .before in
+    let start = at-fanout .before .before .before .before .before .before .before .before .before .before .before .before .before in (
+      (at-number-reachable .number-reachable .ensures .1),
+      Rounded.write-fits (start .args .result .now) (start .args .n) (start .args .root)
+          (at-fanout .fanout .last .1 .1 .1 .0) (start .pre .0 .sound) (start .pre .0 .few) (start .pre .0 .inside) (at-fanout .fanout .ensures) _ _ _ _
+          (at-round .round .ensures) _ (at-mapped .mapped .ensures) (not-false _ (at-if1 .if1 .left)) _
+          (at-number-reachable .number-reachable .ensures .0) (omega (arith, (at-if2 .if2 .left))) _ (start .pre .1),
+    )
 
 same-length-13 : tie.Need-same-length-13
 same-length-13 c = search needs
@@ -84,20 +146,39 @@ same-length-14 : tie.Need-same-length-14
 same-length-14 c = search needs
 
 same-length-15 : tie.Need-same-length-15
-same-length-15 c = (c .before .before .before .before .before .before .before .before .before .before .before .before .before .before .before .before .before .before .before .before .before .before .before .before .before .before .before .before .before .before .before .before .before .before .before .before .before .before .before .fanout .kept .1 .1 .1 .0) ∙ (c .before .before .before .before .before .before .before .before .before .before .before .before .before .before .before .before .before .before .before .before .before .before .before .before .before .before .before .before .before .before .before .before .before .before .before .before .before .before .before .before .before .before .before .before .fill .kept .0)
+same-length-15 c =
+    let at-fanout = c .before .before .before .before .before .before .before .before .before .before .before .before .before .before .before .before .before .before .before .before .before .before .before .before .before .before .before .before .before .before .before .before .before .before .before .before .before .before .before in
+    let at-fill = at-fanout .before .before .before .before .before in
+    (at-fanout .fanout .kept .1 .1 .1 .0) ∙ (at-fill .fill .kept .0)
 
 same-length-16 : tie.Need-same-length-16
 same-length-16 c = search needs
 
 same-length-17 : tie.Need-same-length-17
-same-length-17 c = (c .before .before .before .before .before .before .before .before .before .before .before .number-reachable .kept .1 .1 .1 .1 .0) ∙ (c .before .before .before .before .before .before .before .before .before .before .before .before .before .before .before .before .before .before .before .before .before .before .before .before .before .before .before .before .before .before .before .before .before .before .index-list .kept .1 .1 .0)
+same-length-17 c =
+    let at-number-reachable = c .before .before .before .before .before .before .before .before .before .before .before in
+    let at-index-list = at-number-reachable .before .before .before .before .before .before .before .before .before .before .before .before .before .before .before .before .before .before .before .before .before .before .before in
+    (at-number-reachable .number-reachable .kept .1 .1 .1 .1 .0) ∙ (at-index-list .index-list .kept .1 .1 .0)
 
 same-length-18 : tie.Need-same-length-18
 same-length-18 c = search needs
 
 returns-3 : tie.Need-returns-3
 unfolding Calls.keptOf
-returns-3 c = Rounded.kept-once (c .before .before .before .before .before .before .before .before .before .before .before .before .before .before .before .before .before .before .before .before .before .before .before .before .before .before .before .before .before .before .before .before .before .before .before .before .before .before .before .before .before .before .before .before .before .before .before .before .before .before .before .before .args .result .now) (c .before .before .before .before .before .before .before .before .before .before .before .before .before .before .before .before .before .before .before .before .before .before .before .before .before .before .before .before .before .before .before .before .before .before .before .before .before .before .before .before .before .before .before .before .before .before .before .before .before .before .before .before .args .n) (c .before .before .before .before .before .before .before .before .before .before .before .before .before .before .before .before .before .before .before .before .before .before .before .before .before .before .before .before .before .before .before .before .before .before .before .before .before .before .before .before .before .before .before .before .before .before .before .before .before .before .before .before .args .root) (c .before .before .before .before .before .before .before .before .before .before .before .before .before .before .before .before .before .before .before .before .before .before .before .before .before .before .before .before .before .before .before .before .before .before .before .before .before .before .before .fanout .last .1 .1 .1 .0) (c .before .before .before .before .before .before .before .before .before .before .before .before .before .before .before .before .before .before .before .before .before .before .before .before .before .before .before .before .before .before .before .before .before .before .before .before .before .before .before .before .before .before .before .before .before .before .before .before .before .before .before .before .pre .0 .sound) (c .before .before .before .before .before .before .before .before .before .before .before .before .before .before .before .before .before .before .before .before .before .before .before .before .before .before .before .before .before .before .before .before .before .before .before .before .before .before .before .before .before .before .before .before .before .before .before .before .before .before .before .before .pre .0 .few) (c .before .before .before .before .before .before .before .before .before .before .before .before .before .before .before .before .before .before .before .before .before .before .before .before .before .before .before .before .before .before .before .before .before .before .before .before .before .before .before .before .before .before .before .before .before .before .before .before .before .before .before .before .pre .0 .inside) (c .before .before .before .before .before .before .before .before .before .before .before .before .before .before .before .before .before .before .before .before .before .before .before .before .before .before .before .before .before .before .before .before .before .before .before .before .before .before .before .fanout .ensures) _ _ _ _ (c .before .before .before .before .before .before .before .before .before .before .before .before .before .before .before .before .before .before .before .before .before .before .before .before .before .round .ensures) _ (c .before .before .before .before .before .before .before .before .before .before .before .before .before .before .before .mapped .ensures) (not-false _ (c .before .before .before .before .before .before .before .before .before .before .before .before .before .before .before .before .before .if1 .left)) _ (c .before .before .before .before .before .before .before .before .before .before .before .number-reachable .ensures .0) (omega (arith, (c .before .before .before .before .before .before .before .if2 .left))) _ (kept-of _ _) (ap₂ kept-of (c .before .before .before .before .before .before .before .before .before .before .before .number-reachable .ensures .0) (c .before .before .write-numbered .ensures .0)) (c .before .before .write-numbered .ensures .1) _ refl refl refl
+returns-3 c =
+    let at-write-numbered = c .before .before in
+    let at-if2 = at-write-numbered .before .before .before .before .before in
+    let at-number-reachable = at-if2 .before .before .before .before in
+    let at-mapped = at-number-reachable .before .before .before .before in
+    let at-if1 = at-mapped .before .before in
+    let at-round = at-if1 .before .before .before .before .before .before .before .before in
+    let at-fanout = at-round .before .before .before .before .before .before .before .before .before .before .before .before .before .before in
+    let start = at-fanout .before .before .before .before .before .before .before .before .before .before .before .before .before in
+    Rounded.kept-once (start .args .result .now) (start .args .n) (start .args .root) (at-fanout .fanout .last .1 .1 .1 .0) (start .pre .0 .sound)
+    (start .pre .0 .few) (start .pre .0 .inside) (at-fanout .fanout .ensures) _ _ _ _ (at-round .round .ensures) _ (at-mapped .mapped .ensures)
+    (not-false _ (at-if1 .if1 .left)) _ (at-number-reachable .number-reachable .ensures .0) (omega (arith, (at-if2 .if2 .left))) _ (kept-of _ _)
+    (ap₂ kept-of (at-number-reachable .number-reachable .ensures .0) (at-write-numbered .write-numbered .ensures .0))
+    (at-write-numbered .write-numbered .ensures .1) _ refl refl refl
 
 pub once-in-spec : {M : Type 1} → statement M
 once-in-spec =

@@ -9,13 +9,25 @@ enum-known-x : tie.Need-enum-known-x
 enum-known-x c = search needs
 
 add-plan-requires : tie.Need-add-plan-requires
-add-plan-requires c κs = (planned-add (c .before .before .before .before .before .before .args .list .now) (c .before .before .before .before .before .before .args .n) (c .before .before .before .before .before .before .args .fan .now) (c .before .before .before .before .before .before .args .i) (c .before .before .before .before .before .before .args .x) (c .before .before .before .before .before .before .pre .0) _ _ (c .before .x .given .1) .0, planned-add (c .before .before .before .before .before .before .args .list .now) (c .before .before .before .before .before .before .args .n) (c .before .before .before .before .before .before .args .fan .now) (c .before .before .before .before .before .before .args .i) (c .before .before .before .before .before .before .args .x) (c .before .before .before .before .before .before .pre .0) _ _ (c .before .x .given .1) .1, (c .before .before .before .before .before .before .pre .1))
+add-plan-requires c κs =
+    let at-x = c .before in
+    let start = at-x .before .before .before .before .before in (
+      planned-add (start .args .list .now) (start .args .n) (start .args .fan .now) (start .args .i) (start .args .x) (start .pre .0) _ _
+          (at-x .x .given .1) .0,
+      planned-add (start .args .list .now) (start .args .n) (start .args .fan .now) (start .args .i) (start .args .x)
+          (start .pre .0) _ _ (at-x .x .given .1) .1,
+      (start .pre .1),
+    )
 
 enum-known-x-2 : tie.Need-enum-known-x-2
 enum-known-x-2 c = search needs
 
 common-factor-requires : tie.Need-common-factor-requires
-common-factor-requires c κs = planned-sub (c .before .before .before .before .before .before .args .list .now) (c .before .before .before .before .before .before .args .n) (c .before .before .before .before .before .before .args .fan .now) (c .before .before .before .before .before .before .args .i) (c .before .before .before .before .before .before .args .x) (c .before .before .before .before .before .before .pre .0) _ _ (c .before .x2 .given .1)
+common-factor-requires c κs =
+    let at-x2 = c .before in
+    let start = at-x2 .before .before .before .before .before in
+    planned-sub (start .args .list .now) (start .args .n) (start .args .fan .now) (start .args .i) (start .args .x) (start .pre .0) _ _
+    (at-x2 .x2 .given .1)
 
 factor-plan-requires : tie.Need-factor-plan-requires
 factor-plan-requires c κs = search needs
@@ -24,7 +36,15 @@ enum-known-x-3 : tie.Need-enum-known-x-3
 enum-known-x-3 c = search needs
 
 either-rotation-requires : tie.Need-either-rotation-requires
-either-rotation-requires c κs = (planned-mul (c .before .before .before .before .before .before .args .list .now) (c .before .before .before .before .before .before .args .n) (c .before .before .before .before .before .before .args .fan .now) (c .before .before .before .before .before .before .args .i) (c .before .before .before .before .before .before .args .x) (c .before .before .before .before .before .before .pre .0) _ _ (c .before .x3 .given .1) .0, planned-mul (c .before .before .before .before .before .before .args .list .now) (c .before .before .before .before .before .before .args .n) (c .before .before .before .before .before .before .args .fan .now) (c .before .before .before .before .before .before .args .i) (c .before .before .before .before .before .before .args .x) (c .before .before .before .before .before .before .pre .0) _ _ (c .before .x3 .given .1) .1, (c .before .before .before .before .before .before .pre .1))
+either-rotation-requires c κs =
+    let at-x3 = c .before in
+    let start = at-x3 .before .before .before .before .before in (
+      planned-mul (start .args .list .now) (start .args .n) (start .args .fan .now) (start .args .i) (start .args .x) (start .pre .0) _ _
+          (at-x3 .x3 .given .1) .0,
+      planned-mul (start .args .list .now) (start .args .n) (start .args .fan .now) (start .args .i) (start .args .x)
+          (start .pre .0) _ _ (at-x3 .x3 .given .1) .1,
+      (start .pre .1),
+    )
 
 rotation-plan-requires : tie.Need-rotation-plan-requires
 rotation-plan-requires c κs = search needs
@@ -39,22 +59,42 @@ enum-told-3 : tie.Need-enum-told-3
 enum-told-3 c = search needs
 
 returns : tie.Need-returns
-returns c = plan-add (nodes (c .before .before .before .before .before .before .before .args .list .now) (c .before .before .before .before .before .before .before .args .n)) (read (c .before .before .before .before .before .before .before .args .fan .now)) (c .before .before .before .before .before .before .before .args .i) _ _ _ _ (c .before .before .x .given .1) (c .add-plan .ensures)
+returns c =
+    let at-x = c .before .before in
+    let start = at-x .before .before .before .before .before in
+    plan-add (nodes (start .args .list .now) (start .args .n)) (read (start .args .fan .now)) (start .args .i) _ _ _ _ (at-x .x .given .1)
+    (c .add-plan .ensures)
 
 returns-2 : tie.Need-returns-2
-returns-2 c = plan-sub (nodes (c .before .before .before .before .before .before .before .before .args .list .now) (c .before .before .before .before .before .before .before .before .args .n)) (read (c .before .before .before .before .before .before .before .before .args .fan .now)) (c .before .before .before .before .before .before .before .before .args .i) _ _ _ _ _ (c .before .before .before .x2 .given .1) (c .before .common-factor .ensures) (c .factor-plan .ensures)
+returns-2 c =
+    let at-common-factor = c .before in
+    let at-x2 = at-common-factor .before .before in
+    let start = at-x2 .before .before .before .before .before in
+    plan-sub (nodes (start .args .list .now) (start .args .n)) (read (start .args .fan .now)) (start .args .i) _ _ _ _ _ (at-x2 .x2 .given .1)
+    (at-common-factor .common-factor .ensures) (c .factor-plan .ensures)
 
 returns-3 : tie.Need-returns-3
-returns-3 c = plan-mul (nodes (c .before .before .before .before .before .before .before .before .args .list .now) (c .before .before .before .before .before .before .before .before .args .n)) (read (c .before .before .before .before .before .before .before .before .args .fan .now)) (c .before .before .before .before .before .before .before .before .args .i) _ _ _ _ _ (c .before .before .before .x3 .given .1) (c .before .either-rotation .ensures) (c .rotation-plan .ensures)
+returns-3 c =
+    let at-either-rotation = c .before in
+    let at-x3 = at-either-rotation .before .before in
+    let start = at-x3 .before .before .before .before .before in
+    plan-mul (nodes (start .args .list .now) (start .args .n)) (read (start .args .fan .now)) (start .args .i) _ _ _ _ _ (at-x3 .x3 .given .1)
+    (at-either-rotation .either-rotation .ensures) (c .rotation-plan .ensures)
 
 returns-4 : tie.Need-returns-4
-returns-4 c = plan-neg (nodes (c .before .before .before .before .before .args .list .now) (c .before .before .before .before .before .args .n)) (read (c .before .before .before .before .before .args .fan .now)) (c .before .before .before .before .before .args .i) _ _ (c .enum-told .given .1)
+returns-4 c =
+    let start = c .before .before .before .before .before in
+    plan-neg (nodes (start .args .list .now) (start .args .n)) (read (start .args .fan .now)) (start .args .i) _ _ (c .enum-told .given .1)
 
 returns-5 : tie.Need-returns-5
-returns-5 c = plan-input (nodes (c .before .before .before .before .before .args .list .now) (c .before .before .before .before .before .args .n)) (read (c .before .before .before .before .before .args .fan .now)) (c .before .before .before .before .before .args .i) _ _ (c .enum-told2 .given .1)
+returns-5 c =
+    let start = c .before .before .before .before .before in
+    plan-input (nodes (start .args .list .now) (start .args .n)) (read (start .args .fan .now)) (start .args .i) _ _ (c .enum-told2 .given .1)
 
 returns-6 : tie.Need-returns-6
-returns-6 c = plan-constant (nodes (c .before .before .before .before .before .args .list .now) (c .before .before .before .before .before .args .n)) (read (c .before .before .before .before .before .args .fan .now)) (c .before .before .before .before .before .args .i) _ _ (c .enum-told3 .given .1)
+returns-6 c =
+    let start = c .before .before .before .before .before in
+    plan-constant (nodes (start .args .list .now) (start .args .n)) (read (start .args .fan .now)) (start .args .i) _ _ (c .enum-told3 .given .1)
 
 pub plan-of-spec : {M : Type 1} → statement M
 plan-of-spec =

@@ -18,22 +18,55 @@ abbrev μ-loop : tie.MeasureT-loop
 μ-loop list n own fan work₀ links₀ map₀ count₀ fired₀ i₀ work links map count fired i = n - i
 
 clear-requires : tie.Need-clear-requires Inv-loop μ-loop
-clear-requires c κs = (c .before .before .before .before .before .before .before .pre .2)
+clear-requires c κs =
+    let start = c .before .before .before .before .before .before .before in
+    (start .pre .2)
 
 loop-holds : tie.Need-loop-holds Inv-loop μ-loop
 unfolding Nodes.nodes
 loop-holds c = (omega arith, refl, refl, Turn.round-begins _ _ _ _ _, refl, (c .before .before .clear .ensures))
 
 node-at-requires : tie.Need-node-at-requires Inv-loop μ-loop
-node-at-requires c κs = omega (arith, (c .before .before .before .before .before .before .before .before .before .before .before .before .pre .0 .sound .room), (c .loop-test .taken))
+node-at-requires c κs =
+    let start = c .before .before .before .before .before .before .before .before .before .before .before .before in
+    omega (arith, (start .pre .0 .sound .room), (c .loop-test .taken))
 
 plan-of-requires : tie.Need-plan-of-requires Inv-loop μ-loop
-plan-of-requires c κs = (Turn.turn-planning (c .before .before .before .before .before .before .before .before .before .before .before .before .before .args .list .now) (c .before .before .before .before .before .before .before .before .before .before .before .before .before .args .n) (c .before .before .before .before .before .before .before .before .before .before .before .before .before .args .fan .now) (c .before .before .before .before .before .before .before .before .before .before .before .before .before .args .work .now) (c .before .before .before .before .before .before .before .before .before .before .before .before .before .args .map .now) (c .before .before .before .before .before .before .before .before .before .before .before .before .before .pre .0) (c .before .before .loop .i) (c .before .before .loop .work) (c .before .before .loop .map) (c .before .before .loop .count) (c .before .before .loop .fired) (c .before .before .loop .inv .1) (c .before .before .loop .inv .2) (c .before .before .loop .inv .3) (c .before .loop-test .taken) _ ((c .node-at .ensures) ∙ sym (at-nodes _ _ _ (c .before .loop-test .taken))), (c .before .before .before .before .before .before .before .before .before .before .before .before .before .pre .1))
+plan-of-requires c κs =
+    let at-loop-test = c .before in
+    let at-loop = at-loop-test .before in
+    let start = at-loop .before .before .before .before .before .before .before .before .before .before .before in (
+      Turn.turn-planning (start .args .list .now) (start .args .n) (start .args .fan .now) (start .args .work .now) (start .args .map .now)
+          (start .pre .0) (at-loop .loop .i) (at-loop .loop .work) (at-loop .loop .map) (at-loop .loop .count) (at-loop .loop .fired)
+          (at-loop .loop .inv .1) (at-loop .loop .inv .2) (at-loop .loop .inv .3) (at-loop-test .loop-test .taken) _
+          ((c .node-at .ensures) ∙ sym (at-nodes _ _ _ (at-loop-test .loop-test .taken))),
+      (start .pre .1),
+    )
 
 enter-planned-requires : tie.Need-enter-planned-requires Inv-loop μ-loop
 enter-planned-requires c κs =
-    let h = Turn.round-count (c .before .before .before .before .before .before .before .before .before .before .before .before .before .before .before .before .before .args .list .now) (c .before .before .before .before .before .before .before .before .before .before .before .before .before .before .before .before .before .args .n) (c .before .before .before .before .before .before .before .before .before .before .before .before .before .before .before .before .before .args .fan .now) (c .before .before .before .before .before .before .before .before .before .before .before .before .before .before .before .before .before .args .work .now) (c .before .before .before .before .before .before .before .before .before .before .before .before .before .before .before .before .before .args .map .now) (c .before .before .before .before .before .before .before .before .before .before .before .before .before .before .before .before .before .pre .0) (c .before .before .before .before .before .before .loop .i) (c .before .before .before .before .before .before .loop .work) (c .before .before .before .before .before .before .loop .map) (c .before .before .before .before .before .before .loop .count) (c .before .before .before .before .before .before .loop .fired) (c .before .before .before .before .before .before .loop .inv .1) (c .before .before .before .before .before .before .loop .inv .2) (c .before .before .before .before .before .before .loop .inv .3) in
-    (((c .before .before .before .before .before .before .loop .i), Turn.turn-entering (c .before .before .before .before .before .before .before .before .before .before .before .before .before .before .before .before .before .args .list .now) (c .before .before .before .before .before .before .before .before .before .before .before .before .before .before .before .before .before .args .n) (c .before .before .before .before .before .before .before .before .before .before .before .before .before .before .before .before .before .args .fan .now) (c .before .before .before .before .before .before .before .before .before .before .before .before .before .before .before .before .before .args .work .now) (c .before .before .before .before .before .before .before .before .before .before .before .before .before .before .before .before .before .args .map .now) (c .before .before .before .before .before .before .before .before .before .before .before .before .before .before .before .before .before .pre .0) (c .before .before .before .before .before .before .loop .i) (c .before .before .before .before .before .before .loop .work) (c .before .before .before .before .before .before .loop .map) (c .before .before .before .before .before .before .loop .count) (c .before .before .before .before .before .before .loop .fired) (c .before .before .before .before .before .before .loop .inv .1) (c .before .before .before .before .before .before .loop .inv .2) (c .before .before .before .before .before .before .loop .inv .3) (c .before .before .before .before .before .loop-test .taken) _ ((c .before .before .before .before .node-at .ensures) ∙ sym (at-nodes _ _ _ (c .before .before .before .before .before .loop-test .taken))) _ (c .before .before .before .plan-of .ensures)), record { index = (c .before .before .before .before .before .before .loop .inv .5); room = rw ((c .before .before .before .before .before .before .loop .inv .4), (c .before .before .before .before .before .before .before .before .before .clear .kept .0)) (omega (arith, h, (c .before .before .before .before .before .before .before .before .before .before .before .before .before .before .before .before .before .pre .3), (c .before .before .before .before .before .loop-test .taken))) })
+    let at-plan-of = c .before .before .before in
+    let at-node-at = at-plan-of .before in
+    let at-loop-test = at-node-at .before in
+    let at-loop = at-loop-test .before in
+    let at-clear = at-loop .before .before .before in
+    let start = at-clear .before .before .before .before .before .before .before .before in
+    let h = Turn.round-count (start .args .list .now) (start .args .n) (start .args .fan .now) (start .args .work .now) (start .args .map .now)
+    (start .pre .0) (at-loop .loop .i) (at-loop .loop .work) (at-loop .loop .map) (at-loop .loop .count) (at-loop .loop .fired)
+    (at-loop .loop .inv .1) (at-loop .loop .inv .2) (at-loop .loop .inv .3) in (
+      (
+        (at-loop .loop .i),
+        Turn.turn-entering (start .args .list .now) (start .args .n) (start .args .fan .now) (start .args .work .now)
+            (start .args .map .now) (start .pre .0) (at-loop .loop .i) (at-loop .loop .work) (at-loop .loop .map) (at-loop .loop .count)
+            (at-loop .loop .fired) (at-loop .loop .inv .1) (at-loop .loop .inv .2) (at-loop .loop .inv .3) (at-loop-test .loop-test .taken) _
+            ((at-node-at .node-at .ensures) ∙ sym (at-nodes _ _ _ (at-loop-test .loop-test .taken))) _ (at-plan-of .plan-of .ensures),
+      ),
+      record {
+        index = (at-loop .loop .inv .5);
+        room = rw ((at-loop .loop .inv .4), (at-clear .clear .kept .0))
+            (omega (arith, h, (start .pre .3), (at-loop-test .loop-test .taken)));
+      },
+    )
 
 fires-requires : tie.Need-fires-requires Inv-loop μ-loop
 fires-requires c κs = tt
@@ -42,19 +75,50 @@ either-requires : tie.Need-either-requires Inv-loop μ-loop
 either-requires c κs = tt
 
 mul-map : tie.Need-mul-map Inv-loop μ-loop
-mul-map c = omega (arith, (c .before .before .before .before .before .before .before .before .before .before .before .before .before .before .before .before .before .before .before .before .before .before .before .before .pre .0 .few), (c .before .before .before .before .before .before .before .before .before .before .before .before .loop-test .taken))
+mul-map c =
+    let at-loop-test = c .before .before .before .before .before .before .before .before .before .before .before .before in
+    let start = at-loop-test .before .before .before .before .before .before .before .before .before .before .before .before in
+    omega (arith, (start .pre .0 .few), (at-loop-test .loop-test .taken))
 
 slice-write-map : tie.Need-slice-write-map Inv-loop μ-loop
-slice-write-map c = omega (arith, (c .before .before .before .before .before .before .before .before .before .before .before .before .before .before .before .before .before .before .before .before .before .before .before .before .pre .0 .map-fits), (c .before .before .before .before .before .before .before .before .before .before .before .before .loop-test .taken), (c .before .before .before .before .before .before .before .before .before .before .before .before .before .loop .inv .2))
+slice-write-map c =
+    let at-loop-test = c .before .before .before .before .before .before .before .before .before .before .before .before in
+    let at-loop = at-loop-test .before in
+    let start = at-loop .before .before .before .before .before .before .before .before .before .before .before in
+    omega (arith, (start .pre .0 .map-fits), (at-loop-test .loop-test .taken), (at-loop .loop .inv .2))
 
 add-i : tie.Need-add-i Inv-loop μ-loop
-add-i c = omega (arith, (c .before .before .before .before .before .before .before .before .before .before .before .before .before .before .before .before .before .before .before .before .before .before .before .before .pre .0 .few), (c .before .before .before .before .before .before .before .before .before .before .before .before .loop-test .taken))
+add-i c =
+    let at-loop-test = c .before .before .before .before .before .before .before .before .before .before .before .before in
+    let start = at-loop-test .before .before .before .before .before .before .before .before .before .before .before .before in
+    omega (arith, (start .pre .0 .few), (at-loop-test .loop-test .taken))
 
 loop-less : tie.Need-loop-less Inv-loop μ-loop
-loop-less c = omega (arith, (c .before .before .before .before .before .before .before .before .before .before .before .before .loop-test .taken))
+loop-less c =
+    let at-loop-test = c .before .before .before .before .before .before .before .before .before .before .before .before in
+    omega (arith, (at-loop-test .loop-test .taken))
 
 loop-again : tie.Need-loop-again Inv-loop μ-loop
-loop-again c = (omega (arith, (c .before .before .before .before .before .before .before .before .before .before .before .before .loop-test .taken)), (c .before .before .before .before .before .before .enter-planned .kept .0) ∙ (c .before .before .before .before .before .before .before .before .before .before .before .before .before .loop .inv .1), simp length-set (c .before .before .before .before .before .before .before .before .before .before .before .before .before .loop .inv .2), Turn.turn-held (c .before .before .before .before .before .before .before .before .before .before .before .before .before .before .before .before .before .before .before .before .before .before .before .before .args .list .now) (c .before .before .before .before .before .before .before .before .before .before .before .before .before .before .before .before .before .before .before .before .before .before .before .before .args .n) (c .before .before .before .before .before .before .before .before .before .before .before .before .before .before .before .before .before .before .before .before .before .before .before .before .args .fan .now) (c .before .before .before .before .before .before .before .before .before .before .before .before .before .before .before .before .before .before .before .before .before .before .before .before .args .work .now) (c .before .before .before .before .before .before .before .before .before .before .before .before .before .before .before .before .before .before .before .before .before .before .before .before .args .map .now) (c .before .before .before .before .before .before .before .before .before .before .before .before .before .before .before .before .before .before .before .before .before .before .before .before .pre .0) (c .before .before .before .before .before .before .before .before .before .before .before .before .before .loop .i) (c .before .before .before .before .before .before .before .before .before .before .before .before .before .loop .work) (c .before .before .before .before .before .before .before .before .before .before .before .before .before .loop .map) (c .before .before .before .before .before .before .before .before .before .before .before .before .before .loop .count) (c .before .before .before .before .before .before .before .before .before .before .before .before .before .loop .fired) (c .before .before .before .before .before .before .before .before .before .before .before .before .before .loop .inv .1) (c .before .before .before .before .before .before .before .before .before .before .before .before .before .loop .inv .2) (c .before .before .before .before .before .before .before .before .before .before .before .before .before .loop .inv .3) (c .before .before .before .before .before .before .before .before .before .before .before .before .loop-test .taken) _ ((c .before .before .before .before .before .before .before .before .before .before .before .node-at .ensures) ∙ sym (at-nodes _ _ _ (c .before .before .before .before .before .before .before .before .before .before .before .before .loop-test .taken))) _ (c .before .before .before .before .before .before .before .before .before .before .plan-of .ensures) _ _ _ (c .before .before .before .before .before .before .enter-planned .ensures .0) (rw (c .before .fires .ensures) at (c .either .ensures)), (c .before .before .before .before .before .before .enter-planned .kept .1 .1 .0) ∙ (c .before .before .before .before .before .before .before .before .before .before .before .before .before .loop .inv .4), (c .before .before .before .before .before .before .enter-planned .ensures .1))
+loop-again c =
+    let at-fires = c .before in
+    let at-enter-planned = at-fires .before .before .before .before .before in
+    let at-plan-of = at-enter-planned .before .before .before .before in
+    let at-node-at = at-plan-of .before in
+    let at-loop-test = at-node-at .before in
+    let at-loop = at-loop-test .before in
+    let start = at-loop .before .before .before .before .before .before .before .before .before .before .before in (
+      omega (arith, (at-loop-test .loop-test .taken)),
+      (at-enter-planned .enter-planned .kept .0) ∙ (at-loop .loop .inv .1),
+      simp length-set
+          (at-loop .loop .inv .2),
+      Turn.turn-held (start .args .list .now) (start .args .n) (start .args .fan .now) (start .args .work .now)
+          (start .args .map .now) (start .pre .0) (at-loop .loop .i) (at-loop .loop .work) (at-loop .loop .map) (at-loop .loop .count)
+          (at-loop .loop .fired) (at-loop .loop .inv .1) (at-loop .loop .inv .2) (at-loop .loop .inv .3) (at-loop-test .loop-test .taken) _
+          ((at-node-at .node-at .ensures) ∙ sym (at-nodes _ _ _ (at-loop-test .loop-test .taken))) _ (at-plan-of .plan-of .ensures) _ _ _
+          (at-enter-planned .enter-planned .ensures .0) (rw (at-fires .fires .ensures) at (c .either .ensures)),
+      (at-enter-planned .enter-planned .kept .1 .1 .0) ∙ (at-loop .loop .inv .4),
+      (at-enter-planned .enter-planned .ensures .1),
+    )
 
 same-length : tie.Need-same-length Inv-loop μ-loop
 same-length c = (c .before .loop .inv .1)

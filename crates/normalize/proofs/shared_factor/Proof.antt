@@ -68,7 +68,17 @@ loop-less : tie.Need-loop-less Inv-loop μ-loop Inv-search μ-search
 loop-less c = omega arith
 
 loop-again : tie.Need-loop-again Inv-loop μ-loop Inv-search μ-search
-loop-again c = (omega arith, omega arith, c .before .before .loop .inv .2, c .before .before .loop .inv .3, c .before .before .loop .inv .4 ∙ search-miss (c .before .before .before .before .before .args .t1) (c .before .before .before .before .before .args .t2) (c .before .before .before .before .search .i) (c .before .before .loop .j) (omega arith) (omega arith) (c .if2 .left))
+loop-again c =
+    let at-loop = c .before .before in
+    let at-search = at-loop .before .before in
+    let start = at-search .before in (
+      omega arith,
+      omega arith,
+      at-loop .loop .inv .2,
+      at-loop .loop .inv .3,
+      at-loop .loop .inv .4 ∙ search-miss (start .args .t1) (start .args .t2)
+          (at-search .search .i) (at-loop .loop .j) (omega arith) (omega arith) (c .if2 .left),
+    )
 
 add-i : tie.Need-add-i Inv-loop μ-loop Inv-search μ-search
 add-i c = omega arith
@@ -77,13 +87,27 @@ search-less : tie.Need-search-less Inv-loop μ-loop Inv-search μ-search
 search-less c = omega arith
 
 search-again : tie.Need-search-again Inv-loop μ-loop Inv-search μ-search
-search-again c = (omega arith, c .before .loop .inv .2, c .before .loop .inv .3, search-next (c .before .before .before .before .args .t1) (c .before .before .before .before .args .t2) (c .before .before .before .search .i) (c .before .loop .j) (omega arith) (omega arith) (c .before .loop .inv .4))
+search-again c =
+    let at-loop = c .before in
+    let at-search = at-loop .before .before in
+    let start = at-search .before in (
+      omega arith,
+      at-loop .loop .inv .2,
+      at-loop .loop .inv .3,
+      search-next (start .args .t1) (start .args .t2) (at-search .search .i) (at-loop .loop .j)
+          (omega arith) (omega arith) (at-loop .loop .inv .4),
+    )
 
 returns : tie.Need-returns Inv-loop μ-loop Inv-search μ-search
 returns c = search-ends (c .before .before .args .t1) (c .before .before .args .t2) (c .before .search .i) (c .if1 .taken) (omega arith) (c .before .search .inv .3)
 
 returns-2 : tie.Need-returns-2 Inv-loop μ-loop Inv-search μ-search
-returns-2 c = sym (c .before .before .loop .inv .4 ∙ search-hit (c .before .before .before .before .before .args .t1) (c .before .before .before .before .before .args .t2) (c .before .before .before .before .search .i) (c .before .before .loop .j) (omega arith) (omega arith) (c .if2 .taken))
+returns-2 c =
+    let at-loop = c .before .before in
+    let at-search = at-loop .before .before in
+    let start = at-search .before in
+    sym (at-loop .loop .inv .4 ∙ search-hit (start .args .t1) (start .args .t2) (at-search .search .i) (at-loop .loop .j) (omega arith) (omega arith)
+    (c .if2 .taken))
 
 pub shared-factor-spec : {M : Type 1} → statement M
 shared-factor-spec =

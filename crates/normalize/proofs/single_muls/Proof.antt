@@ -22,11 +22,27 @@ returns-2 c = rw (eq-eqb _ _ (told (c .before .before .before .tag-of .ensures) 
 
 returns-3 : tie.Need-returns-3
 unfolding Steps.isMul
-returns-3 c = rw (eq-eqb _ _ (told (c .before .before .before .before .tag-of .ensures) (c .before .before .before .if1 .left)), eq-eqb _ _ (told (c .before .before .tag-of2 .ensures) (c .before .if2 .left)), ne-eqb _ _ (c .if3 .taken))
+returns-3 c =
+    let at-if2 = c .before in
+    let at-tag-of2 = at-if2 .before in
+    let at-if1 = at-tag-of2 .before in
+    let at-tag-of = at-if1 .before in
+    rw (
+      eq-eqb _ _ (told (at-tag-of .tag-of .ensures) (at-if1 .if1 .left)),
+      eq-eqb _ _ (told (at-tag-of2 .tag-of2 .ensures) (at-if2 .if2 .left)),
+      ne-eqb
+          _ _ (c .if3 .taken),
+    )
 
 returns-4 : tie.Need-returns-4
 unfolding Steps.isMul
-returns-4 c = rw (eq-eqb _ _ (told (c .before .before .before .before .tag-of .ensures) (c .before .before .before .if1 .left)), eq-eqb _ _ (told (c .before .before .tag-of2 .ensures) (c .before .if2 .left))) (and-when (eq-eqb _ _ (c .if3 .left)))
+returns-4 c =
+    let at-if2 = c .before in
+    let at-tag-of2 = at-if2 .before in
+    let at-if1 = at-tag-of2 .before in
+    let at-tag-of = at-if1 .before in
+    rw (eq-eqb _ _ (told (at-tag-of .tag-of .ensures) (at-if1 .if1 .left)), eq-eqb _ _ (told (at-tag-of2 .tag-of2 .ensures) (at-if2 .if2 .left)))
+    (and-when (eq-eqb _ _ (c .if3 .left)))
 
 pub single-muls-spec : {M : Type 1} → statement M
 single-muls-spec =

@@ -18,7 +18,20 @@ same-length : tie.Need-same-length
 same-length c = search needs
 
 returns : tie.Need-returns
-returns c = record { counts = refl; written = λ _. (c .before .before .note .ensures ∙ ap (λ s. noted s (c .before .before .before .before .before .before .before .before .before .before .args .n) (c .before .before .before .before .before .before .before .before .before .before .args .y)) (c .before .before .before .before .before .before .put-node .ensures), refl); full = λ h. absurd (omega (arith, c .before .before .before .before .before .before .before .before .if1 .taken)) }
+returns c =
+    let at-note = c .before .before in
+    let at-put-node = at-note .before .before .before .before in
+    let at-if1 = at-put-node .before .before in
+    let start = at-if1 .before .before in
+    record {
+      counts = refl;
+      written = λ _. (
+        at-note .note .ensures ∙ ap (λ s. noted s (start .args .n) (start .args .y))
+            (at-put-node .put-node .ensures),
+        refl,
+      );
+      full = λ h. absurd (omega (arith, at-if1 .if1 .taken));
+    }
 
 add-t11 : tie.Need-add-t11
 add-t11 c = search needs

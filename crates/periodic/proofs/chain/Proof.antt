@@ -24,8 +24,16 @@ slice-write-places c = omega (arith, c .before .before .before .pre .4)
 
 loop-holds : tie.Need-loop-holds Inv-loop μ-loop
 loop-holds c =
-    let h : 0 < length (c .before .before .before .args .places .now) = omega (arith, c .before .before .before .pre .4) in
-    (omega arith, set-room (c .before .before .before .args .places .now) _ _ _ (c .before .before .before .pre .4), refl, list-none _ _ _ _ _ _ (first-place (c .before .before .before .args .places .now) _ h) (one-inside (c .before .before .before .pre .1)), c .before .before .before .pre .0, c .before .before .before .pre .2)
+    let start = c .before .before .before in
+    let h : 0 < length (start .args .places .now) = omega (arith, start .pre .4) in (
+      omega arith,
+      set-room (start .args .places .now) _ _ _ (start .pre .4),
+      refl,
+      list-none _ _ _ _ _ _ (first-place (start .args .places .now) _ h)
+          (one-inside (start .pre .1)),
+      start .pre .0,
+      start .pre .2,
+    )
 
 mul-mul : tie.Need-mul-mul Inv-loop μ-loop
 mul-mul c = omega arith
@@ -34,17 +42,23 @@ slice-read-mul : tie.Need-slice-read-mul Inv-loop μ-loop
 slice-read-mul c = omega arith
 
 mul-mul-2 : tie.Need-mul-mul-2 Inv-loop μ-loop
-mul-mul-2 c = omega (arith, c .before .before .before .before .before .before .before .pre .3)
+mul-mul-2 c =
+    let start = c .before .before .before .before .before .before .before in
+    omega (arith, start .pre .3)
 
 shared-slice-read-mul : tie.Need-shared-slice-read-mul Inv-loop μ-loop
-shared-slice-read-mul c = omega (arith, c .before .before .before .before .before .before .before .before .pre .3)
+shared-slice-read-mul c =
+    let start = c .before .before .before .before .before .before .before .before in
+    omega (arith, start .pre .3)
 
 mul-requires : tie.Need-mul-requires Inv-loop μ-loop
 mul-requires c κs =
-    let h : c .before .before .before .before .loop .i + 1 ≤ length (c .before .before .before .before .loop .places) = omega arith in
-    let j : c .before .before .before .before .loop .i < c .before .before .before .before .loop .i + 1 = omega arith in
-    let f : c .before .before .before .before .loop .i < length (c .before .before .before .before .before .before .before .before .args .factors .now) = omega (arith, c .before .before .before .before .before .before .before .before .pre .3) in
-    (c .before .before .before .before .loop .inv .4, word-inside _ _ _ _ h (c .before .before .before .before .loop .inv .3 .inside) j, c .before .before .before .before .loop .inv .5 .at _ f)
+    let at-loop = c .before .before .before .before in
+    let start = at-loop .before .before .before .before in
+    let h : at-loop .loop .i + 1 ≤ length (at-loop .loop .places) = omega arith in
+    let j : at-loop .loop .i < at-loop .loop .i + 1 = omega arith in
+    let f : at-loop .loop .i < length (start .args .factors .now) = omega (arith, start .pre .3) in
+    (at-loop .loop .inv .4, word-inside _ _ _ _ h (at-loop .loop .inv .3 .inside) j, at-loop .loop .inv .5 .at _ f)
 
 add-places : tie.Need-add-places Inv-loop μ-loop
 add-places c = omega arith
@@ -63,10 +77,21 @@ loop-less c = omega arith
 
 loop-again : tie.Need-loop-again Inv-loop μ-loop
 loop-again c =
-    let h : c .before .before .before .before .before .before .before .loop .i + 1 < length (c .before .before .before .before .before .before .before .loop .places) = omega arith in
-    let j : c .before .before .before .before .before .before .before .loop .i < c .before .before .before .before .before .before .before .loop .i + 1 = omega arith in
-    let e = entering-at (λ x. Builder.mul quad x (getD (c .before .before .before .before .before .before .before .before .before .before .before .args .factors .now) (c .before .before .before .before .before .before .before .loop .i) 0)) _ _ _ _ (word-is (c .before .before .before .before .before .before .before .loop .places) _ _ j) (c .before .before .mul .ensures) in
-    (omega arith, set-room (c .before .before .before .before .before .before .before .loop .places) _ _ _ (c .before .before .before .before .before .before .before .loop .inv .1), set-length (c .before .before .before .before .before .before .before .loop .places) _ _ _ (c .before .before .before .before .before .before .before .loop .inv .2), list-next _ _ _ _ _ _ _ _ _ _ _ h (c .before .before .before .before .before .before .before .loop .inv .3) e, entered-ready _ _ _ _ _ (c .before .before .before .before .before .before .before .loop .inv .4) (c .before .before .mul .ensures), all-later (c .before .before .mul .ensures .ran .longer) (c .before .before .before .before .before .before .before .loop .inv .5))
+    let at-mul = c .before .before in
+    let at-loop = at-mul .before .before .before .before .before in
+    let start = at-loop .before .before .before .before in
+    let h : at-loop .loop .i + 1 < length (at-loop .loop .places) = omega arith in
+    let j : at-loop .loop .i < at-loop .loop .i + 1 = omega arith in
+    let e = entering-at (λ x. Builder.mul quad x (getD (start .args .factors .now) (at-loop .loop .i) 0)) _ _ _ _
+    (word-is (at-loop .loop .places) _ _ j) (at-mul .mul .ensures) in (
+      omega arith,
+      set-room (at-loop .loop .places) _ _ _ (at-loop .loop .inv .1),
+      set-length (at-loop .loop .places) _ _ _ (at-loop .loop .inv .2),
+      list-next _ _ _ _ _ _ _ _ _ _ _ h (at-loop .loop .inv .3) e,
+      entered-ready _ _ _ _ _ (at-loop .loop .inv .4) (at-mul .mul .ensures),
+      all-later
+          (at-mul .mul .ensures .ran .longer) (at-loop .loop .inv .5),
+    )
 
 same-length : tie.Need-same-length Inv-loop μ-loop
 same-length c = c .before .loop .inv .3 .ran .kept

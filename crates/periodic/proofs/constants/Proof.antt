@@ -31,13 +31,21 @@ shared-slice-read-constant : tie.Need-shared-slice-read-constant Inv-loop μ-loo
 shared-slice-read-constant c = omega arith
 
 constant-requires : tie.Need-constant-requires Inv-loop μ-loop
-constant-requires c κs = (c .before .before .before .loop .inv .3, below-at p _ _ (c .before .before .before .before .before .before .before .pre .1) (c .before .before .loop-test .taken))
+constant-requires c κs =
+    let at-loop-test = c .before .before in
+    let at-loop = at-loop-test .before in
+    let start = at-loop .before .before .before .before in
+    (at-loop .loop .inv .3, below-at p _ _ (start .pre .1) (at-loop-test .loop-test .taken))
 
 mul-places : tie.Need-mul-places Inv-loop μ-loop
-mul-places c = omega (arith, c .before .before .before .before .before .before .before .before .before .before .pre .2)
+mul-places c =
+    let start = c .before .before .before .before .before .before .before .before .before .before in
+    omega (arith, start .pre .2)
 
 slice-write-places : tie.Need-slice-write-places Inv-loop μ-loop
-slice-write-places c = omega (arith, c .before .before .before .before .before .before .before .before .before .before .pre .2)
+slice-write-places c =
+    let start = c .before .before .before .before .before .before .before .before .before .before in
+    omega (arith, start .pre .2)
 
 add-i : tie.Need-add-i Inv-loop μ-loop
 add-i c = omega arith
@@ -47,8 +55,16 @@ loop-less c = omega arith
 
 loop-again : tie.Need-loop-again Inv-loop μ-loop
 loop-again c =
-    let h : c .before .before .before .before .before .before .loop .i < length (c .before .before .before .before .before .before .loop .places) = omega (arith, c .before .before .before .before .before .before .before .before .before .before .pre .2) in
-    (omega arith, set-length (c .before .before .before .before .before .before .loop .places) _ _ _ (c .before .before .before .before .before .before .loop .inv .1), list-next _ _ _ _ _ _ _ _ _ _ _ h (c .before .before .before .before .before .before .loop .inv .2) (c .before .before .constant .ensures), entered-ready _ _ _ _ _ (c .before .before .before .before .before .before .loop .inv .3) (c .before .before .constant .ensures))
+    let at-constant = c .before .before in
+    let at-loop = at-constant .before .before .before .before in
+    let start = at-loop .before .before .before .before in
+    let h : at-loop .loop .i < length (at-loop .loop .places) = omega (arith, start .pre .2) in (
+      omega arith,
+      set-length (at-loop .loop .places) _ _ _ (at-loop .loop .inv .1),
+      list-next _ _ _ _ _ _ _ _ _ _ _ h (at-loop .loop .inv .2)
+          (at-constant .constant .ensures),
+      entered-ready _ _ _ _ _ (at-loop .loop .inv .3) (at-constant .constant .ensures),
+    )
 
 same-length : tie.Need-same-length Inv-loop μ-loop
 same-length c = c .before .loop .inv .2 .ran .kept

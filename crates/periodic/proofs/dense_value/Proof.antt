@@ -25,26 +25,44 @@ array-share-prefix-numbers : tie.Need-array-share-prefix-numbers
 array-share-prefix-numbers c = search needs
 
 slice-aggregate-constants : tie.Need-slice-aggregate-constants
-slice-aggregate-constants c = sym (length-dense (c .before .before .before .before .before .before .before .before .before .args .col .now) _ (c .before .before .dense .ensures))
+slice-aggregate-constants c =
+    let at-dense = c .before .before in
+    let start = at-dense .before .before .before .before .before .before .before in
+    sym (length-dense (start .args .col .now) _ (at-dense .dense .ensures))
 
 slice-aggregate-constants-2 : tie.Need-slice-aggregate-constants-2
 slice-aggregate-constants-2 c = search needs
 
 constants-requires : tie.Need-constants-requires
-constants-requires c κs = (entered-ready _ _ _ _ _ (c .before .before .before .before .before .before .before .before .before .before .pre .0) (c .before .before .before .before .before .before .z-power .ensures), dense-below (c .before .before .before .before .before .before .before .before .before .before .args .col .now) _ (c .before .before .before .dense .ensures), le-trans (le-of-eq (length-dense (c .before .before .before .before .before .before .before .before .before .before .args .col .now) _ (c .before .before .before .dense .ensures))) (c .before .before .before .before .before .before .before .before .before .before .pre .1 .short))
+constants-requires c κs =
+    let at-dense = c .before .before .before in
+    let at-z-power = at-dense .before .before .before in
+    let start = at-z-power .before .before .before .before in (
+      entered-ready _ _ _ _ _ (start .pre .0) (at-z-power .z-power .ensures),
+      dense-below (start .args .col .now) _ (at-dense .dense .ensures),
+      le-trans
+          (le-of-eq (length-dense (start .args .col .now) _ (at-dense .dense .ensures))) (start .pre .1 .short),
+    )
 
 array-share-prefix-coeffs : tie.Need-array-share-prefix-coeffs
 array-share-prefix-coeffs c = search needs
 
 slice-aggregate-horner-eval : tie.Need-slice-aggregate-horner-eval
-slice-aggregate-horner-eval c = sym (length-take-le _ _ (omega (arith, c .before .before .before .before .before .before .before .before .before .before .before .before .before .before .before .before .pre .1 .short)))
+slice-aggregate-horner-eval c =
+    let start = c .before .before .before .before .before .before .before .before .before .before .before .before .before .before .before .before in
+    sym (length-take-le _ _ (omega (arith, start .pre .1 .short)))
 
 horner-eval-requires : tie.Need-horner-eval-requires
-horner-eval-requires c κs = (
-  listed-ready _ _ _ _ _ _ _ (entered-ready _ _ _ _ _ (c .before .before .before .before .before .before .before .before .before .before .before .before .before .before .before .before .pre .0) (c .before .before .before .before .before .before .before .before .before .before .before .before .z-power .ensures)) (c .before .before .before .before .before .constants .ensures),
-  inside-later (c .before .before .before .before .before .constants .ensures .ran .longer) (c .before .before .before .before .before .before .before .before .before .before .before .before .z-power .ensures .inside),
-  dense-listed (c .before .before .before .before .before .before .before .before .before .before .before .before .before .before .before .before .args .col .now) _ _ _ _ _ _ (c .before .before .before .before .before .before .before .before .before .dense .ensures) (c .before .before .before .before .before .constants .ensures) .inside,
-)
+horner-eval-requires c κs =
+    let at-constants = c .before .before .before .before .before in
+    let at-dense = at-constants .before .before .before .before in
+    let at-z-power = at-dense .before .before .before in
+    let start = at-z-power .before .before .before .before in (
+      listed-ready _ _ _ _ _ _ _ (entered-ready _ _ _ _ _ (start .pre .0) (at-z-power .z-power .ensures)) (at-constants .constants .ensures),
+      inside-later (at-constants .constants .ensures .ran .longer) (at-z-power .z-power .ensures .inside),
+      dense-listed (start .args .col .now) _ _ _
+          _ _ _ (at-dense .dense .ensures) (at-constants .constants .ensures) .inside,
+    )
 
 same-length : tie.Need-same-length
 same-length c = search needs
@@ -52,10 +70,16 @@ same-length c = search needs
 returns : tie.Need-returns
 unfolding Periodic.denseValue
 returns c =
-    let long = length-take-le (length (c .before .before .before .before .before .before .before .before .before .before .before .before .before .before .before .before .before .before .before .args .col .now)) (c .before .before .before .before .before .before .before .before .constants .last .1 .1 .1 .0) (omega (arith, c .before .before .before .before .before .before .before .before .before .before .before .before .before .before .before .before .before .before .before .pre .1 .short)) in
-    then-enter _ _ _ _ _ _ _ _ (c .before .before .before .before .before .before .before .before .before .before .before .before .before .before .before .z-power .ensures)
-    (then-listed _ _ _ _ _ _ _ _ _ _ (dense-listed (c .before .before .before .before .before .before .before .before .before .before .before .before .before .before .before .before .before .before .before .args .col .now) _ _ _ _ _ _ (c .before .before .before .before .before .before .before .before .before .before .before .before .dense .ensures) (c .before .before .before .before .before .before .before .before .constants .ensures))
-    (entering-same _ _ _ _ _ _ (ap (λ x. Periodic.hornerEval quad (c .before .before .before .before .before .before .before .before .before .before .before .before .before .before .before .z-power .result .place) (take (length (c .before .before .before .before .before .before .before .before .before .before .before .before .before .before .before .before .before .before .before .args .col .now)) (c .before .before .before .before .before .before .before .before .constants .last .1 .1 .1 .0)) x) long) (c .before .before .horner-eval .ensures)))
+    let at-horner-eval = c .before .before in
+    let at-constants = at-horner-eval .before .before .before .before .before .before in
+    let at-dense = at-constants .before .before .before .before in
+    let at-z-power = at-dense .before .before .before in
+    let start = at-z-power .before .before .before .before in
+    let long = length-take-le (length (start .args .col .now)) (at-constants .constants .last .1 .1 .1 .0) (omega (arith, start .pre .1 .short)) in
+    then-enter _ _ _ _ _ _ _ _ (at-z-power .z-power .ensures)
+    (then-listed _ _ _ _ _ _ _ _ _ _ (dense-listed (start .args .col .now) _ _ _ _ _ _ (at-dense .dense .ensures) (at-constants .constants .ensures))
+    (entering-same _ _ _ _ _ _ (ap (λ x. Periodic.hornerEval quad (at-z-power .z-power .result .place)
+    (take (length (start .args .col .now)) (at-constants .constants .last .1 .1 .1 .0)) x) long) (at-horner-eval .horner-eval .ensures)))
 
 pub dense-value-spec : {M : Type 1} → statement M
 dense-value-spec =

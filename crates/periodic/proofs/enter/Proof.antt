@@ -8,7 +8,13 @@ returns : tie.Need-returns
 returns c = enter-long _ _ _ (c .if1 .taken)
 
 resolve-requires : tie.Need-resolve-requires
-resolve-requires c κs = (record { sound = c .before .before .before .pre .0 .sound (c .before .if1 .left); fine = c .before .before .before .pre .1 (c .before .if1 .left) }, c .before .before .before .pre .0 .indexed (c .before .if1 .left), omega (arith, c .before .before .before .pre .0 .long))
+resolve-requires c κs =
+    let at-if1 = c .before in
+    let start = at-if1 .before .before in (
+      record { sound = start .pre .0 .sound (at-if1 .if1 .left); fine = start .pre .1 (at-if1 .if1 .left) },
+      start .pre .0 .indexed (at-if1 .if1 .left),
+      omega (arith, start .pre .0 .long),
+    )
 
 enum-known-result : tie.Need-enum-known-result
 enum-known-result c = search needs
@@ -23,13 +29,29 @@ same-length : tie.Need-same-length
 same-length c = search needs
 
 returns-2 : tie.Need-returns-2
-returns-2 c = enter-place (c .before .before .before .before .before .before .before .args .list .now) (c .before .before .before .before .before .before .before .args .n) (c .before .before .before .before .before .before .before .args .x) (c .before .before .before .before .before .if1 .left) (record { sound = c .before .before .before .before .before .before .before .pre .0 .sound (c .before .before .before .before .before .if1 .left); fine = c .before .before .before .before .before .before .before .pre .1 (c .before .before .before .before .before .if1 .left) }) (c .before .before .before .before .before .before .before .pre .0 .indexed (c .before .before .before .before .before .if1 .left)) _ (c .before .before .before .resolve .ensures) _ (c .before .result .given .1)
+returns-2 c =
+    let at-result = c .before in
+    let at-resolve = at-result .before .before in
+    let at-if1 = at-resolve .before .before in
+    let start = at-if1 .before .before in
+    enter-place (start .args .list .now) (start .args .n) (start .args .x) (at-if1 .if1 .left)
+    (record { sound = start .pre .0 .sound (at-if1 .if1 .left); fine = start .pre .1 (at-if1 .if1 .left) })
+    (start .pre .0 .indexed (at-if1 .if1 .left)) _ (at-resolve .resolve .ensures) _ (at-result .result .given .1)
 
 same-length-2 : tie.Need-same-length-2
 same-length-2 c = search needs
 
 returns-3 : tie.Need-returns-3
-returns-3 c = enter-node (c .before .before .before .before .before .before .before .before .before .before .before .args .list .now) (c .before .before .before .before .before .before .before .before .before .before .before .args .n) (c .before .before .before .before .before .before .before .before .before .before .before .args .x) (c .before .before .before .before .before .before .before .before .before .if1 .left) (record { sound = c .before .before .before .before .before .before .before .before .before .before .before .pre .0 .sound (c .before .before .before .before .before .before .before .before .before .if1 .left); fine = c .before .before .before .before .before .before .before .before .before .before .before .pre .1 (c .before .before .before .before .before .before .before .before .before .if1 .left) }) (c .before .before .before .before .before .before .before .before .before .before .before .pre .0 .indexed (c .before .before .before .before .before .before .before .before .before .if1 .left)) _ (c .before .before .before .before .before .before .before .resolve .ensures) _ _ _ (c .before .before .before .before .before .before .before .before .before .before .before .pre .0 .long) (c .before .before .before .before .before .result2 .given .1) (c .before .before .append .ensures)
+returns-3 c =
+    let at-append = c .before .before in
+    let at-result2 = at-append .before .before .before in
+    let at-resolve = at-result2 .before .before in
+    let at-if1 = at-resolve .before .before in
+    let start = at-if1 .before .before in
+    enter-node (start .args .list .now) (start .args .n) (start .args .x) (at-if1 .if1 .left)
+    (record { sound = start .pre .0 .sound (at-if1 .if1 .left); fine = start .pre .1 (at-if1 .if1 .left) })
+    (start .pre .0 .indexed (at-if1 .if1 .left)) _ (at-resolve .resolve .ensures) _ _ _ (start .pre .0 .long) (at-result2 .result2 .given .1)
+    (at-append .append .ensures)
 
 pub enter-spec : {M : Type 1} → statement M
 enter-spec =

@@ -24,7 +24,16 @@ constant-requires : tie.Need-constant-requires Inv-loop μ-loop
 constant-requires c κs = (c .before .before .before .pre .0, lit< tt)
 
 loop-holds : tie.Need-loop-holds Inv-loop μ-loop
-loop-holds c = (omega arith, enter-none _ _ _ _ (c .before .before .constant .ensures .inside), entered-ready _ _ _ _ _ (c .before .before .before .before .before .before .pre .0) (c .before .before .constant .ensures), inside-later (c .before .before .constant .ensures .ran .longer) (c .before .before .before .before .before .before .pre .1), all-later (c .before .before .constant .ensures .ran .longer) (c .before .before .before .before .before .before .pre .2))
+loop-holds c =
+    let at-constant = c .before .before in
+    let start = at-constant .before .before .before .before in (
+      omega arith,
+      enter-none _ _ _ _ (at-constant .constant .ensures .inside),
+      entered-ready _ _ _ _ _ (start .pre .0) (at-constant .constant .ensures),
+      inside-later (at-constant .constant .ensures .ran .longer) (start .pre .1),
+      all-later (at-constant .constant .ensures .ran .longer)
+          (start .pre .2),
+    )
 
 mul-requires : tie.Need-mul-requires Inv-loop μ-loop
 mul-requires c κs = (c .before .before .loop .inv .2, c .before .before .loop .inv .3, c .before .before .loop .inv .1 .inside)
@@ -43,8 +52,15 @@ shared-slice-read-add c = omega arith
 
 add-requires : tie.Need-add-requires Inv-loop μ-loop
 add-requires c κs =
-    let f : length (c .before .before .before .before .before .before .before .before .before .before .before .before .before .before .args .coeffs .now) - (c .before .before .before .before .before .before .before .loop .i + 1) < length (c .before .before .before .before .before .before .before .before .before .before .before .before .before .before .args .coeffs .now) = omega arith in
-    (entered-ready _ _ _ _ _ (c .before .before .before .before .before .before .before .loop .inv .2) (c .before .before .before .before .mul .ensures), inside-later (c .before .before .before .before .mul .ensures .ran .longer) (c .before .before .before .before .before .before .before .loop .inv .4 .at _ f), c .before .before .before .before .mul .ensures .inside)
+    let at-mul = c .before .before .before .before in
+    let at-loop = at-mul .before .before .before in
+    let start = at-loop .before .before .before .before .before .before .before in
+    let f : length (start .args .coeffs .now) - (at-loop .loop .i + 1) < length (start .args .coeffs .now) = omega arith in (
+      entered-ready _ _ _ _ _ (at-loop .loop .inv .2) (at-mul .mul .ensures),
+      inside-later (at-mul .mul .ensures .ran .longer)
+          (at-loop .loop .inv .4 .at _ f),
+      at-mul .mul .ensures .inside,
+    )
 
 add-i : tie.Need-add-i Inv-loop μ-loop
 add-i c = omega arith
@@ -55,8 +71,17 @@ loop-less c = omega arith
 loop-again : tie.Need-loop-again Inv-loop μ-loop
 unfolding Periodic.hornerTurn
 loop-again c =
-    let up = le-trans (c .before .before .before .before .before .before .before .mul .ensures .ran .longer) (c .before .before .add .ensures .ran .longer) in
-    (omega arith, enter-next _ _ _ _ _ _ _ _ _ (c .before .before .before .before .before .before .before .before .before .before .loop .inv .1) (then-enter _ _ _ _ _ _ _ _ (c .before .before .before .before .before .before .before .mul .ensures) (c .before .before .add .ensures)), entered-ready _ _ _ _ _ (entered-ready _ _ _ _ _ (c .before .before .before .before .before .before .before .before .before .before .loop .inv .2) (c .before .before .before .before .before .before .before .mul .ensures)) (c .before .before .add .ensures), inside-later up (c .before .before .before .before .before .before .before .before .before .before .loop .inv .3), all-later up (c .before .before .before .before .before .before .before .before .before .before .loop .inv .4))
+    let at-add = c .before .before in
+    let at-mul = at-add .before .before .before .before .before in
+    let at-loop = at-mul .before .before .before in
+    let up = le-trans (at-mul .mul .ensures .ran .longer) (at-add .add .ensures .ran .longer) in (
+      omega arith,
+      enter-next _ _ _ _ _ _ _ _ _ (at-loop .loop .inv .1) (then-enter _ _ _ _ _ _ _ _ (at-mul .mul .ensures) (at-add .add .ensures)),
+      entered-ready _ _ _ _ _ (entered-ready _ _ _ _ _ (at-loop .loop .inv .2) (at-mul .mul .ensures)) (at-add .add .ensures),
+      inside-later up
+          (at-loop .loop .inv .3),
+      all-later up (at-loop .loop .inv .4),
+    )
 
 same-length : tie.Need-same-length Inv-loop μ-loop
 same-length c = c .before .loop .inv .1 .ran .kept ∙ c .before .before .before .before .constant .ensures .ran .kept

@@ -28,7 +28,14 @@ same-length : tie.Need-same-length
 same-length c = search needs
 
 returns : tie.Need-returns
-returns c = noted-told _ _ _ _ _ _ _ (c .before .before .before .before .before .before .before .before .pre .0) (c .before .before .before .before .before .tag-of .ensures) (c .before .before .before .before .first-of .ensures) (c .before .before .before .second-of .ensures) (c .before .before .note .ensures)
+returns c =
+    let at-note = c .before .before in
+    let at-second-of = at-note .before in
+    let at-first-of = at-second-of .before in
+    let at-tag-of = at-first-of .before in
+    let start = at-tag-of .before .before .before in
+    noted-told _ _ _ _ _ _ _ (start .pre .0) (at-tag-of .tag-of .ensures) (at-first-of .first-of .ensures) (at-second-of .second-of .ensures)
+    (at-note .note .ensures)
 
 pub note-spec : {M : Type 1} → statement M
 note-spec =

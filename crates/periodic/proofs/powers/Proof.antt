@@ -26,8 +26,15 @@ slice-write-places c = omega (arith, c .before .before .pre .2)
 
 loop-holds : tie.Need-loop-holds Inv-loop μ-loop
 loop-holds c =
-    let h : 0 < length (c .before .before .args .places .now) = omega (arith, c .before .before .pre .2) in
-    (omega arith, set-room (c .before .before .args .places .now) _ _ _ (c .before .before .pre .2), refl, list-none _ _ _ _ _ _ (first-place (c .before .before .args .places .now) _ h) (one-inside (c .before .before .pre .1)), c .before .before .pre .0)
+    let start = c .before .before in
+    let h : 0 < length (start .args .places .now) = omega (arith, start .pre .2) in (
+      omega arith,
+      set-room (start .args .places .now) _ _ _ (start .pre .2),
+      refl,
+      list-none _ _ _ _ _ _ (first-place (start .args .places .now) _ h)
+          (one-inside (start .pre .1)),
+      start .pre .0,
+    )
 
 mul-place : tie.Need-mul-place Inv-loop μ-loop
 mul-place c = omega arith
@@ -59,10 +66,17 @@ loop-less c = omega arith
 
 loop-again : tie.Need-loop-again Inv-loop μ-loop
 loop-again c =
-    let h : c .before .before .before .before .before .before .loop .i + 1 < length (c .before .before .before .before .before .before .loop .places) = omega arith in
-    let j : c .before .before .before .before .before .before .loop .i < c .before .before .before .before .before .before .loop .i + 1 = omega arith in
-    let e = entering-at (λ x. Builder.mul quad x x) _ _ _ _ (word-is (c .before .before .before .before .before .before .loop .places) _ _ j) (c .before .before .mul .ensures) in
-    (omega arith, set-room (c .before .before .before .before .before .before .loop .places) _ _ _ (c .before .before .before .before .before .before .loop .inv .1), set-length (c .before .before .before .before .before .before .loop .places) _ _ _ (c .before .before .before .before .before .before .loop .inv .2), list-next _ _ _ _ _ _ _ _ _ _ _ h (c .before .before .before .before .before .before .loop .inv .3) e, entered-ready _ _ _ _ _ (c .before .before .before .before .before .before .loop .inv .4) (c .before .before .mul .ensures))
+    let at-mul = c .before .before in
+    let at-loop = at-mul .before .before .before .before in
+    let h : at-loop .loop .i + 1 < length (at-loop .loop .places) = omega arith in
+    let j : at-loop .loop .i < at-loop .loop .i + 1 = omega arith in
+    let e = entering-at (λ x. Builder.mul quad x x) _ _ _ _ (word-is (at-loop .loop .places) _ _ j) (at-mul .mul .ensures) in (
+      omega arith,
+      set-room (at-loop .loop .places) _ _ _ (at-loop .loop .inv .1),
+      set-length (at-loop .loop .places) _ _ _ (at-loop .loop .inv .2),
+      list-next _ _ _ _ _ _ _ _ _ _ _ h (at-loop .loop .inv .3) e,
+      entered-ready _ _ _ _ _ (at-loop .loop .inv .4) (at-mul .mul .ensures),
+    )
 
 same-length : tie.Need-same-length Inv-loop μ-loop
 same-length c = c .before .loop .inv .3 .ran .kept

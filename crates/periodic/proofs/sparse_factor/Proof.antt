@@ -23,24 +23,42 @@ constant-requires : tie.Need-constant-requires Inv-loop μ-loop
 constant-requires c κs = (c .before .before .before .pre .0, lit< tt)
 
 loop-holds : tie.Need-loop-holds Inv-loop μ-loop
-loop-holds c = (omega arith, enter-none _ _ _ _ (c .before .before .constant .ensures .inside), entered-ready _ _ _ _ _ (c .before .before .before .before .before .before .pre .0) (c .before .before .constant .ensures), all-later (c .before .before .constant .ensures .ran .longer) (c .before .before .before .before .before .before .pre .1))
+loop-holds c =
+    let at-constant = c .before .before in
+    let start = at-constant .before .before .before .before in (
+      omega arith,
+      enter-none _ _ _ _ (at-constant .constant .ensures .inside),
+      entered-ready _ _ _ _ _ (start .pre .0) (at-constant .constant .ensures),
+      all-later (at-constant .constant .ensures .ran .longer) (start .pre .1),
+    )
 
 mul-sparse-turn : tie.Need-mul-sparse-turn Inv-loop μ-loop
-mul-sparse-turn c = omega (arith, c .before .before .before .before .before .before .before .before .before .pre .2 .few)
+mul-sparse-turn c =
+    let start = c .before .before .before .before .before .before .before .before .before in
+    omega (arith, start .pre .2 .few)
 
 array-read-sparse-turn : tie.Need-array-read-sparse-turn Inv-loop μ-loop
-array-read-sparse-turn c = omega (arith, c .before .before .before .before .before .before .before .before .before .pre .2 .few)
+array-read-sparse-turn c =
+    let start = c .before .before .before .before .before .before .before .before .before in
+    omega (arith, start .pre .2 .few)
 
 mul-sparse-turn-2 : tie.Need-mul-sparse-turn-2 Inv-loop μ-loop
-mul-sparse-turn-2 c = omega (arith, c .before .before .before .before .before .before .before .before .before .pre .2 .few)
+mul-sparse-turn-2 c =
+    let start = c .before .before .before .before .before .before .before .before .before in
+    omega (arith, start .pre .2 .few)
 
 shared-slice-read-sparse-turn : tie.Need-shared-slice-read-sparse-turn Inv-loop μ-loop
-shared-slice-read-sparse-turn c = omega (arith, c .before .before .before .before .before .before .before .before .before .before .pre .3)
+shared-slice-read-sparse-turn c =
+    let start = c .before .before .before .before .before .before .before .before .before .before in
+    omega (arith, start .pre .3)
 
 sparse-turn-requires : tie.Need-sparse-turn-requires Inv-loop μ-loop
 sparse-turn-requires c κs =
-    let f : c .before .before .before .loop .i < length (c .before .before .before .before .before .before .before .before .before .before .args .zpow .now) = omega (arith, c .before .before .before .before .before .before .before .before .before .before .pre .3) in
-    (c .before .before .before .loop .inv .2, c .before .before .before .before .before .before .before .before .before .before .pre .2 .low _ (c .before .before .loop-test .taken), c .before .before .before .loop .inv .3 .at _ f, c .before .before .before .loop .inv .1 .inside)
+    let at-loop-test = c .before .before in
+    let at-loop = at-loop-test .before in
+    let start = at-loop .before .before .before .before .before .before .before in
+    let f : at-loop .loop .i < length (start .args .zpow .now) = omega (arith, start .pre .3) in
+    (at-loop .loop .inv .2, start .pre .2 .low _ (at-loop-test .loop-test .taken), at-loop .loop .inv .3 .at _ f, at-loop .loop .inv .1 .inside)
 
 add-i : tie.Need-add-i Inv-loop μ-loop
 add-i c = omega arith
@@ -49,7 +67,16 @@ loop-less : tie.Need-loop-less Inv-loop μ-loop
 loop-less c = omega arith
 
 loop-again : tie.Need-loop-again Inv-loop μ-loop
-loop-again c = (omega arith, enter-next _ _ _ _ _ _ _ _ _ (c .before .before .before .before .before .before .loop .inv .1) (c .before .before .sparse-turn .ensures), entered-ready _ _ _ _ _ (c .before .before .before .before .before .before .loop .inv .2) (c .before .before .sparse-turn .ensures), all-later (c .before .before .sparse-turn .ensures .ran .longer) (c .before .before .before .before .before .before .loop .inv .3))
+loop-again c =
+    let at-sparse-turn = c .before .before in
+    let at-loop = at-sparse-turn .before .before .before .before in (
+      omega arith,
+      enter-next _ _ _ _ _ _ _ _ _ (at-loop .loop .inv .1) (at-sparse-turn .sparse-turn .ensures),
+      entered-ready _ _ _ _ _
+          (at-loop .loop .inv .2) (at-sparse-turn .sparse-turn .ensures),
+      all-later (at-sparse-turn .sparse-turn .ensures .ran .longer)
+          (at-loop .loop .inv .3),
+    )
 
 same-length : tie.Need-same-length Inv-loop μ-loop
 same-length c = c .before .loop .inv .1 .ran .kept ∙ c .before .before .before .before .constant .ensures .ran .kept

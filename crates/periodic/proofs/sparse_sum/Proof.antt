@@ -39,40 +39,73 @@ array-read-sparse-term c = omega arith
 
 sparse-term-requires : tie.Need-sparse-term-requires Inv-loop μ-loop
 sparse-term-requires c κs =
-    let f : 0 < c .before .before .before .before .before .args .t = omega (arith, c .before .before .if1 .left) in
-    (c .before .before .before .before .before .pre .0, c .before .before .before .before .before .pre .1, c .before .before .before .before .before .pre .2 .low 0 f, c .before .before .before .before .before .pre .3, c .before .before .before .before .before .pre .2 .scaled 0 f)
+    let at-if1 = c .before .before in
+    let start = at-if1 .before .before .before in
+    let f : 0 < start .args .t = omega (arith, at-if1 .if1 .left) in
+    (start .pre .0, start .pre .1, start .pre .2 .low 0 f, start .pre .3, start .pre .2 .scaled 0 f)
 
 loop-holds : tie.Need-loop-holds Inv-loop μ-loop
-loop-holds c = (omega arith, enter-none _ _ _ _ (c .before .before .sparse-term .ensures .inside), entered-ready _ _ _ _ _ (c .before .before .before .before .before .before .before .before .pre .0) (c .before .before .sparse-term .ensures), all-later (c .before .before .sparse-term .ensures .ran .longer) (c .before .before .before .before .before .before .before .before .pre .1))
+loop-holds c =
+    let at-sparse-term = c .before .before in
+    let start = at-sparse-term .before .before .before .before .before .before in (
+      omega arith,
+      enter-none _ _ _ _ (at-sparse-term .sparse-term .ensures .inside),
+      entered-ready _ _ _ _ _ (start .pre .0)
+          (at-sparse-term .sparse-term .ensures),
+      all-later (at-sparse-term .sparse-term .ensures .ran .longer) (start .pre .1),
+    )
 
 sub-loop : tie.Need-sub-loop Inv-loop μ-loop
-sub-loop c = omega (arith, c .before .before .before .before .before .before .if1 .left)
+sub-loop c =
+    let at-if1 = c .before .before .before .before .before .before in
+    omega (arith, at-if1 .if1 .left)
 
 add-sparse-term : tie.Need-add-sparse-term Inv-loop μ-loop
-add-sparse-term c = omega (arith, c .before .before .before .before .before .before .before .before .before .before .before .pre .2 .few)
+add-sparse-term c =
+    let start = c .before .before .before .before .before .before .before .before .before .before .before in
+    omega (arith, start .pre .2 .few)
 
 mul-sparse-term : tie.Need-mul-sparse-term Inv-loop μ-loop
-mul-sparse-term c = omega (arith, c .before .before .before .before .before .before .before .before .before .before .before .pre .2 .few)
+mul-sparse-term c =
+    let start = c .before .before .before .before .before .before .before .before .before .before .before in
+    omega (arith, start .pre .2 .few)
 
 array-copy-out-sparse-term-2 : tie.Need-array-copy-out-sparse-term-2 Inv-loop μ-loop
-array-copy-out-sparse-term-2 c = omega (arith, c .before .before .before .before .before .before .before .before .before .before .before .pre .2 .few)
+array-copy-out-sparse-term-2 c =
+    let start = c .before .before .before .before .before .before .before .before .before .before .before in
+    omega (arith, start .pre .2 .few)
 
 add-sparse-term-2 : tie.Need-add-sparse-term-2 Inv-loop μ-loop
-add-sparse-term-2 c = omega (arith, c .before .before .before .before .before .before .before .before .before .before .before .before .pre .2 .few)
+add-sparse-term-2 c =
+    let start = c .before .before .before .before .before .before .before .before .before .before .before .before in
+    omega (arith, start .pre .2 .few)
 
 mul-sparse-term-2 : tie.Need-mul-sparse-term-2 Inv-loop μ-loop
-mul-sparse-term-2 c = omega (arith, c .before .before .before .before .before .before .before .before .before .before .before .before .pre .2 .few)
+mul-sparse-term-2 c =
+    let start = c .before .before .before .before .before .before .before .before .before .before .before .before in
+    omega (arith, start .pre .2 .few)
 
 array-read-sparse-term-2 : tie.Need-array-read-sparse-term-2 Inv-loop μ-loop
-array-read-sparse-term-2 c = omega (arith, c .before .before .before .before .before .before .before .before .before .before .before .before .pre .2 .few)
+array-read-sparse-term-2 c =
+    let start = c .before .before .before .before .before .before .before .before .before .before .before .before in
+    omega (arith, start .pre .2 .few)
 
 sparse-term-requires-2 : tie.Need-sparse-term-requires-2 Inv-loop μ-loop
 sparse-term-requires-2 c κs =
-    let f : c .before .before .before .loop .k + 1 < c .before .before .before .before .before .before .before .before .before .before .before .before .args .t = omega arith in
-    (c .before .before .before .loop .inv .2, c .before .before .before .loop .inv .3, c .before .before .before .before .before .before .before .before .before .before .before .before .pre .2 .low _ f, c .before .before .before .before .before .before .before .before .before .before .before .before .pre .3, c .before .before .before .before .before .before .before .before .before .before .before .before .pre .2 .scaled _ f)
+    let at-loop = c .before .before .before in
+    let start = at-loop .before .before .before .before .before .before .before .before .before in
+    let f : at-loop .loop .k + 1 < start .args .t = omega arith in
+    (at-loop .loop .inv .2, at-loop .loop .inv .3, start .pre .2 .low _ f, start .pre .3, start .pre .2 .scaled _ f)
 
 add-requires : tie.Need-add-requires Inv-loop μ-loop
-add-requires c κs = (entered-ready _ _ _ _ _ (c .before .before .before .before .before .before .before .loop .inv .2) (c .before .before .before .sparse-term2 .ensures), inside-later (c .before .before .before .sparse-term2 .ensures .ran .longer) (c .before .before .before .before .before .before .before .loop .inv .1 .inside), c .before .before .before .sparse-term2 .ensures .inside)
+add-requires c κs =
+    let at-sparse-term2 = c .before .before .before in
+    let at-loop = at-sparse-term2 .before .before .before .before in (
+      entered-ready _ _ _ _ _ (at-loop .loop .inv .2) (at-sparse-term2 .sparse-term2 .ensures),
+      inside-later
+          (at-sparse-term2 .sparse-term2 .ensures .ran .longer) (at-loop .loop .inv .1 .inside),
+      at-sparse-term2 .sparse-term2 .ensures .inside,
+    )
 
 add-k : tie.Need-add-k Inv-loop μ-loop
 add-k c = omega arith
@@ -83,13 +116,29 @@ loop-less c = omega arith
 loop-again : tie.Need-loop-again Inv-loop μ-loop
 unfolding Periodic.sumTurn
 loop-again c =
-    (omega arith, enter-next _ _ _ _ _ _ _ _ _ (c .before .before .before .before .before .before .before .before .before .before .loop .inv .1) (then-enter _ _ _ _ _ _ _ _ (c .before .before .before .before .before .before .sparse-term2 .ensures) (c .before .before .add .ensures)), entered-ready _ _ _ _ _ (entered-ready _ _ _ _ _ (c .before .before .before .before .before .before .before .before .before .before .loop .inv .2) (c .before .before .before .before .before .before .sparse-term2 .ensures)) (c .before .before .add .ensures), all-later (le-trans (c .before .before .before .before .before .before .sparse-term2 .ensures .ran .longer) (c .before .before .add .ensures .ran .longer)) (c .before .before .before .before .before .before .before .before .before .before .loop .inv .3))
+    let at-add = c .before .before in
+    let at-sparse-term2 = at-add .before .before .before .before in
+    let at-loop = at-sparse-term2 .before .before .before .before in (
+      omega arith,
+      enter-next _ _ _ _ _ _ _ _ _ (at-loop .loop .inv .1)
+          (then-enter _ _ _ _ _ _ _ _ (at-sparse-term2 .sparse-term2 .ensures) (at-add .add .ensures)),
+      entered-ready _ _ _ _ _
+          (entered-ready _ _ _ _ _ (at-loop .loop .inv .2) (at-sparse-term2 .sparse-term2 .ensures)) (at-add .add .ensures),
+      all-later
+          (le-trans (at-sparse-term2 .sparse-term2 .ensures .ran .longer) (at-add .add .ensures .ran .longer)) (at-loop .loop .inv .3),
+    )
 
 same-length-2 : tie.Need-same-length-2 Inv-loop μ-loop
 same-length-2 c = c .before .loop .inv .1 .ran .kept ∙ c .before .before .before .before .sparse-term .ensures .ran .kept
 
 returns-2 : tie.Need-returns-2 Inv-loop μ-loop
-returns-2 c = entering-same _ _ _ _ _ _ (sum-some _ _ _ _ _ _ (c .before .before .before .before .before .before .before .if1 .left)) (then-enter _ _ _ _ _ _ _ _ (c .before .before .before .before .sparse-term .ensures) (enter-all _ _ _ _ _ _ _ _ (c .before .loop .inv .0) (c .loop-test .left) (c .before .loop .inv .1)))
+returns-2 c =
+    let at-loop = c .before in
+    let at-sparse-term = at-loop .before .before .before in
+    let at-if1 = at-sparse-term .before .before .before in
+    entering-same _ _ _ _ _ _ (sum-some _ _ _ _ _ _ (at-if1 .if1 .left))
+    (then-enter _ _ _ _ _ _ _ _ (at-sparse-term .sparse-term .ensures)
+    (enter-all _ _ _ _ _ _ _ _ (at-loop .loop .inv .0) (c .loop-test .left) (at-loop .loop .inv .1)))
 
 pub sparse-sum-spec : {M : Type 1} → statement M
 sparse-sum-spec =

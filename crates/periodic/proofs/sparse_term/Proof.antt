@@ -8,17 +8,37 @@ sparse-factor-requires : tie.Need-sparse-factor-requires
 sparse-factor-requires c κs = (c .before .before .before .pre .0, c .before .before .before .pre .1, c .before .before .before .pre .2, c .before .before .before .pre .3)
 
 constant-requires : tie.Need-constant-requires
-constant-requires c κs = (entered-ready _ _ _ _ _ (c .before .before .before .before .before .before .before .pre .0) (c .before .before .before .sparse-factor .ensures), c .before .before .before .before .before .before .before .pre .4)
+constant-requires c κs =
+    let at-sparse-factor = c .before .before .before in
+    let start = at-sparse-factor .before .before .before .before in
+    (entered-ready _ _ _ _ _ (start .pre .0) (at-sparse-factor .sparse-factor .ensures), start .pre .4)
 
 mul-requires : tie.Need-mul-requires
-mul-requires c κs = (entered-ready _ _ _ _ _ (entered-ready _ _ _ _ _ (c .before .before .before .before .before .before .before .before .before .before .before .pre .0) (c .before .before .before .before .before .before .before .sparse-factor .ensures)) (c .before .before .before .constant .ensures), c .before .before .before .constant .ensures .inside, inside-later (c .before .before .before .constant .ensures .ran .longer) (c .before .before .before .before .before .before .before .sparse-factor .ensures .inside))
+mul-requires c κs =
+    let at-constant = c .before .before .before in
+    let at-sparse-factor = at-constant .before .before .before .before in
+    let start = at-sparse-factor .before .before .before .before in (
+      entered-ready _ _ _ _ _ (entered-ready _ _ _ _ _ (start .pre .0) (at-sparse-factor .sparse-factor .ensures)) (at-constant .constant .ensures),
+      at-constant .constant .ensures .inside,
+      inside-later (at-constant .constant .ensures .ran .longer)
+          (at-sparse-factor .sparse-factor .ensures .inside),
+    )
 
 same-length : tie.Need-same-length
-same-length c = c .before .before .mul .ensures .ran .kept ∙ (c .before .before .before .before .before .before .constant .ensures .ran .kept ∙ c .before .before .before .before .before .before .before .before .before .before .sparse-factor .ensures .ran .kept)
+same-length c =
+    let at-mul = c .before .before in
+    let at-constant = at-mul .before .before .before .before in
+    let at-sparse-factor = at-constant .before .before .before .before in
+    at-mul .mul .ensures .ran .kept ∙ (at-constant .constant .ensures .ran .kept ∙ at-sparse-factor .sparse-factor .ensures .ran .kept)
 
 returns : tie.Need-returns
 unfolding Periodic.sparseTerm
-returns c = then-enter _ _ _ _ _ _ _ _ (c .before .before .before .before .before .before .before .before .before .before .sparse-factor .ensures) (then-enter _ _ _ _ _ _ _ _ (c .before .before .before .before .before .before .constant .ensures) (c .before .before .mul .ensures))
+returns c =
+    let at-mul = c .before .before in
+    let at-constant = at-mul .before .before .before .before in
+    let at-sparse-factor = at-constant .before .before .before .before in
+    then-enter _ _ _ _ _ _ _ _ (at-sparse-factor .sparse-factor .ensures)
+    (then-enter _ _ _ _ _ _ _ _ (at-constant .constant .ensures) (at-mul .mul .ensures))
 
 pub sparse-term-spec : {M : Type 1} → statement M
 sparse-term-spec =

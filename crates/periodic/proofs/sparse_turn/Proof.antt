@@ -9,27 +9,71 @@ constant-requires : tie.Need-constant-requires
 constant-requires c κs = (c .before .before .pre .0, c .before .before .pre .1)
 
 mul-requires : tie.Need-mul-requires
-mul-requires c κs = (entered-ready _ _ _ _ _ (c .before .before .before .before .before .before .pre .0) (c .before .before .before .constant .ensures), c .before .before .before .constant .ensures .inside, inside-later (c .before .before .before .constant .ensures .ran .longer) (c .before .before .before .before .before .before .pre .2))
+mul-requires c κs =
+    let at-constant = c .before .before .before in
+    let start = at-constant .before .before .before in (
+      entered-ready _ _ _ _ _ (start .pre .0) (at-constant .constant .ensures),
+      at-constant .constant .ensures .inside,
+      inside-later
+          (at-constant .constant .ensures .ran .longer) (start .pre .2),
+    )
 
 constant-requires-2 : tie.Need-constant-requires-2
-constant-requires-2 c κs = (entered-ready _ _ _ _ _ (entered-ready _ _ _ _ _ (c .before .before .before .before .before .before .before .before .before .before .pre .0) (c .before .before .before .before .before .before .before .constant .ensures)) (c .before .before .before .mul .ensures), lit< tt)
+constant-requires-2 c κs =
+    let at-mul = c .before .before .before in
+    let at-constant = at-mul .before .before .before .before in
+    let start = at-constant .before .before .before in
+    (entered-ready _ _ _ _ _ (entered-ready _ _ _ _ _ (start .pre .0) (at-constant .constant .ensures)) (at-mul .mul .ensures), lit< tt)
 
 add-requires : tie.Need-add-requires
-add-requires c κs = (entered-ready _ _ _ _ _ (entered-ready _ _ _ _ _ (entered-ready _ _ _ _ _ (c .before .before .before .before .before .before .before .before .before .before .before .before .before .before .pre .0) (c .before .before .before .before .before .before .before .before .before .before .before .constant .ensures)) (c .before .before .before .before .before .before .before .mul .ensures)) (c .before .before .before .constant2 .ensures), c .before .before .before .constant2 .ensures .inside, inside-later (c .before .before .before .constant2 .ensures .ran .longer) (c .before .before .before .before .before .before .before .mul .ensures .inside))
+add-requires c κs =
+    let at-constant2 = c .before .before .before in
+    let at-mul = at-constant2 .before .before .before .before in
+    let at-constant = at-mul .before .before .before .before in
+    let start = at-constant .before .before .before in (
+      entered-ready _ _ _ _ _ (entered-ready _ _ _ _ _ (entered-ready _ _ _ _ _ (start .pre .0) (at-constant .constant .ensures)) (at-mul .mul .ensures))
+          (at-constant2 .constant2 .ensures),
+      at-constant2 .constant2 .ensures .inside,
+      inside-later (at-constant2 .constant2 .ensures .ran .longer)
+          (at-mul .mul .ensures .inside),
+    )
 
 mul-requires-2 : tie.Need-mul-requires-2
-mul-requires-2 c κs = (
-  entered-ready _ _ _ _ _ (entered-ready _ _ _ _ _ (entered-ready _ _ _ _ _ (entered-ready _ _ _ _ _ (c .before .before .before .before .before .before .before .before .before .before .before .before .before .before .before .before .before .before .pre .0) (c .before .before .before .before .before .before .before .before .before .before .before .before .before .before .before .constant .ensures)) (c .before .before .before .before .before .before .before .before .before .before .before .mul .ensures)) (c .before .before .before .before .before .before .before .constant2 .ensures)) (c .before .before .before .add .ensures),
-  inside-later (c .before .before .before .add .ensures .ran .longer) (inside-later (c .before .before .before .before .before .before .before .constant2 .ensures .ran .longer) (inside-later (c .before .before .before .before .before .before .before .before .before .before .before .mul .ensures .ran .longer) (inside-later (c .before .before .before .before .before .before .before .before .before .before .before .before .before .before .before .constant .ensures .ran .longer) (c .before .before .before .before .before .before .before .before .before .before .before .before .before .before .before .before .before .before .pre .3)))),
-  c .before .before .before .add .ensures .inside,
-)
+mul-requires-2 c κs =
+    let at-add = c .before .before .before in
+    let at-constant2 = at-add .before .before .before .before in
+    let at-mul = at-constant2 .before .before .before .before in
+    let at-constant = at-mul .before .before .before .before in
+    let start = at-constant .before .before .before in (
+      entered-ready _ _ _ _ _ (entered-ready _ _ _ _ _ (entered-ready _ _ _ _ _
+          (entered-ready _ _ _ _ _ (start .pre .0) (at-constant .constant .ensures)) (at-mul .mul .ensures)) (at-constant2 .constant2 .ensures))
+          (at-add .add .ensures),
+      inside-later (at-add .add .ensures .ran .longer)
+          (inside-later (at-constant2 .constant2 .ensures .ran .longer)
+          (inside-later (at-mul .mul .ensures .ran .longer) (inside-later (at-constant .constant .ensures .ran .longer) (start .pre .3)))),
+      at-add .add .ensures .inside,
+    )
 
 same-length : tie.Need-same-length
-same-length c = c .before .before .mul2 .ensures .ran .kept ∙ (c .before .before .before .before .before .before .add .ensures .ran .kept ∙ (c .before .before .before .before .before .before .before .before .before .before .constant2 .ensures .ran .kept ∙ (c .before .before .before .before .before .before .before .before .before .before .before .before .before .before .mul .ensures .ran .kept ∙ c .before .before .before .before .before .before .before .before .before .before .before .before .before .before .before .before .before .before .constant .ensures .ran .kept)))
+same-length c =
+    let at-mul2 = c .before .before in
+    let at-add = at-mul2 .before .before .before .before in
+    let at-constant2 = at-add .before .before .before .before in
+    let at-mul = at-constant2 .before .before .before .before in
+    let at-constant = at-mul .before .before .before .before in
+    at-mul2 .mul2 .ensures .ran .kept ∙ (at-add .add .ensures .ran .kept ∙
+    (at-constant2 .constant2 .ensures .ran .kept ∙ (at-mul .mul .ensures .ran .kept ∙ at-constant .constant .ensures .ran .kept)))
 
 returns : tie.Need-returns
 unfolding Periodic.sparseTurn
-returns c = then-enter _ _ _ _ _ _ _ _ (c .before .before .before .before .before .before .before .before .before .before .before .before .before .before .before .before .before .before .constant .ensures) (then-enter _ _ _ _ _ _ _ _ (c .before .before .before .before .before .before .before .before .before .before .before .before .before .before .mul .ensures) (then-enter _ _ _ _ _ _ _ _ (c .before .before .before .before .before .before .before .before .before .before .constant2 .ensures) (then-enter _ _ _ _ _ _ _ _ (c .before .before .before .before .before .before .add .ensures) (c .before .before .mul2 .ensures))))
+returns c =
+    let at-mul2 = c .before .before in
+    let at-add = at-mul2 .before .before .before .before in
+    let at-constant2 = at-add .before .before .before .before in
+    let at-mul = at-constant2 .before .before .before .before in
+    let at-constant = at-mul .before .before .before .before in
+    then-enter _ _ _ _ _ _ _ _ (at-constant .constant .ensures) (then-enter _ _ _ _ _ _ _ _ (at-mul .mul .ensures)
+    (then-enter _ _ _ _ _ _ _ _ (at-constant2 .constant2 .ensures) (then-enter _ _ _ _ _ _ _ _ (at-add .add .ensures) (at-mul2 .mul2 .ensures))))
 
 pub sparse-turn-spec : {M : Type 1} → statement M
 sparse-turn-spec =

@@ -26,7 +26,15 @@ slice-aggregate-powers : tie.Need-slice-aggregate-powers
 slice-aggregate-powers c = search needs
 
 powers-requires : tie.Need-powers-requires
-powers-requires c κs = (entered-ready _ _ _ _ _ (c .before .before .before .before .before .before .before .before .before .pre .0) (c .before .before .before .before .before .z-power .ensures), c .before .before .before .before .before .z-power .ensures .inside, omega (arith, c .before .before .log-length .ensures .1))
+powers-requires c κs =
+    let at-log-length = c .before .before in
+    let at-z-power = at-log-length .before .before .before in
+    let start = at-z-power .before .before .before .before in (
+      entered-ready _ _ _ _ _ (start .pre .0) (at-z-power .z-power .ensures),
+      at-z-power .z-power .ensures .inside,
+      omega
+          (arith, at-log-length .log-length .ensures .1),
+    )
 
 slice-aggregate-support : tie.Need-slice-aggregate-support
 slice-aggregate-support c = search needs
@@ -41,10 +49,28 @@ slice-aggregate-places : tie.Need-slice-aggregate-places
 slice-aggregate-places c = sym (length-take-le _ _ (omega (arith, c .before .before .support .ensures .1)))
 
 sparse-twiddles-requires : tie.Need-sparse-twiddles-requires
-sparse-twiddles-requires c κs = (c .before .before .before .before .before .before .before .before .before .before .before .before .before .before .before .before .before .pre .1, record { are = c .before .before .support .ensures .0; few = le-trans (le-of-eq (ap length (c .before .before .support .ensures .0))) (c .before .before .before .before .before .before .before .before .before .before .before .before .before .before .before .before .before .pre .2 .few) })
+sparse-twiddles-requires c κs =
+    let at-support = c .before .before in
+    let start = at-support .before .before .before .before .before .before .before .before .before .before .before .before .before .before .before in (
+      start .pre .1,
+      record {
+        are = at-support .support .ensures .0;
+        few = le-trans (le-of-eq (ap length (at-support .support .ensures .0)))
+            (start .pre .2 .few);
+      },
+    )
 
 sparse-values-requires : tie.Need-sparse-values-requires
-sparse-values-requires c κs = (c .before .before .before .before .before .before .before .before .before .before .before .before .before .before .before .before .before .before .pre .1, record { are = c .before .before .before .support .ensures .0; few = le-trans (le-of-eq (ap length (c .before .before .before .support .ensures .0))) (c .before .before .before .before .before .before .before .before .before .before .before .before .before .before .before .before .before .before .pre .2 .few) })
+sparse-values-requires c κs =
+    let at-support = c .before .before .before in
+    let start = at-support .before .before .before .before .before .before .before .before .before .before .before .before .before .before .before in (
+      start .pre .1,
+      record {
+        are = at-support .support .ensures .0;
+        few = le-trans (le-of-eq (ap length (at-support .support .ensures .0)))
+            (start .pre .2 .few);
+      },
+    )
 
 add-squares : tie.Need-add-squares
 add-squares c = search needs
@@ -53,15 +79,27 @@ array-share-prefix-squares : tie.Need-array-share-prefix-squares
 array-share-prefix-squares c = search needs
 
 slice-aggregate-sparse-sum : tie.Need-slice-aggregate-sparse-sum
-slice-aggregate-sparse-sum c = sym (length-take-le _ _ (omega (arith, c .before .before .before .before .before .before .before .before .before .before .before .before .before .before .log-length .ensures .1)))
+slice-aggregate-sparse-sum c =
+    let at-log-length = c .before .before .before .before .before .before .before .before .before .before .before .before .before .before in
+    sym (length-take-le _ _ (omega (arith, at-log-length .log-length .ensures .1)))
 
 sparse-sum-requires : tie.Need-sparse-sum-requires
 sparse-sum-requires c κs =
-    let t = sym (length-take-le (c .before .before .before .before .before .before .support .result) (c .before .before .before .before .before .before .support .last .1 .0) (omega (arith, c .before .before .before .before .before .before .support .ensures .1))) ∙ ap length (c .before .before .before .before .before .before .support .ensures .0) in
-    let zs = length-take-le (c .before .before .before .before .before .before .before .before .before .before .before .before .before .before .log-length .result + 1) (c .before .before .before .before .before .before .before .before .before .before .before .powers .last .1 .1 .1 .1 .0) (omega (arith, c .before .before .before .before .before .before .before .before .before .before .before .before .before .before .log-length .ensures .1)) in (
-      listed-ready _ _ _ _ _ _ _ (entered-ready _ _ _ _ _ (c .before .before .before .before .before .before .before .before .before .before .before .before .before .before .before .before .before .before .before .before .before .pre .0) (c .before .before .before .before .before .before .before .before .before .before .before .before .before .before .before .before .before .z-power .ensures)) (c .before .before .before .before .before .before .before .before .before .before .before .powers .ensures),
-      c .before .before .before .before .before .before .before .before .before .before .before .powers .ensures .inside,
-      rows-low (c .before .before .before .before .before .before .before .before .before .before .before .before .before .before .before .before .before .before .before .before .before .args .col .now) _ _ _ _ (c .before .before .before .sparse-twiddles .ensures) (c .before .before .sparse-values .ensures) (c .before .before .before .before .before .before .before .before .before .before .before .before .before .before .log-length .ensures .0) t (c .before .before .before .before .before .before .support .ensures .1),
+    let at-sparse-values = c .before .before in
+    let at-sparse-twiddles = at-sparse-values .before in
+    let at-support = at-sparse-twiddles .before .before .before in
+    let at-powers = at-support .before .before .before .before .before in
+    let at-log-length = at-powers .before .before .before in
+    let at-z-power = at-log-length .before .before .before in
+    let start = at-z-power .before .before .before .before in
+    let t = sym (length-take-le (at-support .support .result) (at-support .support .last .1 .0) (omega (arith, at-support .support .ensures .1))) ∙ ap
+    length (at-support .support .ensures .0) in
+    let zs = length-take-le (at-log-length .log-length .result + 1) (at-powers .powers .last .1 .1 .1 .1 .0)
+    (omega (arith, at-log-length .log-length .ensures .1)) in (
+      listed-ready _ _ _ _ _ _ _ (entered-ready _ _ _ _ _ (start .pre .0) (at-z-power .z-power .ensures)) (at-powers .powers .ensures),
+      at-powers .powers .ensures .inside,
+      rows-low (start .args .col .now) _ _ _ _ (at-sparse-twiddles .sparse-twiddles .ensures) (at-sparse-values .sparse-values .ensures)
+          (at-log-length .log-length .ensures .0) t (at-support .support .ensures .1),
       omega arith,
     )
 
@@ -71,10 +109,21 @@ same-length c = search needs
 returns : tie.Need-returns
 unfolding Periodic.sparseValue
 returns c =
-    let t = sym (length-take-le (c .before .before .before .before .before .before .before .before .before .support .result) (c .before .before .before .before .before .before .before .before .before .support .last .1 .0) (omega (arith, c .before .before .before .before .before .before .before .before .before .support .ensures .1))) ∙ ap length (c .before .before .before .before .before .before .before .before .before .support .ensures .0) in
-    then-enter _ _ _ _ _ _ _ _ (c .before .before .before .before .before .before .before .before .before .before .before .before .before .before .before .before .before .before .before .before .z-power .ensures)
-    (then-listed _ _ _ _ _ _ _ _ _ _ (listing-same _ _ _ _ _ _ _ _ (ap (Periodic.powers quad (c .before .before .before .before .before .before .before .before .before .before .before .before .before .before .before .before .before .before .before .before .z-power .result .place)) (c .before .before .before .before .before .before .before .before .before .before .before .before .before .before .before .before .before .log-length .ensures .0)) (c .before .before .before .before .before .before .before .before .before .before .before .before .before .before .powers .ensures))
-    (sparse-entered (c .before .before .before .before .before .before .before .before .before .before .before .before .before .before .before .before .before .before .before .before .before .before .before .before .args .col .now) _ _ _ _ _ _ _ _ _ (c .before .before .before .before .before .before .sparse-twiddles .ensures) (c .before .before .before .before .before .sparse-values .ensures) (c .before .before .before .before .before .before .before .before .before .before .before .before .before .before .before .before .before .log-length .ensures .0) t (c .before .before .sparse-sum .ensures)))
+    let at-sparse-sum = c .before .before in
+    let at-sparse-values = at-sparse-sum .before .before .before in
+    let at-sparse-twiddles = at-sparse-values .before in
+    let at-support = at-sparse-twiddles .before .before .before in
+    let at-powers = at-support .before .before .before .before .before in
+    let at-log-length = at-powers .before .before .before in
+    let at-z-power = at-log-length .before .before .before in
+    let start = at-z-power .before .before .before .before in
+    let t = sym (length-take-le (at-support .support .result) (at-support .support .last .1 .0) (omega (arith, at-support .support .ensures .1))) ∙ ap
+    length (at-support .support .ensures .0) in
+    then-enter _ _ _ _ _ _ _ _ (at-z-power .z-power .ensures)
+    (then-listed _ _ _ _ _ _ _ _ _ _ (listing-same _ _ _ _ _ _ _ _
+    (ap (Periodic.powers quad (at-z-power .z-power .result .place)) (at-log-length .log-length .ensures .0)) (at-powers .powers .ensures))
+    (sparse-entered (start .args .col .now) _ _ _ _ _ _ _ _ _ (at-sparse-twiddles .sparse-twiddles .ensures)
+    (at-sparse-values .sparse-values .ensures) (at-log-length .log-length .ensures .0) t (at-sparse-sum .sparse-sum .ensures)))
 
 pub sparse-value-spec : {M : Type 1} → statement M
 sparse-value-spec =

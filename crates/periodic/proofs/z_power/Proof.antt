@@ -21,7 +21,10 @@ enter-requires : tie.Need-enter-requires Inv-loop μ-loop
 enter-requires c κs = (c .before .before .pre, λ _. zk-fine _)
 
 loop-holds : tie.Need-loop-holds Inv-loop μ-loop
-loop-holds c = (omega arith, enter-none _ _ _ _ (c .before .before .enter .ensures .inside), entered-ready _ _ _ _ _ (c .before .before .before .before .before .pre) (c .before .before .enter .ensures))
+loop-holds c =
+    let at-enter = c .before .before in
+    let start = at-enter .before .before .before in
+    (omega arith, enter-none _ _ _ _ (at-enter .enter .ensures .inside), entered-ready _ _ _ _ _ (start .pre) (at-enter .enter .ensures))
 
 mul-requires : tie.Need-mul-requires Inv-loop μ-loop
 mul-requires c κs = (c .before .before .loop .inv .2, c .before .before .loop .inv .1 .inside, c .before .before .loop .inv .1 .inside)
@@ -33,7 +36,14 @@ loop-less : tie.Need-loop-less Inv-loop μ-loop
 loop-less c = omega arith
 
 loop-again : tie.Need-loop-again Inv-loop μ-loop
-loop-again c = (omega arith, enter-next _ _ _ _ _ _ _ _ _ (c .before .before .before .before .before .loop .inv .1) (c .before .before .mul .ensures), entered-ready _ _ _ _ _ (c .before .before .before .before .before .loop .inv .2) (c .before .before .mul .ensures))
+loop-again c =
+    let at-mul = c .before .before in
+    let at-loop = at-mul .before .before .before in (
+      omega arith,
+      enter-next _ _ _ _ _ _ _ _ _ (at-loop .loop .inv .1) (at-mul .mul .ensures),
+      entered-ready _ _ _ _ _ (at-loop .loop .inv .2)
+          (at-mul .mul .ensures),
+    )
 
 same-length : tie.Need-same-length Inv-loop μ-loop
 same-length c = c .before .loop .inv .1 .ran .kept ∙ c .before .before .before .before .enter .ensures .ran .kept

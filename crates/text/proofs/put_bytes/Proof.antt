@@ -33,7 +33,14 @@ loop-less : tie.Need-loop-less Inv-loop μ-loop
 loop-less c = omega arith
 
 loop-again : tie.Need-loop-again Inv-loop μ-loop
-loop-again c = (omega arith, simp length-set (c .before .before .loop .inv .1), rw (c .before .before .loop .inv .2, add-one) (paste-suc (c .before .before .before .args .out .now) (c .before .before .before .args .at) (c .before .before .before .args .bytes .now) (c .before .before .loop .i) 0 (omega arith) (omega arith)))
+loop-again c =
+    let at-loop = c .before .before in
+    let start = at-loop .before in (
+      omega arith,
+      simp length-set (at-loop .loop .inv .1),
+      rw (at-loop .loop .inv .2, add-one)
+          (paste-suc (start .args .out .now) (start .args .at) (start .args .bytes .now) (at-loop .loop .i) 0 (omega arith) (omega arith)),
+    )
 
 add-result : tie.Need-add-result Inv-loop μ-loop
 add-result c = omega (arith, c .before .before .good .0 .0)
