@@ -38,6 +38,9 @@ const SHOWN: u64 = 20;
 /// Where differences are kept.
 const DIFFERENCES: &str = "target/differences";
 
+/// The random cases of a call that there is one random house file for.
+const A_FILE: u64 = 100;
+
 /// The seconds of a run that names none.
 const SECONDS: u64 = 60;
 
@@ -90,9 +93,9 @@ impl Run {
         self.options.cases.unwrap_or(if self.options.corners { 0 } else { few })
     }
 
-    /// Goes through random cases up to the limits.
-    fn random(&self, begun: Instant, mut take: impl FnMut()) {
-        for _ in 0..self.wanted() {
+    /// Goes through this many random cases, as long as there is time.
+    fn random(&self, wanted: u64, begun: Instant, mut take: impl FnMut()) {
+        for _ in 0..wanted {
             if self.each.is_some_and(|each| begun.elapsed() >= each) {
                 break;
             }
@@ -125,7 +128,7 @@ impl Run {
         }
         let _ = cases::faulty(call, &mut rng, thorough, &mut take);
         let _ = cases::fixed(call, &mut rng, thorough, &mut take);
-        self.random(begun, || {
+        self.random(self.wanted(), begun, || {
             let _ = take(cases::random(call, &mut rng));
         });
         Summary::of_call(&run)
@@ -148,7 +151,8 @@ impl Run {
         };
         let files = cases::fixed_files(&mut rng);
         files.into_iter().step_by(options.every).for_each(&mut take);
-        self.random(begun, || take(cases::random_file(&mut rng)));
+        let wanted = self.wanted() / A_FILE;
+        self.random(wanted, begun, || take(cases::random_file(&mut rng)));
         Summary::of_listings(&run)
     }
 
@@ -178,7 +182,7 @@ impl Run {
 #[cfg(feature = "ours")]
 fn calls_absent() -> Option<String> {
     let archive = ace::ARCHIVE;
-    let other = format!("{archive} is not the archive that was linked: touch it, and run again");
+    let other = format!("{archive} is gone, or is not what was linked: touch it, and run again");
     (!ace::archive_is_linked()).then_some(other)
 }
 
@@ -218,7 +222,8 @@ fn compare(options: Options) -> ExitCode {
         || (options.cases.is_none() && !options.quick && !options.corners);
     let seconds = options.seconds.unwrap_or(SECONDS);
     let each = timed.then(|| Duration::from_secs_f64(seconds as f64 / parts.len() as f64));
-    say!("seed {}\n", options.seed);
+    let takes = if timed { format!(", about {seconds} seconds") } else { String::new() };
+    say!("seed {}{takes}\n", options.seed);
     let _ = std::fs::remove_dir_all(DIFFERENCES);
     let run = Run { options, each, progress: Progress::new() };
     let rows: Vec<Summary> = parts.into_iter().map(|part| run.part(part)).collect();
