@@ -145,3 +145,21 @@ fn lower(case: &Case, lent: &mut [Lent], answer: &mut [u64; 4]) {
 fn sized<const N: usize>(answer: &mut [u64]) -> &mut [u64; N] {
     answer.try_into().expect("the words of the call's answer")
 }
+
+#[cfg(test)]
+mod tests {
+    use super::*;
+
+    #[test]
+    fn a_changed_guard_word_is_told() {
+        let store = [1, 2, 3];
+        let whole = Lent::new(&store, 5, 4);
+        assert!(whole.is_whole(5) && !whole.is_whole(6));
+        assert_eq!(whole.store(), store);
+        for word in 0..whole.words.len() {
+            let mut changed = Lent::new(&store, 5, 4);
+            changed.words[word] ^= 1;
+            assert_eq!(changed.is_whole(5), (4..7).contains(&word), "word {word}");
+        }
+    }
+}
