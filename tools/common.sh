@@ -3,7 +3,7 @@
 
 # The repository's root, and what the script calls itself in its messages.
 root=$(cd "$(dirname "${BASH_SOURCE[0]}")/.." && pwd)
-script=${script:-$(basename "$0")}
+script=$(basename "$0")
 
 # Says what is wrong and ends with 2.
 fail() {
@@ -70,8 +70,9 @@ fresh() {
     fail "$file is missing or older than its sources, and rt, the Rattle kit that builds it, is not on the PATH"
   echo "proving and building $crate, about five minutes the first time; a line for each crate:" >&2
   log=$(mktemp)
+  rm -f "$file"
   # Without its stamp a program is linked anew, even if no source has changed.
-  rm -f "$file" "$root/target/stamp/$crate"
+  [ "$verb" = staticlib ] || rm -f "$root/target/stamp/$crate"
   if ! (cd "$root" && rt "$verb" "$crate" < /dev/null 2>&1 | tee "$log" | awk '/^rt:/ && !/unchanged/ { print; fflush() }' >&2); then
     cat "$log" >&2
     rm -f "$log"
