@@ -1,7 +1,8 @@
 //! include/ace.h compiles, says what the Rust and the exported functions say, serves examples/c, and
-//! has the numbers that the calls answer.
+//! has the numbers that the calls answer and the stack that they take.
 
 mod numbers;
+mod stack;
 
 use std::path::{Path, PathBuf};
 use std::process::{Command, Output};
