@@ -41,8 +41,11 @@ const DIFFERENCES: &str = "target/differences";
 /// The random cases of a call that there is one random house file for.
 const A_FILE: u64 = 100;
 
-/// The seconds of a run that names none.
+/// The seconds of random cases of a run that names none.
 const SECONDS: u64 = 60;
+
+/// About the seconds that short lists and corners take.
+const FIXED: u64 = 20;
 
 /// The differences of one part: printed as cases to send, and kept.
 struct Shown<'a> {
@@ -79,7 +82,7 @@ fn keep(path: &Path, bytes: impl AsRef<[u8]>) -> bool {
     std::fs::create_dir_all(DIFFERENCES).and_then(|()| std::fs::write(path, bytes)).is_ok()
 }
 
-/// A run: what is asked for, and how long each part may take.
+/// A run: what is asked for, and how long the random cases of each part may take.
 struct Run {
     options: Options,
     each: Option<Duration>,
@@ -94,7 +97,8 @@ impl Run {
     }
 
     /// Goes through this many random cases, as long as there is time.
-    fn random(&self, wanted: u64, begun: Instant, mut take: impl FnMut()) {
+    fn random(&self, wanted: u64, mut take: impl FnMut()) {
+        let begun = Instant::now();
         for _ in 0..wanted {
             if self.each.is_some_and(|each| begun.elapsed() >= each) {
                 break;
@@ -109,7 +113,7 @@ impl Run {
 
     /// Compares the cases of one call: short lists, faults, corners, then random ones.
     fn call(&self, call: Call) -> Summary {
-        let (options, begun) = (&self.options, Instant::now());
+        let options = &self.options;
         let lending = if options.bare { Lending::Bare } else { Lending::Guarded };
         let lending = (!options.without_ours).then_some(lending);
         let mut run = Comparison::new(call, options.seed, lending);
@@ -128,7 +132,7 @@ impl Run {
         }
         let _ = cases::faulty(call, &mut rng, thorough, &mut take);
         let _ = cases::fixed(call, &mut rng, thorough, &mut take);
-        self.random(self.wanted(), begun, || {
+        self.random(self.wanted(), || {
             let _ = take(cases::random(call, &mut rng));
         });
         Summary::of_call(&run)
@@ -136,7 +140,7 @@ impl Run {
 
     /// Compares the listings of the files made by hand, then of random ones.
     fn normlist(&self) -> Summary {
-        let (options, begun) = (&self.options, Instant::now());
+        let options = &self.options;
         let program = Program::new(&options.program, &[]);
         let list = (!options.without_ours)
             .then(|| Box::new(move |file: &[u8], delivery| program.list(file, delivery)) as _);
@@ -152,14 +156,14 @@ impl Run {
         let files = cases::fixed_files(&mut rng);
         files.into_iter().step_by(options.every).for_each(&mut take);
         let wanted = self.wanted() / A_FILE;
-        self.random(wanted, begun, || take(cases::random_file(&mut rng)));
+        self.random(wanted, || take(cases::random_file(&mut rng)));
         Summary::of_listings(&run)
     }
 
     /// Compares one part and prints what it met; one that is absent counts as failed.
     fn part(&self, part: Part) -> Summary {
         let begun = Instant::now();
-        self.progress.begin(part.name(), self.each);
+        self.progress.begin(part.name());
         let mut summary = match (absent(part, &self.options), part) {
             (Some(why), _) => Summary::absent(part.name(), why),
             (None, Part::Call(call)) => self.call(call),
@@ -222,7 +226,7 @@ fn compare(options: Options) -> ExitCode {
         || (options.cases.is_none() && !options.quick && !options.corners);
     let seconds = options.seconds.unwrap_or(SECONDS);
     let each = timed.then(|| Duration::from_secs_f64(seconds as f64 / parts.len() as f64));
-    let takes = if timed { format!(", about {seconds} seconds") } else { String::new() };
+    let takes = if timed { format!(", about {} seconds", seconds + FIXED) } else { String::new() };
     say!("seed {}{takes}\n", options.seed);
     let _ = std::fs::remove_dir_all(DIFFERENCES);
     let run = Run { options, each, progress: Progress::new() };
