@@ -22,7 +22,7 @@ int main(void) {
         4, 0, 2, /* mul 0 2 */
         2, 3, 4, /* add 3 4 */
     };
-    uint64_t result[ROOM], work[WORK], answer[4];
+    uint64_t result[ROOM], work[WORK], answer[ACE_ANSWER_WORDS];
     for (int i = 0; i < ROOM; i++) result[i] = 99;
     for (int i = 0; i < WORK; i++) work[i] = 99;
 

@@ -1,27 +1,20 @@
 //! Copies the Rust of docs/src into the output folder, where src/lib.rs mounts it.
 //!
 //! ACE_SRC names the folder; a relative one stands against the repository's root. It holds the
-//! files as docs/src names them, or is a clone of the repository that they come from.
+//! files as docs/src names them, or is a clone of the repository that they come from. Files that
+//! are not the commit's are refused.
+
+mod sha256;
+mod sources;
 
 use std::env;
 use std::fs;
 use std::path::{Path, PathBuf};
 
+use sources::{MODULES, Source, TESTING};
+
 /// The folder taken where ACE_SRC is not set, from the repository's root.
 const DEFAULT: &str = "../shared/docs/src";
-
-/// The files mounted whole, below crates/ace/src.
-const MODULES: [&str; 6] = [
-    "layout/keys.rs",
-    "layout/plan.rs",
-    "compiler/dag/builder.rs",
-    "compiler/dag/ir.rs",
-    "compiler/dag/normalize.rs",
-    "compiler/dag/periodic.rs",
-];
-
-/// The file that `eval_dag` is cut out of.
-const TESTING: &str = "compiler/testing.rs";
 
 /// Added behind normalize.rs: a name for one round that stands outside it, so that rounds can be
 /// counted.
@@ -30,7 +23,9 @@ pub(super) fn one_round<EF: Field>(dag: AceDag<EF>) -> (AceDag<EF>, bool) { norm
 ";
 
 fn main() {
-    println!("cargo::rerun-if-changed=build.rs");
+    for file in ["build.rs", "sha256.rs", "sources.rs"] {
+        println!("cargo::rerun-if-changed={file}");
+    }
     println!("cargo::rerun-if-env-changed=ACE_SRC");
     if let Err(message) = mount() {
         println!("cargo::error={message}");
@@ -41,9 +36,9 @@ fn main() {
 fn mount() -> Result<(), String> {
     let out = PathBuf::from(env::var("OUT_DIR").unwrap());
     let folder = source_folder();
-    for module in MODULES {
-        let name = module.rsplit('/').next().unwrap();
-        let mut text = read(&folder, module)?;
+    for source in MODULES {
+        let name = source.0.rsplit('/').next().unwrap();
+        let mut text = read(&folder, source)?;
         if name == "normalize.rs" {
             text.push_str(ONE_ROUND);
         }
@@ -57,7 +52,7 @@ fn mount() -> Result<(), String> {
     }
     let testing = read(&folder, TESTING)?;
     let evaluator = cut(&testing, "pub fn eval_dag")
-        .ok_or_else(|| format!("{TESTING} in {} has no eval_dag", folder.display()))?;
+        .ok_or_else(|| format!("{} in {} has no eval_dag", TESTING.0, folder.display()))?;
     write(&out.join("eval_dag.rs"), evaluator)
 }
 
@@ -70,20 +65,24 @@ fn source_folder() -> PathBuf {
     manifest.parent().and_then(Path::parent).unwrap().join(named)
 }
 
-/// The text of a file of crates/ace/src, under either of its two names.
-fn read(folder: &Path, module: &str) -> Result<String, String> {
-    let flat = format!("src--crates--ace--src--{}.txt", module.replace('/', "--"));
-    for path in [folder.join(flat), folder.join("crates/ace/src").join(module)] {
-        if let Ok(text) = fs::read_to_string(&path) {
-            println!("cargo::rerun-if-changed={}", path.display());
-            return Ok(text);
-        }
+/// The text of a file of the commit, under either of its two names.
+fn read(folder: &Path, source: Source) -> Result<String, String> {
+    let name = source.0;
+    let flat = format!("src--crates--ace--src--{}.txt", name.replace('/', "--"));
+    let places = [folder.join(flat), folder.join("crates/ace/src").join(name)];
+    let Some(path) = places.iter().find(|path| path.exists()) else {
+        return Err(format!(
+            "the Rust to compare with is not in {} ({name} is missing): set ACE_SRC to docs/src, \
+             or to a clone of github.com/0xMiden/miden-vm at 614c9f3608",
+            folder.display()
+        ));
+    };
+    println!("cargo::rerun-if-changed={}", path.display());
+    let text = fs::read_to_string(path).map_err(|error| format!("{}: {error}", path.display()))?;
+    match sources::refused(source, text.as_bytes()) {
+        Some(refusal) => Err(format!("{}: {refusal}", path.display())),
+        None => Ok(text),
     }
-    Err(format!(
-        "the Rust to compare with is not in {} ({module} is missing): set ACE_SRC to docs/src, \
-         or to a clone of github.com/0xMiden/miden-vm at 614c9f3608",
-        folder.display()
-    ))
 }
 
 /// The item that begins at a line's start with `head`, to its closing line.

@@ -17,12 +17,20 @@
 //! are blank, and a work store is blank throughout. A refusal changes no store, save that the 7 of
 //! `lower` leaves its work store blank.
 //!
-//! The calls link with `target/staticlib/libace.a` of the repository, which `rt staticlib ace`
-//! writes. Each is behind the feature of its name, and there only if the archive has it.
+//! A program that uses the crate names it by its path in a clone of the repository:
+//!
+//! ```toml
+//! [dependencies]
+//! ace = { path = "../reefquince/rust/ace" }
+//! ```
+//!
+//! It links `target/staticlib/libace.a` of that clone, which `rt staticlib ace` writes, or the
+//! `libace.a` in the folder that the variable `ACE_LIB` names; without one the build ends in an
+//! error. The archive is for x86-64 Linux.
 //!
 //! A short list in a store that held something else: the words behind it are [`BLANK`].
-#![cfg_attr(linked = "normalize", doc = "```")]
-#![cfg_attr(not(linked = "normalize"), doc = "```ignore")]
+//!
+//! ```
 //! let list = [
 //!     0, 0, 0, // input 0
 //!     0, 1, 0, // input 1
@@ -50,8 +58,17 @@ pub mod words;
 /// The word behind what a call has filled.
 pub const BLANK: u64 = 0;
 
-/// The archive that this crate was built with, as its folder was named, if it was there.
-pub const ARCHIVE: Option<&str> = option_env!("ACE_ARCHIVE");
+/// The archive that this crate was built with, as its folder was named.
+pub const ARCHIVE: &str = env!("ACE_ARCHIVE");
+
+/// Whether the archive at its place is still the one that was linked.
+pub fn archive_is_linked() -> bool {
+    let linked = std::fs::read(concat!(env!("OUT_DIR"), "/libace.a"));
+    linked.is_ok_and(|linked| std::fs::read(env!("ACE_PLACE")).is_ok_and(|now| now == linked))
+}
+
+/// A line for each refusal: its number, its reason.
+const REASONS: &str = include_str!("../../../tools/refusals.txt");
 
 /// Why a call said no.
 #[derive(Clone, Copy, Debug, PartialEq, Eq)]
@@ -65,21 +82,9 @@ pub struct Refusal {
 impl Refusal {
     /// The reason in words.
     pub fn reason(self) -> &'static str {
-        match self.number {
-            1 => "the number of records is 0 or above 4,096",
-            2 => "a lent store is too short",
-            3 => "a tag is above 5",
-            4 => "a word is not below p, no key's number, or unused and not 0",
-            5 => "an operand does not come before its record",
-            6 => "the root is outside the list",
-            7 => "a new record has no room",
-            11 => "the assignment has more than 4,096 entries",
-            12 => "an input has no entry",
-            13 => "there are more than 16 columns",
-            14 => "a column's length is no power of two in 1 to 128",
-            15 => "the period is no power of two in 1 to 2^32, or is below the longest column",
-            _ => "no reason of this library",
-        }
+        let number = self.number.to_string();
+        let mut lines = REASONS.lines().filter_map(|line| line.split_once(' '));
+        lines.find(|line| line.0 == number).map_or("no reason of this library", |line| line.1)
     }
 }
 
@@ -91,9 +96,10 @@ impl fmt::Display for Refusal {
 
 impl std::error::Error for Refusal {}
 
-/// The answer words, or the refusal that they tell.
-#[allow(dead_code)]
-fn told<const N: usize>(answer: [u64; N]) -> Result<[u64; N], Refusal> {
+/// The answer words of a call, or the refusal that they tell.
+fn told<const N: usize>(call: impl FnOnce(&mut [u64; N])) -> Result<[u64; N], Refusal> {
+    let mut answer = [u64::MAX; N];
+    call(&mut answer);
     match answer[0] {
         0 => Ok(answer),
         number => Err(Refusal { number, place: answer[1] }),
@@ -112,9 +118,8 @@ pub struct Stepped {
 /// One request on a list, which may be empty. Only an appended record is written.
 ///
 /// Lends `list` of at least 3n words, and three more where the request appends a record.
-#[cfg(any(linked = "step", doc))]
-#[cfg_attr(linked = "step", doc = "```")]
-#[cfg_attr(not(linked = "step"), doc = "```ignore")]
+///
+/// ```
 /// let mut list = [9; 6];
 /// assert_eq!(ace::step(&mut list, 0, 0, 1, 0), Ok(ace::Stepped { place: 0, n: 1 }));
 /// assert_eq!(list, [0, 1, 0, 9, 9, 9]);
@@ -126,7 +131,7 @@ pub fn step(
     first: u64,
     second: u64,
 ) -> Result<Stepped, Refusal> {
-    let [_, place, n, _] = told(words::step(list, n, tag, first, second))?;
+    let [_, place, n, _] = told(|answer| words::step(list, n, tag, first, second, answer))?;
     Ok(Stepped { place, n })
 }
 
@@ -143,9 +148,8 @@ pub struct Rooted {
 ///
 /// Lends `result` of at least 3n words and `map` of at least n. Here the second sum is the first
 /// one again:
-#[cfg(any(linked = "build", doc))]
-#[cfg_attr(linked = "build", doc = "```")]
-#[cfg_attr(not(linked = "build"), doc = "```ignore")]
+///
+/// ```
 /// let requests = [0, 0, 0, 0, 1, 0, 2, 0, 1, 2, 1, 0];
 /// let (mut result, mut map) = ([9; 12], [9; 4]);
 /// let built = ace::build(&requests, 4, 3, &mut result, &mut map).unwrap();
@@ -160,23 +164,22 @@ pub fn build(
     result: &mut [u64],
     map: &mut [u64],
 ) -> Result<Rooted, Refusal> {
-    let [_, count, root, _] = told(words::build(list, n, root, result, map))?;
+    let [_, count, root, _] = told(|answer| words::build(list, n, root, result, map, answer))?;
     Ok(Rooted { count, root })
 }
 
 /// The records that the root reaches.
 ///
 /// Lends `result` of at least 3n words.
-#[cfg(any(linked = "compact", doc))]
-#[cfg_attr(linked = "compact", doc = "```")]
-#[cfg_attr(not(linked = "compact"), doc = "```ignore")]
+///
+/// ```
 /// let mut result = [9; 6];
 /// let compacted = ace::compact(&[0, 0, 0, 0, 1, 0], 2, 1, &mut result).unwrap();
 /// assert_eq!((compacted.count, compacted.root), (1, 0));
 /// assert_eq!(result, [0, 1, 0, 0, 0, 0]);
 /// ```
 pub fn compact(list: &[u64], n: u64, root: u64, result: &mut [u64]) -> Result<Rooted, Refusal> {
-    let [_, count, root, _] = told(words::compact(list, n, root, result))?;
+    let [_, count, root, _] = told(|answer| words::compact(list, n, root, result, answer))?;
     Ok(Rooted { count, root })
 }
 
@@ -194,9 +197,8 @@ pub struct Normalized {
 /// The normalised list.
 ///
 /// Lends `result` of at least 3n words and `work` of at least 6n. What came back is normal:
-#[cfg(any(linked = "normalize", doc))]
-#[cfg_attr(linked = "normalize", doc = "```")]
-#[cfg_attr(not(linked = "normalize"), doc = "```ignore")]
+///
+/// ```
 /// let list = [0, 0, 0, 0, 1, 0, 0, 2, 0, 4, 0, 1, 4, 0, 2, 2, 3, 4];
 /// let (mut once, mut twice, mut work) = ([9; 18], [9; 18], [9; 36]);
 /// let normal = ace::normalize(&list, 6, 5, &mut once, &mut work).unwrap();
@@ -212,7 +214,8 @@ pub fn normalize(
     result: &mut [u64],
     work: &mut [u64],
 ) -> Result<Normalized, Refusal> {
-    let [_, count, root, rounds] = told(words::normalize(list, n, root, result, work))?;
+    let [_, count, root, rounds] =
+        told(|answer| words::normalize(list, n, root, result, work, answer))?;
     Ok(Normalized { count, root, rounds })
 }
 
@@ -226,9 +229,8 @@ pub struct Value {
 /// The root's value under `m` entries of key number, c0, c1; a key's last entry counts.
 ///
 /// Lends `assignment` of at least 3m words. u · u is 7:
-#[cfg(any(linked = "evaluate", doc))]
-#[cfg_attr(linked = "evaluate", doc = "```")]
-#[cfg_attr(not(linked = "evaluate"), doc = "```ignore")]
+///
+/// ```
 /// let square = [0, 0, 0, 4, 0, 0];
 /// let value = ace::evaluate(&square, 2, 1, &[0, 0, 1], 1).unwrap();
 /// assert_eq!((value.c0, value.c1), (7, 0));
@@ -240,7 +242,7 @@ pub fn evaluate(
     assignment: &[u64],
     m: u64,
 ) -> Result<Value, Refusal> {
-    let [_, c0, c1, _] = told(words::evaluate(list, n, root, assignment, m))?;
+    let [_, c0, c1, _] = told(|answer| words::evaluate(list, n, root, assignment, m, answer))?;
     Ok(Value { c0, c1 })
 }
 
@@ -255,14 +257,13 @@ pub enum Form {
 /// The form of each column.
 ///
 /// Lends `lengths`, a word a column, and `entries`, column after column.
-#[cfg(any(linked = "prepare", doc))]
-#[cfg_attr(linked = "prepare", doc = "```")]
-#[cfg_attr(not(linked = "prepare"), doc = "```ignore")]
+///
+/// ```
 /// let forms = ace::prepare(&[8, 1], &[1, 0, 0, 0, 0, 0, 0, 0, 5]).unwrap();
 /// assert_eq!(forms, [ace::Form::Sparse, ace::Form::Dense]);
 /// ```
 pub fn prepare(lengths: &[u64], entries: &[u64]) -> Result<Vec<Form>, Refusal> {
-    let answer = told(words::prepare(lengths, entries))?;
+    let answer = told(|answer| words::prepare(lengths, entries, answer))?;
     let form = |&word: &u64| match word {
         0 => Form::Sparse,
         1 => Form::Dense,
@@ -276,9 +277,8 @@ pub fn prepare(lengths: &[u64], entries: &[u64]) -> Result<Vec<Form>, Refusal> {
 ///
 /// Lends `work` of at least 12,288 words, `places` of at least a word a column, and a `result` with
 /// room for what comes out.
-#[cfg(any(linked = "lower", doc))]
-#[cfg_attr(linked = "lower", doc = "```")]
-#[cfg_attr(not(linked = "lower"), doc = "```ignore")]
+///
+/// ```
 /// let (mut result, mut work, mut places) = ([9; 9], [9; 12_288], [9; 1]);
 /// let count = ace::lower(&[], 0, &[1], &[5], 1, &mut result, &mut work, &mut places).unwrap();
 /// assert_eq!((count, places), (3, [1]));
@@ -295,6 +295,8 @@ pub fn lower(
     work: &mut [u64],
     places: &mut [u64],
 ) -> Result<u64, Refusal> {
-    let answer = words::lower(list, n, lengths, entries, period, result, work, places);
-    told(answer).map(|[_, count, ..]| count)
+    let [_, count, ..] = told(|answer| {
+        words::lower(list, n, lengths, entries, period, result, work, places, answer)
+    })?;
+    Ok(count)
 }

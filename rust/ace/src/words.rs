@@ -2,12 +2,7 @@
 //!
 //! `answer[0]` is 0 or the refusal's number; the values, or the place, start at `answer[1]`.
 
-/// An answer word before the call, so that one left unwritten shows.
-#[allow(dead_code)]
-const UNWRITTEN: u64 = u64::MAX;
-
 unsafe extern "C" {
-    #[cfg(any(linked = "step", doc))]
     fn ace_step(
         list: *mut u64,
         list_len: usize,
@@ -18,7 +13,6 @@ unsafe extern "C" {
         answer: *mut u64,
     );
 
-    #[cfg(any(linked = "build", doc))]
     fn ace_build(
         list: *const u64,
         list_len: usize,
@@ -31,7 +25,6 @@ unsafe extern "C" {
         answer: *mut u64,
     );
 
-    #[cfg(any(linked = "compact", doc))]
     fn ace_compact(
         list: *const u64,
         list_len: usize,
@@ -42,7 +35,6 @@ unsafe extern "C" {
         answer: *mut u64,
     );
 
-    #[cfg(any(linked = "normalize", doc))]
     fn ace_normalize(
         list: *const u64,
         list_len: usize,
@@ -55,7 +47,6 @@ unsafe extern "C" {
         answer: *mut u64,
     );
 
-    #[cfg(any(linked = "evaluate", doc))]
     fn ace_evaluate(
         list: *const u64,
         list_len: usize,
@@ -67,7 +58,6 @@ unsafe extern "C" {
         answer: *mut u64,
     );
 
-    #[cfg(any(linked = "prepare", doc))]
     fn ace_prepare(
         lengths: *const u64,
         lengths_len: usize,
@@ -76,7 +66,6 @@ unsafe extern "C" {
         answer: *mut u64,
     );
 
-    #[cfg(any(linked = "lower", doc))]
     fn ace_lower(
         list: *const u64,
         list_len: usize,
@@ -97,21 +86,23 @@ unsafe extern "C" {
 }
 
 /// One request on a list: place, new n.
-#[cfg(any(linked = "step", doc))]
-pub fn step(list: &mut [u64], n: u64, tag: u64, first: u64, second: u64) -> [u64; 4] {
-    let mut answer = [UNWRITTEN; 4];
-    // SAFETY: the slices are distinct, and lent with their lengths.
+pub fn step(list: &mut [u64], n: u64, tag: u64, first: u64, second: u64, answer: &mut [u64; 4]) {
+    // SAFETY: each slice is lent with its length, and those written overlap no other.
     unsafe {
         ace_step(list.as_mut_ptr(), list.len(), n, tag, first, second, answer.as_mut_ptr());
     }
-    answer
 }
 
 /// A list built from requests: count, the root's place.
-#[cfg(any(linked = "build", doc))]
-pub fn build(list: &[u64], n: u64, root: u64, result: &mut [u64], map: &mut [u64]) -> [u64; 4] {
-    let mut answer = [UNWRITTEN; 4];
-    // SAFETY: the slices are distinct, and lent with their lengths.
+pub fn build(
+    list: &[u64],
+    n: u64,
+    root: u64,
+    result: &mut [u64],
+    map: &mut [u64],
+    answer: &mut [u64; 4],
+) {
+    // SAFETY: each slice is lent with its length, and those written overlap no other.
     unsafe {
         ace_build(
             list.as_ptr(),
@@ -125,14 +116,11 @@ pub fn build(list: &[u64], n: u64, root: u64, result: &mut [u64], map: &mut [u64
             answer.as_mut_ptr(),
         );
     }
-    answer
 }
 
 /// The records that the root reaches: count, root.
-#[cfg(any(linked = "compact", doc))]
-pub fn compact(list: &[u64], n: u64, root: u64, result: &mut [u64]) -> [u64; 4] {
-    let mut answer = [UNWRITTEN; 4];
-    // SAFETY: the slices are distinct, and lent with their lengths.
+pub fn compact(list: &[u64], n: u64, root: u64, result: &mut [u64], answer: &mut [u64; 4]) {
+    // SAFETY: each slice is lent with its length, and those written overlap no other.
     unsafe {
         ace_compact(
             list.as_ptr(),
@@ -144,20 +132,18 @@ pub fn compact(list: &[u64], n: u64, root: u64, result: &mut [u64]) -> [u64; 4] 
             answer.as_mut_ptr(),
         );
     }
-    answer
 }
 
 /// The normalised list: count, root, rounds kept.
-#[cfg(any(linked = "normalize", doc))]
 pub fn normalize(
     list: &[u64],
     n: u64,
     root: u64,
     result: &mut [u64],
     work: &mut [u64],
-) -> [u64; 4] {
-    let mut answer = [UNWRITTEN; 4];
-    // SAFETY: the slices are distinct, and lent with their lengths.
+    answer: &mut [u64; 4],
+) {
+    // SAFETY: each slice is lent with its length, and those written overlap no other.
     unsafe {
         ace_normalize(
             list.as_ptr(),
@@ -171,14 +157,18 @@ pub fn normalize(
             answer.as_mut_ptr(),
         );
     }
-    answer
 }
 
 /// The root's value under m entries of key number, c0, c1: c0, c1.
-#[cfg(any(linked = "evaluate", doc))]
-pub fn evaluate(list: &[u64], n: u64, root: u64, assignment: &[u64], m: u64) -> [u64; 4] {
-    let mut answer = [UNWRITTEN; 4];
-    // SAFETY: the slices are distinct, and lent with their lengths.
+pub fn evaluate(
+    list: &[u64],
+    n: u64,
+    root: u64,
+    assignment: &[u64],
+    m: u64,
+    answer: &mut [u64; 4],
+) {
+    // SAFETY: each slice is lent with its length, and those written overlap no other.
     unsafe {
         ace_evaluate(
             list.as_ptr(),
@@ -191,14 +181,11 @@ pub fn evaluate(list: &[u64], n: u64, root: u64, assignment: &[u64], m: u64) -> 
             answer.as_mut_ptr(),
         );
     }
-    answer
 }
 
 /// The form of each column: columns, then a form each.
-#[cfg(any(linked = "prepare", doc))]
-pub fn prepare(lengths: &[u64], entries: &[u64]) -> [u64; 18] {
-    let mut answer = [UNWRITTEN; 18];
-    // SAFETY: the slices are distinct, and lent with their lengths.
+pub fn prepare(lengths: &[u64], entries: &[u64], answer: &mut [u64; 18]) {
+    // SAFETY: each slice is lent with its length, and those written overlap no other.
     unsafe {
         ace_prepare(
             lengths.as_ptr(),
@@ -208,11 +195,9 @@ pub fn prepare(lengths: &[u64], entries: &[u64]) -> [u64; 18] {
             answer.as_mut_ptr(),
         );
     }
-    answer
 }
 
 /// The list with the columns' nodes behind it: count.
-#[cfg(any(linked = "lower", doc))]
 #[allow(clippy::too_many_arguments)]
 pub fn lower(
     list: &[u64],
@@ -223,9 +208,9 @@ pub fn lower(
     result: &mut [u64],
     work: &mut [u64],
     places: &mut [u64],
-) -> [u64; 4] {
-    let mut answer = [UNWRITTEN; 4];
-    // SAFETY: the slices are distinct, and lent with their lengths.
+    answer: &mut [u64; 4],
+) {
+    // SAFETY: each slice is lent with its length, and those written overlap no other.
     unsafe {
         ace_lower(
             list.as_ptr(),
@@ -245,5 +230,4 @@ pub fn lower(
             answer.as_mut_ptr(),
         );
     }
-    answer
 }

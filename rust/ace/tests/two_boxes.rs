@@ -1,17 +1,13 @@
 //! Two boxes: one store is fresh, the other held a longer list. A short list comes to the same
 //! answer and the same words in both, and every word behind it is the blank.
-#![cfg(all(
-    linked = "step",
-    linked = "build",
-    linked = "compact",
-    linked = "normalize",
-    linked = "evaluate"
-))]
 
 use ace::{BLANK, words};
 
 /// The most records of a list.
 const MOST: usize = 4_096;
+
+/// The shared period of every lowering here.
+const PERIOD: u64 = 8;
 
 /// The calls that write a list whole.
 #[derive(Clone, Copy, Debug, PartialEq)]
@@ -19,24 +15,30 @@ enum Call {
     Build,
     Compact,
     Normalize,
+    Lower,
 }
 
-use Call::{Build, Compact, Normalize};
+use Call::{Build, Compact, Lower, Normalize};
 
-const CALLS: [Call; 3] = [Build, Compact, Normalize];
+const CALLS: [Call; 4] = [Build, Compact, Normalize, Lower];
 
-/// A list of records and its root.
+/// The calls on a list with a root.
+const ROOTED: [Call; 3] = [Build, Compact, Normalize];
+
+/// A list of records, its root, and the lengths and entries of the columns lowered on it.
 #[derive(Clone, Debug)]
 struct List {
     records: Vec<[u64; 3]>,
     root: u64,
+    lengths: Vec<u64>,
+    entries: Vec<u64>,
 }
 
 impl List {
-    /// These records, the last one the root.
+    /// These records, the last one the root, and a column of four.
     fn new(records: Vec<[u64; 3]>) -> Self {
         let root = records.len() as u64 - 1;
-        Self { records, root }
+        Self { records, root, lengths: vec![4], entries: vec![1, 2, 3, 4] }
     }
 
     /// Inputs, then sums of two earlier records: n records that no call shortens.
@@ -45,6 +47,13 @@ impl List {
         let mut records: Vec<[u64; 3]> = (0..inputs).map(|key| [0, key, 0]).collect();
         records.extend((inputs..n as u64).map(|place| [2, place - inputs, place - 1]));
         Self::new(records)
+    }
+
+    /// A list that this call makes as long as one can be; of Lower, with 16 columns of one entry:
+    /// a constant each, ZK three times squared, and 0.
+    fn longest(call: Call) -> Self {
+        let list = Self::long(if call == Lower { MOST - 21 } else { MOST });
+        Self { lengths: vec![1; 16], entries: (1..=16).collect(), ..list }
     }
 
     fn n(&self) -> u64 {
@@ -56,15 +65,22 @@ impl List {
     }
 }
 
-/// Short lists of every kind of record; the first is document 01's listing.
+/// Short lists of every kind of record; the third is document 01's listing.
 fn short_lists() -> Vec<List> {
     let inputs = [[0, 0, 0], [0, 1, 0], [0, 2, 0]];
     let listing = [&inputs[..], &[[4, 0, 1], [4, 0, 2], [2, 3, 4]]].concat();
     let rotation = [&inputs[..], &[[2, 0, 2], [2, 0, 1], [2, 2, 4], [4, 3, 5]]].concat();
     let kinds = vec![[0, 1, 0], [1, 2, 3], [2, 0, 1], [3, 2, 0], [4, 3, 3], [5, 4, 0]];
-    let unused = List { records: inputs[..2].to_vec(), root: 0 };
+    let unused = List { root: 0, ..List::new(inputs[..2].to_vec()) };
     let whole = [vec![[0, 0, 0]], vec![[1, 5, 7]], listing, rotation, kinds];
     whole.into_iter().map(List::new).chain([unused]).collect()
+}
+
+/// The answer words that a call writes.
+fn answered(call: impl FnOnce(&mut [u64; 4])) -> [u64; 4] {
+    let mut answer = [u64::MAX; 4];
+    call(&mut answer);
+    answer
 }
 
 /// A box: the stores that it lends again and again.
@@ -73,12 +89,18 @@ struct Stores {
     result: Vec<u64>,
     map: Vec<u64>,
     work: Vec<u64>,
+    places: Vec<u64>,
 }
 
 impl Stores {
     /// Stores of zeros, with room for the longest list and a little more.
     fn fresh() -> Self {
-        Self { result: vec![0; 3 * MOST + 5], map: vec![0; MOST + 5], work: vec![0; 6 * MOST + 5] }
+        Self {
+            result: vec![0; 3 * MOST + 5],
+            map: vec![0; MOST + 5],
+            work: vec![0; 6 * MOST + 5],
+            places: vec![0; 16 + 5],
+        }
     }
 
     /// Stores of words that were left behind: records among them.
@@ -92,21 +114,25 @@ impl Stores {
         left(&mut stores.result);
         left(&mut stores.map);
         left(&mut stores.work);
+        left(&mut stores.places);
         stores
     }
 
-    /// The call's answer words, on n records of a list's words.
-    fn call(&mut self, call: Call, words: &[u64], n: u64, root: u64) -> [u64; 4] {
-        match call {
-            Build => words::build(words, n, root, &mut self.result, &mut self.map),
-            Compact => words::compact(words, n, root, &mut self.result),
-            Normalize => words::normalize(words, n, root, &mut self.result, &mut self.work),
-        }
+    /// The call's answer words on a list, of which these words are lent as n records.
+    fn call(&mut self, call: Call, list: &List, words: &[u64], n: u64) -> [u64; 4] {
+        let Self { result, map, work, places } = self;
+        let (root, lengths, entries) = (list.root, &list.lengths, &list.entries);
+        answered(|answer| match call {
+            Build => words::build(words, n, root, result, map, answer),
+            Compact => words::compact(words, n, root, result, answer),
+            Normalize => words::normalize(words, n, root, result, work, answer),
+            Lower => words::lower(words, n, lengths, entries, PERIOD, result, work, places, answer),
+        })
     }
 
     /// The answer words of a list that is accepted.
     fn load(&mut self, call: Call, list: &List) -> [u64; 4] {
-        let answer = self.call(call, list.words(), list.n(), list.root);
+        let answer = self.call(call, list, list.words(), list.n());
         assert_eq!(answer[0], 0, "{call:?} accepts {list:?}");
         answer
     }
@@ -114,9 +140,13 @@ impl Stores {
     /// Whether the words behind the list are the blank, and all of a work store is.
     fn blank_behind(&self, call: Call, list: &List, count: u64) -> bool {
         let blank = |words: &[u64]| words.iter().all(|&word| word == BLANK);
-        blank(&self.result[3 * count as usize..])
-            && (call != Build || blank(&self.map[list.records.len()..]))
-            && (call != Normalize || blank(&self.work))
+        let behind = match call {
+            Build => blank(&self.map[list.records.len()..]),
+            Compact => true,
+            Normalize => blank(&self.work),
+            Lower => blank(&self.work) && blank(&self.places[list.lengths.len()..]),
+        };
+        behind && blank(&self.result[3 * count as usize..])
     }
 
     /// The stores that a call writes.
@@ -125,6 +155,7 @@ impl Stores {
             Build => vec![&self.result, &self.map],
             Compact => vec![&self.result],
             Normalize => vec![&self.result, &self.work],
+            Lower => vec![&self.result, &self.work, &self.places],
         }
     }
 }
@@ -139,12 +170,10 @@ fn agree(call: Call, list: &List, fresh: &mut Stores, used: &mut Stores) {
 
 #[test]
 fn a_short_list_behind_a_long_one() {
-    let long = List::long(MOST);
     for first in CALLS {
-        let mut held = Stores::used();
-        let answer = held.load(first, &long);
-        assert_eq!(answer[1..3], [MOST as u64, MOST as u64 - 1]);
-        assert_eq!(held.result[..3 * MOST], *long.words());
+        let (long, mut held) = (List::longest(first), Stores::used());
+        assert_eq!(held.load(first, &long)[1], MOST as u64, "{first:?}");
+        assert_eq!(held.result[..long.words().len()], *long.words());
         for second in CALLS {
             for short in short_lists() {
                 agree(second, &short, &mut Stores::fresh(), &mut held.clone());
@@ -165,36 +194,85 @@ fn the_listing_is_in_both_boxes() {
 }
 
 #[test]
+fn a_column_of_one_entry_is_in_both_boxes() {
+    let list = List { lengths: vec![1], entries: vec![5], ..List::new(vec![[0, 9, 0]]) };
+    for mut stores in [Stores::fresh(), Stores::used()] {
+        assert_eq!(stores.load(Lower, &list), [0, 7, 0, 0]);
+        let nodes = [0, 9, 0, 0, 11 << 48, 0, 4, 1, 1, 4, 2, 2, 4, 3, 3, 1, 5, 0, 1, 0, 0];
+        assert_eq!(stores.result[..21], nodes);
+        assert_eq!(stores.places[..2], [5, BLANK]);
+        assert!(stores.blank_behind(Lower, &list, 7));
+    }
+}
+
+#[test]
 fn one_box_for_a_month_of_lists() {
     let mut held = Stores::used();
     for (turn, n) in [700, 3, 64, 2, 699, 12, 5, 333, 1, 8, 90, 4].into_iter().enumerate() {
         let list = if n == 1 { List::new(vec![[0, 9, 0]]) } else { List::long(n) };
-        for short in short_lists() {
-            agree(CALLS[turn % 3], &list, &mut Stores::fresh(), &mut held);
-            agree(CALLS[turn / 3 % 3], &short, &mut Stores::fresh(), &mut held);
+        for (next, short) in short_lists().into_iter().enumerate() {
+            agree(CALLS[turn % 4], &list, &mut Stores::fresh(), &mut held);
+            agree(CALLS[(turn / 4 + next) % 4], &short, &mut Stores::fresh(), &mut held);
+        }
+    }
+}
+
+/// A box that holds the longest lists, loaded by every call.
+fn full_box() -> Stores {
+    let mut held = Stores::used();
+    for call in CALLS {
+        held.load(call, &List::longest(call));
+    }
+    held
+}
+
+#[test]
+fn a_refusal_leaves_the_long_list() {
+    let mut held = full_box();
+    let before = held.clone();
+    let late = [0, 0, 0, 2, 0, 1];
+    for (calls, words, n, root, refusal) in [
+        (&CALLS[..], &late[..], 2, 1, [5, 1, 0, 0]),
+        (&CALLS, &late, 3, 0, [2, 0, 0, 0]),
+        (&CALLS, &late, 4_097, 0, [1, 0, 0, 0]),
+        (&ROOTED, &late[..3], 1, 1, [6, 0, 0, 0]),
+        (&ROOTED, &[], 0, 0, [1, 0, 0, 0]),
+    ] {
+        let list = List { root, ..List::new(vec![[0, 0, 0]]) };
+        for &call in calls {
+            assert_eq!(held.call(call, &list, words, n), refusal, "{call:?}");
+            for written in CALLS {
+                assert_eq!(held.written(written), before.written(written), "{call:?}");
+            }
         }
     }
 }
 
 #[test]
-fn a_refusal_leaves_the_long_list() {
-    let mut held = Stores::used();
-    held.load(Build, &List::long(MOST));
-    held.load(Normalize, &List::long(MOST));
+fn refused_columns_leave_the_long_list() {
+    let mut held = full_box();
     let before = held.clone();
-    let late = [0, 0, 0, 2, 0, 1];
-    for call in CALLS {
-        for (words, n, root, refusal) in [
-            (&late[..], 2, 1, [5, 1, 0, 0]),
-            (&late[..3], 1, 1, [6, 0, 0, 0]),
-            (&late[..], 3, 0, [2, 0, 0, 0]),
-            (&[], 0, 0, [1, 0, 0, 0]),
-        ] {
-            assert_eq!(held.call(call, words, n, root), refusal);
-            for written in CALLS {
-                assert_eq!(held.written(written), before.written(written), "{call:?}");
-            }
-        }
+    for (lengths, entries, refusal) in [
+        (vec![1; 17], vec![0; 17], [13, 0, 0, 0]),
+        (vec![1, 3], vec![0; 4], [14, 1, 0, 0]),
+        (vec![4], vec![0; 3], [2, 0, 0, 0]),
+        (vec![1, 1], vec![0, u64::MAX], [4, 1, 0, 0]),
+        (vec![16], vec![0; 16], [15, 0, 0, 0]),
+    ] {
+        let list = List { lengths, entries, ..List::new(vec![[0, 0, 0]]) };
+        assert_eq!(held.call(Lower, &list, list.words(), 1), refusal);
+        assert_eq!(held.written(Lower), before.written(Lower));
+    }
+}
+
+#[test]
+fn a_lowering_without_room_blanks_its_work_alone() {
+    let list = List { lengths: vec![1; 16], entries: (1..=16).collect(), ..List::long(MOST) };
+    for held in [Stores::used(), full_box()] {
+        let mut after = Stores { work: Stores::used().work, ..held.clone() };
+        assert_eq!(after.call(Lower, &list, list.words(), list.n()), [7, 0, 0, 0]);
+        assert_eq!((&after.result, &after.places), (&held.result, &held.places));
+        assert!(after.work.iter().all(|&word| word == BLANK));
     }
 }
 
@@ -207,11 +285,11 @@ fn what_stands_behind_a_list_is_not_read() {
         for call in CALLS {
             let (mut one, mut other) = (Stores::fresh(), Stores::fresh());
             let answer = one.load(call, &short);
-            assert_eq!(other.call(call, &behind, short.n(), short.root), answer);
+            assert_eq!(other.call(call, &short, &behind, short.n()), answer);
             assert_eq!(one.written(call), other.written(call));
         }
         let assignment = [0, 3, 0, 1, 5, 2, 2, 1, 1];
-        let value = |words: &[u64]| words::evaluate(words, short.n(), short.root, &assignment, 3);
+        let value = |words: &[u64]| ace::evaluate(words, short.n(), short.root, &assignment, 3);
         assert_eq!(value(&behind), value(short.words()));
     }
 }
@@ -224,7 +302,8 @@ fn a_step_writes_its_record_alone() {
         let end = 3 * short.records.len();
         let mut held = [short.words(), &long.words()[end..]].concat();
         let before = held.clone();
-        assert_eq!(words::step(&mut held, n, 0, 77, 0), [0, n, n + 1, 0]);
+        let answer = answered(|answer| words::step(&mut held, n, 0, 77, 0, answer));
+        assert_eq!(answer, [0, n, n + 1, 0]);
         assert_eq!(held[end..end + 3], [0, 77, 0]);
         assert_eq!((&held[..end], &held[end + 3..]), (&before[..end], &before[end + 3..]));
     }

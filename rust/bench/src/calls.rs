@@ -1,4 +1,4 @@
-//! The calls that are timed, on both sides.
+//! The calls that are timed, on both sides. Ours has to accept, and so does the whole work.
 
 use std::hint::black_box;
 
@@ -7,12 +7,17 @@ use model::Record;
 
 use crate::measure::{Bench, Row, Side};
 
-/// Lists by what normalising does with them.
+/// What ours says of a list that is timed.
+const ACCEPTED: &str = "the call accepts what it is timed on";
+
+/// Lists by what is done with them.
 #[derive(Clone, Copy)]
 pub enum Kind {
     Expression,
     Chain,
     Unchanged,
+    /// Inputs that all have one hash.
+    Colliding,
 }
 
 /// A list of this kind with about n records.
@@ -21,40 +26,20 @@ fn list(kind: Kind, n: usize) -> Vec<Record> {
         Kind::Expression => cases::expression(&mut Rng::new(n as u64), n),
         Kind::Chain => cases::chain(n as u64 / 3),
         Kind::Unchanged => cases::unchanged(n),
+        Kind::Colliding => cases::colliding(n as u64),
     }
-}
-
-/// A side that is only there where its call is linked.
-macro_rules! linked {
-    ($feature:literal, $side:expr) => {{
-        #[cfg(linked = $feature)]
-        let side = Some($side);
-        #[cfg(not(linked = $feature))]
-        let side: Option<Side<()>> = None;
-        side
-    }};
 }
 
 pub fn normalize(bench: &Bench, kind: Kind, n: usize) -> Row {
     let list = list(kind, n);
-    let root = list.len() as u64 - 1;
-    let nodes = oracle::Nodes::new(&list);
-    let ours = linked!("normalize", {
-        let (words, count) = (model::words(&list), list.len());
-        let (mut result, mut work) = (vec![0; 3 * count], vec![0; 6 * count]);
-        Side::new(
-            || (),
-            move |()| {
-                black_box(ace::words::normalize(
-                    &words,
-                    count as u64,
-                    root,
-                    &mut result,
-                    &mut work,
-                ));
-            },
-        )
+    let (words, count) = (model::words(&list), list.len());
+    let root = count as u64 - 1;
+    let (mut result, mut work) = (vec![0; 3 * count], vec![0; 6 * count]);
+    let ours = Side::calling(|| {
+        let normal = ace::normalize(&words, count as u64, root, &mut result, &mut work);
+        black_box(normal.expect(ACCEPTED));
     });
+    let nodes = oracle::Nodes::new(&list);
     let rust = Side::new(
         || Some(nodes.dag(root)),
         |dag| {
@@ -65,44 +50,33 @@ pub fn normalize(bench: &Bench, kind: Kind, n: usize) -> Row {
     bench.alternate(ours, rust)
 }
 
-pub fn build(bench: &Bench, n: usize) -> Row {
-    let list = list(Kind::Expression, n);
-    let nodes = oracle::Nodes::new(&list);
-    let ours = linked!("build", {
-        let (words, count) = (model::words(&list), list.len());
-        let (mut result, mut map) = (vec![0; 3 * count], vec![0; count]);
-        Side::new(
-            || (),
-            move |()| {
-                let root = count as u64 - 1;
-                black_box(ace::words::build(&words, count as u64, root, &mut result, &mut map));
-            },
-        )
+pub fn build(bench: &Bench, kind: Kind, n: usize) -> Row {
+    let list = list(kind, n);
+    let (words, count) = (model::words(&list), list.len());
+    let root = count as u64 - 1;
+    let (mut result, mut map) = (vec![0; 3 * count], vec![0; count]);
+    let ours = Side::calling(|| {
+        let built = ace::build(&words, count as u64, root, &mut result, &mut map);
+        black_box(built.expect(ACCEPTED));
     });
-    let rust = Side::new(
-        || (),
-        |()| {
-            black_box(nodes.build());
-        },
-    );
+    let nodes = oracle::Nodes::new(&list);
+    let rust = Side::calling(|| {
+        black_box(nodes.build());
+    });
     bench.alternate(ours, rust)
 }
 
 /// The root reaches seven eighths of the list.
 pub fn compact(bench: &Bench, n: usize) -> Row {
     let list = list(Kind::Unchanged, n);
-    let root = list.len() as u64 * 7 / 8;
-    let nodes = oracle::Nodes::new(&list);
-    let ours = linked!("compact", {
-        let (words, count) = (model::words(&list), list.len());
-        let mut result = vec![0; 3 * count];
-        Side::new(
-            || (),
-            move |()| {
-                black_box(ace::words::compact(&words, count as u64, root, &mut result));
-            },
-        )
+    let (words, count) = (model::words(&list), list.len());
+    let root = count as u64 * 7 / 8;
+    let mut result = vec![0; 3 * count];
+    let ours = Side::calling(|| {
+        let compacted = ace::compact(&words, count as u64, root, &mut result);
+        black_box(compacted.expect(ACCEPTED));
     });
+    let nodes = oracle::Nodes::new(&list);
     let rust = Side::new(|| nodes.dag(root), |dag| black_box(dag).compact());
     bench.alternate(ours, rust)
 }
@@ -112,63 +86,42 @@ pub fn evaluate(bench: &Bench, n: usize) -> Row {
     let root = list.len() as u64 - 1;
     let keys = list.iter().filter(|record| record[0] == 0).map(|record| record[1]);
     let entries: Vec<Record> = keys.map(|key| [key, 3 * key + 1, key * key]).collect();
-    let (dag, layout) = (oracle::Dag::new(&list, root), oracle::Layout::new(&entries));
-    let ours = linked!("evaluate", {
-        let (words, count) = (model::words(&list), list.len() as u64);
-        let (assignment, m) = (model::words(&entries), entries.len() as u64);
-        Side::new(
-            || (),
-            move |()| {
-                black_box(ace::words::evaluate(&words, count, root, &assignment, m));
-            },
-        )
+    let (words, count) = (model::words(&list), list.len() as u64);
+    let (assignment, m) = (model::words(&entries), entries.len() as u64);
+    let ours = Side::calling(|| {
+        let value = ace::evaluate(&words, count, root, &assignment, m);
+        black_box(value.expect(ACCEPTED));
     });
-    let rust = Side::new(
-        || (),
-        |()| {
-            black_box(dag.evaluate(&layout));
-        },
-    );
+    let (dag, layout) = (oracle::Dag::new(&list, root), oracle::Layout::new(&entries));
+    let rust = Side::calling(|| {
+        black_box(dag.evaluate(&layout));
+    });
     bench.alternate(ours, rust)
 }
 
-/// 16 columns of 128 in each form.
+/// Columns of 128 in each form, as many as fit.
 pub fn columns() -> [(&'static str, Vec<Vec<u64>>); 3] {
-    let column = |entry: &dyn Fn(u64, u64) -> u64, which: u64| {
-        (0..128).map(|place| entry(which, place)).collect::<Vec<u64>>()
+    let set = |count: u64, entry: &dyn Fn(u64, u64) -> u64| -> Vec<Vec<u64>> {
+        (0..count).map(|which| (0..128).map(|place| entry(which, place)).collect()).collect()
     };
-    let sixteen =
-        |entry: &dyn Fn(u64, u64) -> u64| (0..16).map(|which| column(entry, which)).collect();
     let mixed = |which: u64, place: u64| Rng::new(which << 8 | place).below(model::field::P);
+    let bit = |which: u64, place: u64| Rng::new(which << 8 | place).below(2);
     [
-        ("sparse", sixteen(&|which, place| if place == 8 * which { 5 } else { 0 })),
-        ("dense", sixteen(&mixed)),
-        ("basis", sixteen(&|which, place| Rng::new(which << 8 | place).below(2))),
+        ("sparse", set(16, &|which, place| if place == 8 * which { 5 } else { 0 })),
+        ("dense", set(10, &mixed)),
+        ("basis", set(16, &bit)),
     ]
 }
 
 pub fn lower(bench: &Bench, columns: &[Vec<u64>]) -> Row {
-    let ours = linked!("lower", {
-        let lengths: Vec<u64> = columns.iter().map(|column| column.len() as u64).collect();
-        let entries = columns.concat();
-        let (mut result, mut work) = (vec![0; 12_288], vec![0; 12_288]);
-        let mut places = vec![0; lengths.len()];
-        Side::new(
-            || (),
-            move |()| {
-                let stores = (&mut result, &mut work, &mut places);
-                black_box(ace::words::lower(
-                    &[],
-                    0,
-                    &lengths,
-                    &entries,
-                    128,
-                    stores.0,
-                    stores.1,
-                    stores.2,
-                ));
-            },
-        )
+    let lengths: Vec<u64> = columns.iter().map(|column| column.len() as u64).collect();
+    let entries = columns.concat();
+    let (mut result, mut work) = (vec![0; 12_288], vec![0; 12_288]);
+    let mut places = vec![0; lengths.len()];
+    let ours = Side::calling(|| {
+        let (result, work) = (&mut result, &mut work);
+        let count = ace::lower(&[], 0, &lengths, &entries, 128, result, work, &mut places);
+        black_box(count.expect(ACCEPTED));
     });
     let rust = Side::new(
         || oracle::Nodes::new(&[]),

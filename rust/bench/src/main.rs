@@ -10,27 +10,92 @@ mod calls;
 mod measure;
 mod products;
 
+use calls::Kind;
 use measure::{Bench, Row};
 
 /// The lists that normalising is timed on.
-const KINDS: [(&str, calls::Kind); 3] = [
-    ("random expressions", calls::Kind::Expression),
-    ("a·x1 + a·x2 + …", calls::Kind::Chain),
-    ("no rewrites", calls::Kind::Unchanged),
+const KINDS: [(&str, Kind); 3] = [
+    ("random expressions", Kind::Expression),
+    ("a·x1 + a·x2 + …", Kind::Chain),
+    ("no rewrites", Kind::Unchanged),
 ];
+
+/// The lengths that normalising is timed at: a chain has a multiple of three records.
+const NORMALIZED: [usize; 4] = [16, 256, 1_024, 4_095];
 
 /// The lengths that the other calls on lists are timed at.
 const LENGTHS: [usize; 4] = [16, 256, 1_024, 4_096];
 
-/// The rows that are asked for.
-struct Asked {
-    words: Vec<String>,
+/// The lengths from one to its double to its fourfold.
+const DOUBLING: [usize; 3] = [1_023, 2_046, 4_092];
+
+/// A call, the lengths of the lists that it is timed on, and whether its growth is told too.
+struct Timed<'a> {
+    name: String,
+    lengths: &'static [usize],
+    grows: bool,
+    time: Box<dyn Fn(usize) -> Row + 'a>,
 }
 
+impl<'a> Timed<'a> {
+    /// A call at several lengths.
+    fn at(name: &str, lengths: &'static [usize], time: impl Fn(usize) -> Row + 'a) -> Self {
+        Self { name: name.into(), lengths, grows: lengths.len() > 1, time: Box::new(time) }
+    }
+
+    /// A row for each length, with its name.
+    fn rows(&self) -> impl Iterator<Item = (String, usize)> + '_ {
+        self.lengths.iter().map(|&n| (format!("{}, {n}", self.name), n))
+    }
+
+    /// How much longer the call takes when its list is twice as long.
+    fn print_growth(&self) {
+        let rows = DOUBLING.map(&self.time);
+        let factors = |side: fn(&Row) -> f64| {
+            let [one, two, four] = rows.each_ref().map(side);
+            format!("{:.1} {:.1}", two / one, four / two)
+        };
+        let (ours, rust) = (factors(|row| row.ours), factors(|row| row.rust));
+        println!("{:<44} {ours:>12} {rust:>12}", self.name);
+    }
+}
+
+/// All that is timed but the products.
+fn timed(bench: &Bench) -> Vec<Timed<'_>> {
+    let normalized = KINDS.map(|(name, kind)| {
+        let name = format!("normalize, {name}");
+        Timed::at(&name, &NORMALIZED, move |n| calls::normalize(bench, kind, n))
+    });
+    let lowered = calls::columns().map(|(name, columns)| {
+        let name = format!("lower, {} {name} columns", columns.len());
+        Timed::at(&name, &[128], move |_| calls::lower(bench, &columns))
+    });
+    let colliding = |n| calls::build(bench, Kind::Colliding, n);
+    let others = [
+        Timed::at("build", &LENGTHS, |n| calls::build(bench, Kind::Expression, n)),
+        Timed::at("build, inputs of one hash", &[4_096], colliding),
+        Timed::at("compact", &LENGTHS, |n| calls::compact(bench, n)),
+        Timed::at("evaluate", &LENGTHS, |n| calls::evaluate(bench, n)),
+    ];
+    normalized.into_iter().chain(others).chain(lowered).collect()
+}
+
+/// The rows that are asked for: those that have one of these words in their names.
+struct Asked(Vec<String>);
+
 impl Asked {
-    /// Whether this row is.
     fn row(&self, name: &str) -> bool {
-        self.words.is_empty() || self.words.iter().any(|word| name.contains(word))
+        self.0.is_empty() || self.0.iter().any(|word| name.contains(word))
+    }
+
+    /// Ends the run where a word is in no row's name.
+    fn check(&self, timed: &[Timed]) {
+        let names = timed.iter().flat_map(Timed::rows).map(|(name, _)| name);
+        let names: Vec<String> = names.chain([products::NAME.to_string()]).collect();
+        let strange = |word: &&String| !names.iter().any(|name| name.contains(*word));
+        if let Some(word) = self.0.iter().find(strange) {
+            stop(&format!("no row has {word} in its name; the rows are\n  {}", names.join("\n  ")));
+        }
     }
 }
 
@@ -38,66 +103,35 @@ fn main() {
     let (options, words): (Vec<String>, Vec<String>) =
         std::env::args().skip(1).partition(|word| word.starts_with('-'));
     if let Some(other) = options.iter().find(|option| *option != "--quick") {
-        eprintln!("unknown: {other}\nusage: bench [--quick] [WORD ...]");
-        std::process::exit(2);
+        stop(&format!("{other} is no option (--help tells more)"));
     }
-    let (bench, asked) = (Bench { quick: !options.is_empty() }, Asked { words });
-    calls_table(&bench, &asked);
-    growth_table(&bench, &asked);
-    if asked.row("product") {
+    let (bench, asked) = (Bench { quick: !options.is_empty() }, Asked(words));
+    let timed = timed(&bench);
+    asked.check(&timed);
+    print_calls(&timed, &asked);
+    print_growth(&timed, &asked);
+    if asked.row(products::NAME) {
         products::print(&bench);
     }
 }
 
-/// A row for each call and each list or set of columns.
-fn calls_table(bench: &Bench, asked: &Asked) {
+/// A row for each call and each length.
+fn print_calls(timed: &[Timed], asked: &Asked) {
     println!("{:<44} {:>12} {:>12} {:>8}", "", "ours", "Rust", "ratio");
-    let row = |name: String, call: &dyn Fn() -> Row| {
-        if asked.row(&name) {
-            call().print(&name);
-        }
-    };
-    for (name, kind) in KINDS {
-        for n in [16, 256, 1_024, 4_095] {
-            row(format!("normalize, {name}, {n}"), &|| calls::normalize(bench, kind, n));
-        }
-    }
-    for n in LENGTHS {
-        row(format!("build, {n}"), &|| calls::build(bench, n));
-    }
-    for n in LENGTHS {
-        row(format!("compact, {n}"), &|| calls::compact(bench, n));
-    }
-    for n in LENGTHS {
-        row(format!("evaluate, {n}"), &|| calls::evaluate(bench, n));
-    }
-    for (name, columns) in calls::columns() {
-        row(format!("lower, 16 {name} columns of 128"), &|| calls::lower(bench, &columns));
+    let rows = timed.iter().flat_map(|call| call.rows().map(move |(name, n)| (call, name, n)));
+    for (call, name, n) in rows.filter(|(_, name, _)| asked.row(name)) {
+        (call.time)(n).print(&name);
     }
 }
 
-/// How much longer a call takes when its list is twice as long.
-fn growth_table(bench: &Bench, asked: &Asked) {
+/// A row for each call that is timed at several lengths.
+fn print_growth(timed: &[Timed], asked: &Asked) {
     println!("\n{:<44} {:>12} {:>12}", "growth from n to 2n to 4n", "ours", "Rust");
-    let row = |name: &str, call: &dyn Fn(usize) -> Row| {
-        if asked.row(name) {
-            growth(name, call);
-        }
-    };
-    for (name, kind) in KINDS {
-        row(&format!("normalize, {name}"), &|n| calls::normalize(bench, kind, n));
-    }
-    row("build", &|n| calls::build(bench, n));
-    row("compact", &|n| calls::compact(bench, n));
-    row("evaluate", &|n| calls::evaluate(bench, n));
+    timed.iter().filter(|call| call.grows && asked.row(&call.name)).for_each(Timed::print_growth);
 }
 
-/// The growth of one call from 1,023 to 2,046 to 4,092.
-fn growth(name: &str, call: &dyn Fn(usize) -> Row) {
-    let rows = [1_023, 2_046, 4_092].map(call);
-    let factors = |side: fn(&Row) -> Option<f64>| match rows.each_ref().map(side) {
-        [Some(one), Some(two), Some(four)] => format!("{:.1} {:.1}", two / one, four / two),
-        _ => "–".to_string(),
-    };
-    println!("{name:<44} {:>12} {:>12}", factors(|row| row.ours), factors(|row| Some(row.rust)));
+/// Says what is wrong and ends.
+fn stop(what: &str) -> ! {
+    eprintln!("bench: {what}");
+    std::process::exit(2);
 }

@@ -9,18 +9,15 @@ pub struct Bench {
 
 /// Seconds of one call on each side.
 pub struct Row {
-    pub ours: Option<f64>,
+    pub ours: f64,
     pub rust: f64,
 }
 
 impl Row {
     /// Prints the row under this name.
     pub fn print(&self, name: &str) {
-        let (ours, ratio) = match self.ours {
-            Some(ours) => (shown(ours), format!("{:.2}", ours / self.rust)),
-            None => ("–".to_string(), "–".to_string()),
-        };
-        println!("{name:<44} {ours:>12} {:>12} {ratio:>8}", shown(self.rust));
+        let (ours, rust) = (shown(self.ours), shown(self.rust));
+        println!("{name:<44} {ours:>12} {rust:>12} {:>8.2}", self.ours / self.rust);
     }
 }
 
@@ -47,6 +44,7 @@ pub struct Side<'a, T> {
 }
 
 impl<'a, T> Side<'a, T> {
+    /// A side of these two.
     pub fn new(ready: impl FnMut() -> T + 'a, run: impl FnMut(&mut T) + 'a) -> Self {
         Self { ready: Box::new(ready), run: Box::new(run) }
     }
@@ -62,20 +60,22 @@ impl<'a, T> Side<'a, T> {
     }
 }
 
+impl<'a> Side<'a, ()> {
+    /// A side that makes nothing ready.
+    pub fn calling(mut run: impl FnMut() + 'a) -> Self {
+        Self::new(|| (), move |()| run())
+    }
+}
+
 impl Bench {
     /// The medians of both sides, timed by turns.
-    pub fn alternate<A, B>(&self, mut ours: Option<Side<A>>, mut rust: Side<B>) -> Row {
-        let first = rust.time(1).max(ours.as_mut().map_or(0.0, |side| side.time(1)));
+    pub fn alternate<A, B>(&self, mut ours: Side<A>, mut rust: Side<B>) -> Row {
+        let first = rust.time(1).max(ours.time(1));
         let batch = ((1e-3 / first.max(1e-9)) as usize).clamp(1, 2_000);
         let budget = if self.quick { 0.2 } else { 1.5 };
         let turns = ((budget / (first * batch as f64)) as usize).clamp(3, 201);
-        let (mut our_times, mut rust_times) = (Vec::new(), Vec::new());
-        for _ in 0..turns {
-            if let Some(side) = &mut ours {
-                our_times.push(side.time(batch));
-            }
-            rust_times.push(rust.time(batch));
-        }
-        Row { ours: ours.map(|_| median(our_times)), rust: median(rust_times) }
+        let turn = |_| (ours.time(batch), rust.time(batch));
+        let (our_times, rust_times) = (0..turns).map(turn).unzip();
+        Row { ours: median(our_times), rust: median(rust_times) }
     }
 }

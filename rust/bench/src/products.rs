@@ -5,7 +5,6 @@ use std::time::Instant;
 
 use crate::measure::{Bench, median, shown};
 
-#[cfg(products)]
 unsafe extern "C" {
     /// value · factor^count, below p.
     safe fn felt_dependent(value: u64, factor: u64, count: u64) -> u64;
@@ -68,10 +67,9 @@ macro_rules! way {
     };
 }
 
-/// Ours, where libproducts.a is linked, and plain Rust's.
+/// Ours, then plain Rust's.
 fn ways() -> Vec<Way> {
     vec![
-        #[cfg(products)]
         Way {
             name: "ours",
             dependent: |value, factor| felt_dependent(value, factor, COUNT),
@@ -96,11 +94,14 @@ fn times(way: &Way, words: &[u64]) -> [f64; 2] {
     [one, half.elapsed().as_secs_f64() / (REPEATS * (WORDS - 1)) as f64]
 }
 
+/// What the rows are about.
+pub const NAME: &str = "a product modulo p";
+
 /// A row for each way, timed by turns, with how many times its time ours takes.
 pub fn print(bench: &Bench) {
     println!(
         "\n{:<44} {:>12} {:>8} {:>12} {:>8}",
-        "a product modulo p", "dependent", "ours by", "independent", "ours by"
+        NAME, "dependent", "ours by", "independent", "ours by"
     );
     let mut rng = differential::Rng::new(1);
     let words: Vec<u64> = (0..WORDS).map(|_| rng.below(model::field::P)).collect();
@@ -115,10 +116,7 @@ pub fn print(bench: &Bench) {
     }
     let medians: Vec<[f64; 2]> = taken.into_iter().map(|both| both.map(median)).collect();
     for (way, both) in ways.iter().zip(&medians) {
-        let by = |which: usize| match ways[0].name {
-            "ours" => format!("{:.2}", medians[0][which] / both[which]),
-            _ => "–".to_string(),
-        };
+        let by = |which: usize| format!("{:.2}", medians[0][which] / both[which]);
         println!(
             "{:<44} {:>12} {:>8} {:>12} {:>8}",
             way.name,

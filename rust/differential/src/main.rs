@@ -14,9 +14,9 @@ use std::time::{Duration, Instant};
 use differential::cases::{self, Flow};
 use differential::compare::{Comparison, Difference};
 use differential::listings::Listings;
-use differential::ours::{self, Lending};
+use differential::ours::Lending;
 use differential::program::Program;
-use differential::report::{Summary, grouped, table};
+use differential::report::{Missing, Summary, grouped, table};
 use differential::{Rng, Rust, record};
 use model::{Call, Case};
 
@@ -38,8 +38,14 @@ const SHOWN: u64 = 20;
 /// Where differences are kept.
 const DIFFERENCES: &str = "target/differences";
 
-/// The seconds of a run that names none.
+/// The random cases of a call that there is one random house file for.
+const A_FILE: u64 = 100;
+
+/// The seconds of random cases of a run that names none.
 const SECONDS: u64 = 60;
+
+/// About the seconds that short lists and corners take.
+const FIXED: u64 = 20;
 
 /// The differences of one part: printed as cases to send, and kept.
 struct Shown<'a> {
@@ -76,7 +82,7 @@ fn keep(path: &Path, bytes: impl AsRef<[u8]>) -> bool {
     std::fs::create_dir_all(DIFFERENCES).and_then(|()| std::fs::write(path, bytes)).is_ok()
 }
 
-/// A run: what is asked for, and how long each part may take.
+/// A run: what is asked for, and how long the random cases of each part may take.
 struct Run {
     options: Options,
     each: Option<Duration>,
@@ -90,9 +96,10 @@ impl Run {
         self.options.cases.unwrap_or(if self.options.corners { 0 } else { few })
     }
 
-    /// Goes through random cases up to the limits.
-    fn random(&self, begun: Instant, mut take: impl FnMut()) {
-        for _ in 0..self.wanted() {
+    /// Goes through this many random cases, as long as there is time.
+    fn random(&self, wanted: u64, mut take: impl FnMut()) {
+        let begun = Instant::now();
+        for _ in 0..wanted {
             if self.each.is_some_and(|each| begun.elapsed() >= each) {
                 break;
             }
@@ -106,10 +113,10 @@ impl Run {
 
     /// Compares the cases of one call: short lists, faults, corners, then random ones.
     fn call(&self, call: Call) -> Summary {
-        let (options, begun) = (&self.options, Instant::now());
+        let options = &self.options;
         let lending = if options.bare { Lending::Bare } else { Lending::Guarded };
-        let linked = ours::has(call) && !options.without_ours;
-        let mut run = Comparison::new(call, options.seed, linked.then_some(lending));
+        let lending = (!options.without_ours).then_some(lending);
+        let mut run = Comparison::new(call, options.seed, lending);
         let mut rng = Rng::new(options.seed ^ (call as u64 + 1) << 56);
         let mut shown = self.shown(call.signature().name);
         let mut take = |case: Case| -> Flow {
@@ -125,7 +132,7 @@ impl Run {
         }
         let _ = cases::faulty(call, &mut rng, thorough, &mut take);
         let _ = cases::fixed(call, &mut rng, thorough, &mut take);
-        self.random(begun, || {
+        self.random(self.wanted(), || {
             let _ = take(cases::random(call, &mut rng));
         });
         Summary::of_call(&run)
@@ -133,7 +140,7 @@ impl Run {
 
     /// Compares the listings of the files made by hand, then of random ones.
     fn normlist(&self) -> Summary {
-        let (options, begun) = (&self.options, Instant::now());
+        let options = &self.options;
         let program = Program::new(&options.program, &[]);
         let list = (!options.without_ours)
             .then(|| Box::new(move |file: &[u8], delivery| program.list(file, delivery)) as _);
@@ -148,22 +155,24 @@ impl Run {
         };
         let files = cases::fixed_files(&mut rng);
         files.into_iter().step_by(options.every).for_each(&mut take);
-        self.random(begun, || take(cases::random_file(&mut rng)));
+        let wanted = self.wanted() / A_FILE;
+        self.random(wanted, || take(cases::random_file(&mut rng)));
         Summary::of_listings(&run)
     }
 
-    /// Compares one part and prints what it met.
+    /// Compares one part and prints what it met; one that is absent counts as failed.
     fn part(&self, part: Part) -> Summary {
         let begun = Instant::now();
-        self.progress.begin(part.name(), self.each);
-        let mut summary = match part {
-            Part::Call(call) => self.call(call),
-            Part::Normlist => self.normlist(),
+        self.progress.begin(part.name());
+        let mut summary = match (absent(part, &self.options), part) {
+            (Some(why), _) => Summary::absent(part.name(), why),
+            (None, Part::Call(call)) => self.call(call),
+            (None, Part::Normlist) => self.normlist(),
         };
         self.progress.end();
         summary.seconds = begun.elapsed().as_secs_f64();
         if self.options.corners {
-            summary.missing.clear();
+            summary.missing.retain(|what| !matches!(what, Missing::Unmet(_)));
         }
         if summary.failed > SHOWN {
             say!("{} cases of {} differ; {SHOWN} are shown", grouped(summary.failed), part.name());
@@ -173,49 +182,52 @@ impl Run {
     }
 }
 
-/// The parts that are there, after a word on each that is not.
-fn parts(options: &Options) -> Result<Vec<Part>, String> {
-    let asked = options.part.map_or_else(Part::all, |part| vec![part]);
+/// Why the proved calls can't be compared, if they can't.
+#[cfg(feature = "ours")]
+fn calls_absent() -> Option<String> {
+    let archive = ace::ARCHIVE;
+    let other = format!("{archive} is gone, or is not what was linked: touch it, and run again");
+    (!ace::archive_is_linked()).then_some(other)
+}
+
+#[cfg(not(feature = "ours"))]
+fn calls_absent() -> Option<String> {
+    Some("this program was built without libace.a (`rt staticlib ace` writes it)".to_string())
+}
+
+/// Why a part can't be compared, if it can't.
+fn absent(part: Part, options: &Options) -> Option<String> {
+    let program = options.program.display();
+    match part {
+        _ if options.without_ours => None,
+        Part::Call(_) => calls_absent(),
+        Part::Normlist if options.program.exists() => None,
+        Part::Normlist => Some(format!("{program} is not there (`rt check normlist` builds it)")),
+    }
+}
+
+/// Says what is compared with what.
+fn say_sides(options: &Options) {
     say!("the Rust: {}", oracle::SOURCE);
     if options.without_ours {
         say!("without the proved calls: the Rust and document 01 alone");
-        return Ok(asked);
+        return;
     }
-    let there = |part: &Part| match part {
-        Part::Call(call) => ours::has(*call),
-        Part::Normlist => options.program.exists(),
-    };
-    let (present, absent): (Vec<Part>, Vec<Part>) = asked.into_iter().partition(there);
-    let calls = |parts: &[Part]| {
-        let names = parts.iter().filter(|part| **part != Part::Normlist).map(|part| part.name());
-        names.collect::<Vec<_>>().join(", ")
-    };
-    if !calls(&present).is_empty() {
-        say!("the proved calls: {} of {}", calls(&present), ace::ARCHIVE.unwrap_or_default());
-    }
-    match ace::ARCHIVE {
-        _ if calls(&absent).is_empty() => {}
-        Some(_) => say!("not linked, so not compared: {}", calls(&absent)),
-        None => say!("no libace.a, so not compared: {} (`rt staticlib ace`)", calls(&absent)),
-    }
-    let program = options.program.display();
-    if present.contains(&Part::Normlist) {
-        say!("normlist: {program}");
-    }
-    if absent.contains(&Part::Normlist) {
-        say!("not there, so not compared: {program} (`rt check normlist`)");
-    }
-    if present.is_empty() { Err("nothing to compare".into()) } else { Ok(present) }
+    #[cfg(feature = "ours")]
+    say!("the proved calls: {}", ace::ARCHIVE);
+    say!("normlist: {}", options.program.display());
 }
 
 /// The whole comparison: what each part met, a table, the verdict.
-fn compare(options: Options) -> Result<ExitCode, String> {
-    let parts = parts(&options)?;
+fn compare(options: Options) -> ExitCode {
+    let parts = options.part.map_or_else(Part::all, |part| vec![part]);
+    say_sides(&options);
     let timed = options.seconds.is_some()
         || (options.cases.is_none() && !options.quick && !options.corners);
     let seconds = options.seconds.unwrap_or(SECONDS);
     let each = timed.then(|| Duration::from_secs_f64(seconds as f64 / parts.len() as f64));
-    say!("seed {}\n", options.seed);
+    let takes = if timed { format!(", about {} seconds", seconds + FIXED) } else { String::new() };
+    say!("seed {}{takes}\n", options.seed);
     let _ = std::fs::remove_dir_all(DIFFERENCES);
     let run = Run { options, each, progress: Progress::new() };
     let rows: Vec<Summary> = parts.into_iter().map(|part| run.part(part)).collect();
@@ -223,7 +235,7 @@ fn compare(options: Options) -> Result<ExitCode, String> {
     let passed: u64 = rows.iter().map(|row| row.cases - row.failed).sum();
     let failed: u64 = rows.iter().map(|row| row.failed + row.missing.len() as u64).sum();
     say!("{passed} passed, {failed} failed");
-    Ok(if failed == 0 { ExitCode::SUCCESS } else { ExitCode::FAILURE })
+    if failed == 0 { ExitCode::SUCCESS } else { ExitCode::FAILURE }
 }
 
 /// Prints the Rust's listing of the house file on standard input.
@@ -258,7 +270,7 @@ fn main() -> ExitCode {
         }
     };
     let done = match options.task {
-        Task::Compare => compare(options),
+        Task::Compare => Ok(compare(options)),
         Task::List => list(),
         Task::Record => write_sample(&options),
         Task::Help => {

@@ -1,6 +1,8 @@
 //! The proved calls on lent stores, each between guard words.
 
-use model::{Call, Case, Outcome};
+#[cfg(feature = "ours")]
+use model::Call;
+use model::{Case, Outcome};
 
 /// What stands around a lent store.
 #[derive(Clone, Copy, Debug, PartialEq, Eq)]
@@ -27,7 +29,6 @@ struct Lent {
     guards: usize,
 }
 
-#[allow(dead_code)]
 impl Lent {
     /// These words, guarded by words that depend on the store's place.
     fn new(store: &[u64], place: usize, guards: usize) -> Self {
@@ -60,25 +61,20 @@ fn guard_word(place: usize, guard: usize) -> u64 {
     0x9e37_79b9_7f4a_7c15u64.wrapping_mul(1 + place as u64 * 8 + guard as u64)
 }
 
-/// Whether the proved call is linked.
-pub fn has(call: Call) -> bool {
-    match call {
-        Call::Step => cfg!(linked = "step"),
-        Call::Build => cfg!(linked = "build"),
-        Call::Compact => cfg!(linked = "compact"),
-        Call::Normalize => cfg!(linked = "normalize"),
-        Call::Evaluate => cfg!(linked = "evaluate"),
-        Call::Prepare => cfg!(linked = "prepare"),
-        Call::Lower => cfg!(linked = "lower"),
-    }
-}
+/// An answer word before a call, so that one left unwritten shows.
+const UNWRITTEN: u64 = u64::MAX;
 
 /// What the proved call comes to, or what it damaged that it may not write.
 pub fn run(case: &Case, lending: Lending) -> Result<Outcome, String> {
     let lend = |(place, store): (usize, &Vec<u64>)| Lent::new(store, place, lending.guards());
     let mut lent: Vec<Lent> = case.stores.iter().enumerate().map(lend).collect();
-    let answer = call(case, &mut lent);
     let signature = case.call.signature();
+    let behind = lent.len();
+    let mut answer = Lent::new(&vec![UNWRITTEN; signature.answer], behind, lending.guards());
+    call(case, &mut lent, answer.store_mut());
+    if !answer.is_whole(behind) {
+        return Err("wrote outside the answer".to_string());
+    }
     let mut after = Vec::new();
     for (place, store) in lent.iter().enumerate() {
         let name = signature.stores[place].0;
@@ -91,57 +87,79 @@ pub fn run(case: &Case, lending: Lending) -> Result<Outcome, String> {
             return Err(format!("wrote to the {name} store"));
         }
     }
-    Ok(Outcome { answer, after })
+    Ok(Outcome { answer: answer.store().to_vec(), after })
 }
 
-/// The answer words of the proved call.
-#[allow(unused_variables)]
-fn call(case: &Case, lent: &mut [Lent]) -> Vec<u64> {
+/// Says that the proved call is not linked.
+#[cfg(not(feature = "ours"))]
+fn call(case: &Case, _: &mut [Lent], _: &mut [u64]) {
+    panic!("ace_{} is not linked", case.call.signature().name);
+}
+
+/// Runs the proved call, which writes its answer words.
+#[cfg(feature = "ours")]
+fn call(case: &Case, lent: &mut [Lent], answer: &mut [u64]) {
     let number = |place: usize| case.scalars[place];
     match case.call {
-        #[cfg(linked = "step")]
         Call::Step => {
             let list = lent[0].store_mut();
-            ace::words::step(list, number(0), number(1), number(2), number(3)).to_vec()
+            ace::words::step(list, number(0), number(1), number(2), number(3), sized(answer));
         }
-        #[cfg(linked = "build")]
         Call::Build => {
             let [list, result, map] = lent else { panic!("three stores") };
             let (result, map) = (result.store_mut(), map.store_mut());
-            ace::words::build(list.store(), number(0), number(1), result, map).to_vec()
+            ace::words::build(list.store(), number(0), number(1), result, map, sized(answer));
         }
-        #[cfg(linked = "compact")]
         Call::Compact => {
             let [list, result] = lent else { panic!("two stores") };
-            ace::words::compact(list.store(), number(0), number(1), result.store_mut()).to_vec()
+            let (list, result) = (list.store(), result.store_mut());
+            ace::words::compact(list, number(0), number(1), result, sized(answer));
         }
-        #[cfg(linked = "normalize")]
         Call::Normalize => {
             let [list, result, work] = lent else { panic!("three stores") };
             let (result, work) = (result.store_mut(), work.store_mut());
-            ace::words::normalize(list.store(), number(0), number(1), result, work).to_vec()
+            ace::words::normalize(list.store(), number(0), number(1), result, work, sized(answer));
         }
-        #[cfg(linked = "evaluate")]
         Call::Evaluate => {
             let [list, assignment] = lent else { panic!("two stores") };
-            let (list, assignment) = (list.store(), assignment.store());
-            ace::words::evaluate(list, number(0), number(1), assignment, number(2)).to_vec()
+            let (list, entries) = (list.store(), assignment.store());
+            ace::words::evaluate(list, number(0), number(1), entries, number(2), sized(answer));
         }
-        #[cfg(linked = "prepare")]
-        Call::Prepare => ace::words::prepare(lent[0].store(), lent[1].store()).to_vec(),
-        #[cfg(linked = "lower")]
-        Call::Lower => lower(case, lent),
-        #[allow(unreachable_patterns)]
-        missing => panic!("ace_{} is not linked", missing.signature().name),
+        Call::Prepare => ace::words::prepare(lent[0].store(), lent[1].store(), sized(answer)),
+        Call::Lower => lower(case, lent, sized(answer)),
     }
 }
 
-/// The answer words of the proved `ace_lower`.
-#[cfg(linked = "lower")]
-fn lower(case: &Case, lent: &mut [Lent]) -> Vec<u64> {
+/// Runs the proved `ace_lower`.
+#[cfg(feature = "ours")]
+fn lower(case: &Case, lent: &mut [Lent], answer: &mut [u64; 4]) {
     let [list, lengths, entries, result, work, places] = lent else { panic!("six stores") };
+    let (list, lengths, entries) = (list.store(), lengths.store(), entries.store());
     let (result, work, places) = (result.store_mut(), work.store_mut(), places.store_mut());
-    let (lengths, entries) = (lengths.store(), entries.store());
     let [n, period] = case.scalars[..] else { panic!("two numbers") };
-    ace::words::lower(list.store(), n, lengths, entries, period, result, work, places).to_vec()
+    ace::words::lower(list, n, lengths, entries, period, result, work, places, answer);
+}
+
+/// These answer words, as many as the call has.
+#[cfg(feature = "ours")]
+fn sized<const N: usize>(answer: &mut [u64]) -> &mut [u64; N] {
+    answer.try_into().expect("the words of the call's answer")
+}
+
+#[cfg(test)]
+mod tests {
+    use super::*;
+
+    #[test]
+    fn a_changed_guard_word_is_told() {
+        let store = [1, 2, 3];
+        let whole = Lent::new(&store, 5, 4);
+        assert!(whole.is_whole(5) && !whole.is_whole(6));
+        assert_eq!(whole.store(), store);
+        for word in 0..whole.words.len() {
+            let mut changed = Lent::new(&store, 5, 4);
+            changed.words[word] ^= 1;
+            assert_eq!(changed.is_whole(5), (4..7).contains(&word), "word {word}");
+        }
+    }
 }

@@ -13,8 +13,6 @@ struct Line {
     cases: u64,
     failed: u64,
     begun: Instant,
-    /// The seconds that it is to take, where they are set.
-    of: Option<Duration>,
     /// Whether something is under way.
     on: bool,
 }
@@ -35,9 +33,8 @@ fn clear() {
 
 impl Line {
     fn show(&self) {
-        let of = self.of.map_or(String::new(), |of| format!(" of {:.0}", of.as_secs_f64()));
         eprint!(
-            "\r\x1b[K{}: {} cases, {} differ, {}{of} s",
+            "\r\x1b[K{}: {} cases, {} differ, {} s",
             self.name,
             grouped(self.cases),
             self.failed,
@@ -54,7 +51,7 @@ impl Progress {
             return Self(None);
         }
         let begun = Instant::now();
-        let line = Line { name: "", cases: 0, failed: 0, begun, of: None, on: false };
+        let line = Line { name: "", cases: 0, failed: 0, begun, on: false };
         let line = Arc::new(Mutex::new(line));
         let shown = Arc::downgrade(&line);
         thread::spawn(move || {
@@ -70,11 +67,11 @@ impl Progress {
         Self(Some(line))
     }
 
-    /// Begins with what has this name and is to take this long.
-    pub fn begin(&self, name: &'static str, of: Option<Duration>) {
+    /// Begins with what has this name.
+    pub fn begin(&self, name: &'static str) {
         if let Some(line) = &self.0 {
             let begun = Instant::now();
-            *held(line) = Line { name, cases: 0, failed: 0, begun, of, on: true };
+            *held(line) = Line { name, cases: 0, failed: 0, begun, on: true };
         }
     }
 

@@ -1,13 +1,34 @@
 //! What a run prints.
 
 use std::collections::BTreeMap;
-use std::fmt::Write;
+use std::fmt::{self, Write};
 
 use model::Event;
 
 use crate::compare::Comparison;
 use crate::listings::{Listings, REFUSALS};
 use crate::required;
+
+/// What counts as failed beside the cases that differed.
+#[derive(Clone, Debug, PartialEq, Eq)]
+pub enum Missing {
+    /// This was never met.
+    Unmet(String),
+    /// No second check was made.
+    Second,
+    /// The part was not compared, for this reason.
+    Absent(String),
+}
+
+impl fmt::Display for Missing {
+    fn fmt(&self, f: &mut fmt::Formatter) -> fmt::Result {
+        match self {
+            Missing::Unmet(what) => write!(f, "never met: {what}"),
+            Missing::Second => write!(f, "no second check was made"),
+            Missing::Absent(why) => write!(f, "not compared: {why}"),
+        }
+    }
+}
 
 /// What was compared under one name, and what was met.
 pub struct Summary {
@@ -20,8 +41,7 @@ pub struct Summary {
     /// How often each refusal was met; 0 is acceptance.
     outcomes: BTreeMap<u64, u64>,
     met: Vec<(String, u64)>,
-    /// What had to be met and never was.
-    pub missing: Vec<String>,
+    pub missing: Vec<Missing>,
 }
 
 /// A number with commas.
@@ -49,8 +69,8 @@ impl Summary {
         let refusals = refusals.iter().map(|&number| (number, format!("refusal {number}")));
         let outcome = [(0, "acceptance".to_string())].into_iter().chain(refusals);
         let never = outcome.filter(|(number, _)| !outcomes.contains_key(number));
-        let mut missing: Vec<String> = never.map(|(_, text)| text).collect();
-        missing.extend(met.iter().filter(|(_, count)| *count == 0).map(|(text, _)| text.clone()));
+        let unmet = met.iter().filter(|(_, count)| *count == 0).map(|(text, _)| text.clone());
+        let missing = never.map(|(_, text)| text).chain(unmet).map(Missing::Unmet).collect();
         let [cases, failed] = counts;
         Self { name, cases, failed, seconds: 0.0, outcomes: outcomes.clone(), met, missing }
     }
@@ -63,11 +83,18 @@ impl Summary {
         if signature.stores.iter().any(|store| store.0 == "lengths") {
             met.extend(forms(run));
         }
-        if run.second > 0 {
-            met.push(("second checks".to_string(), run.second));
-        }
+        met.extend(run.second.filter(|&n| n > 0).map(|n| ("second checks".to_string(), n)));
         let counts = [run.cases, run.failed];
-        Self::new(signature.name, counts, &run.outcomes, signature.refusals, met)
+        let mut summary = Self::new(signature.name, counts, &run.outcomes, signature.refusals, met);
+        summary.missing.extend(run.second.filter(|&n| n == 0).map(|_| Missing::Second));
+        summary
+    }
+
+    /// The summary of a part that could not be compared, and why.
+    pub fn absent(name: &'static str, why: String) -> Self {
+        let missing = vec![Missing::Absent(why)];
+        let outcomes = BTreeMap::new();
+        Self { name, cases: 0, failed: 0, seconds: 0.0, outcomes, met: vec![], missing }
     }
 
     /// The summary of the listings compared.
@@ -88,8 +115,8 @@ impl Summary {
         text.push_str(&wrapped("  refused  ", &refused.collect::<Vec<_>>()));
         let met = self.met.iter().map(|(what, count)| format!("{what} ×{}", grouped(*count)));
         text.push_str(&wrapped("  met      ", &met.collect::<Vec<_>>()));
-        for never in &self.missing {
-            let _ = writeln!(text, "  FAILED   never met: {never}");
+        for missing in &self.missing {
+            let _ = writeln!(text, "  FAILED   {missing}");
         }
         text
     }
@@ -117,7 +144,7 @@ fn forms(run: &Comparison) -> Vec<(String, u64)> {
 /// A row for each of these, and the sum where there are several.
 pub fn table(rows: &[Summary]) -> String {
     let mut text = String::from(
-        "               cases      accepted       refused   differ  never met   seconds\n",
+        "               cases      accepted       refused   differ    missing   seconds\n",
     );
     let mut row = |name: &str, numbers: [u64; 5], seconds: f64| {
         let [cases, accepted, refused, differ, missing] = numbers.map(grouped);

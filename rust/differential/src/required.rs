@@ -50,6 +50,19 @@ const CHOICES: [Event; 11] = [
     SixteenLongest,
 ];
 
+/// The corners of lowering.
+const LOWERING: [Event; 9] = [
+    MinusOneClass,
+    FoundOfSeveral,
+    LandsOnLimit,
+    OneOver,
+    ResultExact,
+    ResultShort,
+    PeriodLongest,
+    PeriodMost,
+    ZkPresent,
+];
+
 /// The rewrites and what becomes of rounds.
 const ROUNDS: [Event; 23] = [
     FactorAdd00,
@@ -89,11 +102,7 @@ pub fn events(call: Call) -> Vec<Event> {
         Call::Normalize => ROUNDS.to_vec(),
         Call::Evaluate => vec![RepeatedKey, UnreachableInput],
         Call::Prepare => CHOICES.to_vec(),
-        Call::Lower => {
-            let corners =
-                [MinusOneClass, FoundOfSeveral, LandsOnLimit, OneOver, ResultExact, ResultShort];
-            [&CHOICES[..], &corners].concat()
-        }
+        Call::Lower => [&CHOICES[..], &LOWERING].concat(),
     }
 }
 

@@ -1,11 +1,11 @@
 //! Wrong programs are told from `normlist` by the files that a run compares.
 
-use std::path::Path;
+use std::path::{Path, PathBuf};
 
 use differential::cases::{LONGEST_FILE, fixed_files, random_file};
 use differential::listings::{Listings, REFUSALS};
 use differential::program::{Delivery, Program};
-use differential::report::Summary;
+use differential::report::{Missing, Summary};
 use differential::{Rng, Rust};
 use model::{HEAD, RECORD, house_file, listing, read_house_file};
 
@@ -203,22 +203,45 @@ fn the_right_program_meets_all_that_is_to_be_met() {
         assert!(run.take(file).is_none());
     }
     let missing = Summary::of_listings(&run).missing;
-    assert!(missing.is_empty(), "never met: {}", missing.join("; "));
+    assert_eq!(missing, []);
     let nothing = Summary::of_listings(&Listings::new(None, 1)).missing;
     for refusal in REFUSALS {
-        assert!(nothing.contains(&format!("refusal {refusal}")));
+        assert!(nothing.contains(&Missing::Unmet(format!("refusal {refusal}"))));
     }
 }
 
+/// A file of the repository.
+fn path(name: &str) -> PathBuf {
+    Path::new(env!("CARGO_MANIFEST_DIR")).join("../..").join(name)
+}
+
+/// The samples with this ending, by name.
+fn samples(ending: &str) -> Vec<PathBuf> {
+    let files = std::fs::read_dir(path("samples")).expect("samples");
+    let files = files.map(|entry| entry.expect("a sample").path());
+    let mut found: Vec<_> =
+        files.filter(|file| file.extension() == Some(ending.as_ref())).collect();
+    found.sort();
+    found
+}
+
 #[test]
-fn the_samples_are_listed_as_the_rust_lists_them() {
-    let folder = Path::new(env!("CARGO_MANIFEST_DIR")).join("../../samples");
-    let files = std::fs::read_dir(folder).expect("samples").map(|entry| entry.unwrap().path());
-    let houses: Vec<_> = files.filter(|path| path.extension() == Some("house".as_ref())).collect();
+fn the_samples_are_listed_as_their_listings_say() {
+    let (houses, listings) = (samples("house"), samples("txt"));
+    let named: Vec<_> = houses.iter().map(|house| house.with_extension("txt")).collect();
+    assert_eq!(named, listings, "each sample has a listing");
     assert!(!houses.is_empty());
+    let program = Program::new(&path("target/bin/normlist"), &[]);
+    assert!(
+        program.path().exists(),
+        "target/bin/normlist is missing: `rt check normlist` builds it"
+    );
     for house in houses {
         let listed = std::fs::read_to_string(house.with_extension("txt")).expect("a listing");
-        assert_eq!(right(&std::fs::read(&house).unwrap()), listed, "{}", house.display());
+        let file = std::fs::read(&house).expect("a sample");
+        assert_eq!(right(&file), listed, "the Rust on {}", house.display());
+        let printed = program.list(&file, Delivery::Pipe).expect("a listing");
+        assert_eq!(String::from_utf8(printed).unwrap(), listed, "normlist on {}", house.display());
     }
 }
 

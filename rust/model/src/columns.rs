@@ -6,7 +6,7 @@ use crate::field::{P, add, generator, inverse, mul, power, sub};
 use crate::judge::Paper;
 use crate::keys::ZK;
 use crate::mutants::Mutant;
-use crate::refusal::LIMIT;
+use crate::refusal::{LIMIT, PERIOD};
 use crate::steps::Builder;
 
 const SPARSE: u64 = 0;
@@ -205,6 +205,20 @@ fn note_columns(paper: &mut Paper, columns: &[Vec<u64>]) {
     }
 }
 
+/// Counts the corners that a list and a period reach.
+fn note_surroundings(paper: &mut Paper, list: &[Record], columns: &[Vec<u64>], period: u64) {
+    let longest = columns.iter().map(|column| column.len() as u64).max();
+    for (is, event) in [
+        (longest == Some(period), PeriodLongest),
+        (period == PERIOD, PeriodMost),
+        (list.contains(&[0, ZK, 0]), ZkPresent),
+    ] {
+        if is {
+            paper.met(event);
+        }
+    }
+}
+
 /// The list with each column's nodes, and the place of each column's node.
 pub(crate) fn lower(
     paper: &mut Paper,
@@ -213,6 +227,7 @@ pub(crate) fn lower(
     period: u64,
 ) -> (Vec<Record>, Vec<u64>) {
     let forms = forms(paper, columns);
+    note_surroundings(paper, list, columns, period);
     let mut builder = Builder::over(paper, list);
     let mut places = Vec::new();
     for (column, form) in columns.iter().zip(forms) {

@@ -293,7 +293,7 @@ pub fn unchanged(n: usize) -> Vec<Record> {
 }
 
 /// n inputs whose keys all have one hash in crates/index, each a second time in the other order.
-pub(super) fn colliding(n: u64) -> Vec<Record> {
+pub fn colliding(n: u64) -> Vec<Record> {
     const LOW: u32 = 1_013_904_243;
     const HIGH: u32 = 965_271_753;
     // Newton's steps to the inverse of an odd number modulo 2^32.

@@ -15,7 +15,7 @@ use model::{Call, Case};
 use crate::Rng;
 
 pub use files::{LONGEST_FILE, fixed_files, random_file};
-pub use lists::{chain, expression, small_lists, unchanged};
+pub use lists::{chain, colliding, expression, small_lists, unchanged};
 pub use make::{column_case, list_case};
 
 /// Whether more cases are wanted.
