@@ -1,8 +1,10 @@
 // Holds the field to vectors of ordinary whole-number arithmetic, made by tools/field_vectors.py and read from standard input.
 ghost use mathlib.Core.Path.{_≡_};
-ghost use Prim.Native.Nat.{_+_, _≤_, _<_};
+ghost use Prim.Native.Nat.{_+_, _/_, _≤_, _<_};
 ghost use lib.ListN.{length};
 ghost use Rattle.field.specs.Field.{Below};
+ghost use Rattle.field.specs.Generators as Generators;
+ghost use Rattle.field_vectors.specs.Vectors as Vectors;
 use field::QuadFelt;
 use libc::STDOUT_FILENO;
 
@@ -17,7 +19,7 @@ struct Tally {
 
 // The value of a hexadecimal digit.
 fn nibble(b: u8) -> u64
-    ensures { λ r. ⌜ r < 16 ⌝ }
+    ensures { λ r. ⌜ (r ≡ Vectors.digit b) × (r < 16) ⌝ }
 {
     match b {
         b'0'..=b'9' => (b - 48) as u64,
@@ -29,6 +31,7 @@ fn nibble(b: u8) -> u64
 // The word of 16 digits at a place.
 fn word(s: &[u8], at: usize) -> u64
     requires { ⌜ at + 16 ≤ length (now s) ⌝ }
+    ensures { λ r. ⌜ r ≡ Vectors.digits (now (s .entry)) at 16 ⌝ }
 {
     let mut n: u64 = 0;
     let mut i = 0;
@@ -42,12 +45,26 @@ fn word(s: &[u8], at: usize) -> u64
 // The element of two words at a place.
 fn element(s: &[u8], at: usize) -> QuadFelt
     requires { ⌜ at + 33 ≤ length (now s) ⌝ }
+    ensures { λ r. ⌜ r ≡ Vectors.element (now (s .entry)) at ⌝ }
 {
     QuadFelt::new(word(s, at), word(s, at + 17))
 }
 
+// Whether both coordinates are below the prime.
+fn low(a: QuadFelt) -> bool
+    ensures { λ r. ⌜ r ≡ Vectors.low a ⌝ }
+{
+    if a.c0 < QuadFelt::MODULUS {
+        a.c1 < QuadFelt::MODULUS
+    } else {
+        false
+    }
+}
+
 // The generator of a number, and 0 past the table.
-fn generator(k: u64) -> u64 {
+fn generator(k: u64) -> u64
+    ensures { λ r. ⌜ r ≡ Generators.generator k ⌝ }
+{
     if k <= 32 {
         field::felt::two_adic_generator(k as usize)
     } else {
@@ -58,6 +75,7 @@ fn generator(k: u64) -> u64 {
 // What the field answers for a sign.
 fn answer(sign: u8, a: QuadFelt, b: QuadFelt) -> QuadFelt
     requires { ⌜ Below a × Below b ⌝ }
+    ensures { λ r. ⌜ r ≡ Vectors.asked sign a b ⌝ }
 {
     match sign {
         b'+' => a.add(b),
@@ -69,28 +87,33 @@ fn answer(sign: u8, a: QuadFelt, b: QuadFelt) -> QuadFelt
     }
 }
 
+// Whether operands are in lowest form, and the field answers r for a sign.
+fn agrees(sign: u8, a: QuadFelt, b: QuadFelt, r: QuadFelt) -> bool
+    ensures { λ t. ⌜ t ≡ Vectors.agrees sign a b r ⌝ }
+{
+    if low(a) {
+        if low(b) {
+            return answer(sign, a, b).same(r);
+        }
+    }
+    false
+}
+
 // 1 where the field agrees with the vector at a place, and else 0.
 fn score(s: &[u8], at: usize) -> u64
     requires { ⌜ at + 104 ≤ length (now s) ⌝ }
-    ensures { λ r. ⌜ r ≤ 1 ⌝ }
+    ensures { λ r. ⌜ (r ≡ Vectors.score (now (s .entry)) at) × (r ≤ 1) ⌝ }
 {
     let a = element(s, at + 2);
     let b = element(s, at + 36);
-    if QuadFelt::MODULUS <= a.c0 || QuadFelt::MODULUS <= a.c1 {
-        return 0;
-    }
-    if QuadFelt::MODULUS <= b.c0 || QuadFelt::MODULUS <= b.c1 {
-        return 0;
-    }
-    if answer(s[at], a, b).same(element(s, at + 70)) {
-        1
-    } else {
-        0
-    }
+    let r = element(s, at + 70);
+    if agrees(s[at], a, b, r) { 1 } else { 0 }
 }
 
 // The field against every whole line.
-fn compare(s: &[u8]) -> Tally {
+fn compare(s: &[u8]) -> Tally
+    ensures { λ r. ⌜ (r .vectors ≡ length (now (s .entry)) / 104) × (r .matched ≡ Vectors.matched (now (s .entry)) (length (now (s .entry)) / 104)) ⌝ }
+{
     let mut vectors: u64 = 0;
     let mut matched: u64 = 0;
     let mut at = 0;

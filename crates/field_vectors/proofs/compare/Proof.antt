@@ -1,17 +1,22 @@
--- `field_vectors::compare` is safe and ends: a line is passed in each round.
-use Prim.Native.Nat.{_≤_, _*_, _-_}
-use lib.ListN.{length}
+use Prim.Native.Nat.{_≤_, _*_, _-_, _/_}
+use mathlib.Core.Path.{_≡_}
+use native.Mathlib.Omega.{arith}
 use borrow.Author.Needs.{needs}
+use lib.ListN.{length}
+use Rattle.field_vectors.specs.Vectors as Vectors
+use Rattle.field_vectors.specs.VectorLaws.{matched-next}
 use Rattle.field_vectors.proofs.compare.Statement.{statement}
 use Rattle.field_vectors.proofs.compare.Tie as tie
 
 abbrev Inv-loop : tie.InvT-loop
-Inv-loop s vectors₀ matched₀ at₀ vectors matched at = (at ≤ length s) × (vectors * 104 ≤ at) × (matched ≤ vectors)
+Inv-loop s vectors₀ matched₀ at₀ vectors matched at =
+    (at ≤ length s) × (at ≡ 104 * vectors) × (matched ≤ vectors) × (matched ≡ Vectors.matched s vectors)
 
 abbrev μ-loop : tie.MeasureT-loop
 μ-loop s vectors₀ matched₀ at₀ vectors matched at = length s - at
 
 loop-holds : tie.Need-loop-holds Inv-loop μ-loop
+unfolding Vectors.matched
 loop-holds c = search needs
 
 sub-loop : tie.Need-sub-loop Inv-loop μ-loop
@@ -33,10 +38,13 @@ loop-less : tie.Need-loop-less Inv-loop μ-loop
 loop-less c = search needs
 
 loop-again : tie.Need-loop-again Inv-loop μ-loop
-loop-again c = search needs
+loop-again c =
+    (omega arith, omega arith, omega arith, matched-next _ _ _ _ _ (c .before .before .loop .inv .1) (c .score .ensures .0) (c .before .before .loop .inv .3))
 
 returns : tie.Need-returns Inv-loop μ-loop
-returns c = search needs
+returns c =
+    let e : c .before .loop .vectors ≡ length (c .before .before .before .args .s .now) / 104 = omega arith in
+    (e, rw (← e) (c .before .loop .inv .3))
 
 pub compare-spec : {M : Type 1} → statement M
 compare-spec =
