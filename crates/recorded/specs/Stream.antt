@@ -1,10 +1,10 @@
 -- A stream of 64-bit words, lowest byte first, and the stores recorded in it (rust/differential/src/record.rs).
-use Prim.Native.Nat.{ℕ, zero, suc, _+_, _*_, _/_, _<_}
+use Prim.Native.Nat.{ℕ, zero, suc, _+_, _*_, _/_}
 use mathlib.Core.Bool.{Bool, true, cond, _&&_}
-use mathlib.Core.List.{List}
-use mathlib.Core.Path.{_≡_}
+use mathlib.Core.List.{List, [], _∷_, _++_}
 use lib.Dec.{leb, ltb, eqb}
 use lib.ListN.{getD, length}
+use Rattle.recorded.specs.declared.Trio.{Trio}
 
 -- the four bytes from place i on
 unfoldable pub half : List ℕ → ℕ → ℕ
@@ -27,6 +27,15 @@ every test (suc n) = every test n && test n
 unfoldable pub given : List ℕ → ℕ → ℕ → ℕ
 given s at i = cond (ltb i (word s (behind s at 1))) (word s (behind s at (2 + i))) (word s at)
 
+-- f 0, f 1, .., f (n − 1)
+unfoldable pub upTo : (ℕ → ℕ) → ℕ → List ℕ
+upTo f zero = []
+upTo f (suc n) = upTo f n ++ (f n ∷ [])
+
+-- the store recorded as lent at a place: its length, and then its words
+unfoldable pub stored : List ℕ → ℕ → List ℕ
+stored s at = upTo (given s (behind s at 1)) (word s at)
+
 -- the place behind the store recorded at a place
 unfoldable pub pastStore : List ℕ → ℕ → ℕ
 pastStore s at = behind s (behind s at 2) (word s (behind s at 1))
@@ -40,18 +49,22 @@ past s at head (suc k) = pastStore s (behind s (past s at head k) head)
 unfoldable pub storeAt : List ℕ → ℕ → ℕ → ℕ → ℕ → ℕ
 storeAt s at head k count = cond (ltb k count) (past s at head k) (length s)
 
+-- the places of three stores of so many
+unfoldable pub places : List ℕ → ℕ → ℕ → ℕ → Trio
+places s at head count = record { a = storeAt s at head 0 count; b = storeAt s at head 1 count; c = storeAt s at head 2 count }
+
+-- the lengths of the stores lent at three places are within three numbers
+unfoldable pub fit : List ℕ → Trio → ℕ → ℕ → ℕ → Bool
+fit s t i j k = leb (word s (t .a)) i && leb (word s (t .b)) j && leb (word s (t .c)) k
+
 -- a store is what is recorded of it
 unfoldable pub holds : List ℕ → ℕ → List ℕ → Bool
 holds s at store = every (λ i. eqb (getD store i 0) (given s at i)) (length store) && leb (word s (behind s at 1)) (length store)
 
--- three stores are what is recorded of so many of them
-unfoldable pub holdAll : List ℕ → ℕ → ℕ → List ℕ → List ℕ → List ℕ → Bool
-holdAll s at count a b c = holds s (storeAt s at 0 0 count) a && holds s (storeAt s at 0 1 count) b && holds s (storeAt s at 0 2 count) c
+-- three stores are what is recorded of them
+unfoldable pub holdAll : List ℕ → Trio → List ℕ → List ℕ → List ℕ → Bool
+holdAll s t a b c = holds s (t .a) a && holds s (t .b) b && holds s (t .c) c
 
 -- words are those recorded from a place on
 unfoldable pub follows : List ℕ → ℕ → List ℕ → Bool
 follows s at words = every (λ i. eqb (getD words i 0) (word s (behind s at i))) (length words)
-
--- the first n words of a store are those recorded at a place
-abbrev pub Laid : List ℕ → ℕ → ℕ → List ℕ → Type 0
-Laid s at n store = (i : ℕ) → i < n → getD store i 0 ≡ given s at i

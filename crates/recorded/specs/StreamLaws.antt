@@ -1,7 +1,7 @@
 -- Places of a stream, tests below a number, and stores laid word by word.
 use Prim.Native.Nat.{ℕ, zero, suc, _+_, _-_, _≤_, _<_}
 use mathlib.Core.Bool.{Bool, true, false, _&&_}
-use mathlib.Core.List.{List}
+use mathlib.Core.List.{List, [], _∷_, _++_}
 use mathlib.Core.Logic.{_⊎_, inl, inr}
 use mathlib.Core.Path.{_≡_, refl, sym, _∙_, ap}
 use native.Mathlib.Nat.{le-suc-iff, suc-inj}
@@ -9,9 +9,9 @@ use native.Mathlib.Numerals.{add-one}
 use native.Mathlib.Omega.{arith}
 use borrow.Author.Tests.{leb-true, leb-false, le-leb, lt-leb, eq-eqb, ne-eqb}
 use lib.Dec.{leb, eqb}
-use lib.ListN.{getD, length, set}
-use lib.Seq.{getD-set-same, getD-set-other}
-use Rattle.recorded.specs.Stream.{word, behind, pastStore, past, every, given, holds, follows, Laid}
+use lib.ListN.{getD, length, set, length-append, List·getD-append}
+use lib.Seq.{getD-set-same, getD-set-other, getD-append-seam, ext-getD}
+use Rattle.recorded.specs.Stream.{word, behind, pastStore, past, every, given, upTo, stored, holds, follows}
 
 -- the place behind a place
 module _ (s : List ℕ) (at k : ℕ) where
@@ -131,23 +131,42 @@ module _ (s : List ℕ) (at : ℕ) (words : List ℕ) where
   unfolding matches follows
   followed-all i h k d = let q : i ≡ length words = omega arith in sym (rw q at (d .followed))
 
--- a store laid word by word
-module _ (s : List ℕ) (at : ℕ) where
-  pub laid-none : (store : List ℕ) → Laid s at 0 store
-  laid-none store = λ i h. absurd (omega arith)
+-- a list given by its places
+module _ (f : ℕ → ℕ) where
+  pub length-upTo : (n : ℕ) → length (upTo f n) ≡ n
+  unfolding upTo
+  length-upTo zero = refl
+  length-upTo (suc n) = length-append (upTo f n) (f n ∷ []) ∙ (ap (λ k. k + 1) (length-upTo n) ∙ add-one n)
 
-  pub laid-next : (n v : ℕ) (store : List ℕ) → n < length store → Laid s at n store → v ≡ given s at n → Laid s at (n + 1) (set store n v)
-  laid-next n v store room d e i h = go (le-suc-iff .0 (omega arith))
+  pub getD-upTo : (n i : ℕ) → i < n → getD (upTo f n) i 0 ≡ f i
+  unfolding upTo
+  getD-upTo zero i h = absurd (omega arith)
+  getD-upTo (suc n) i h = go (le-suc-iff .0 h) (getD-upTo n i)
     where
-      go : (i < n) ⊎ (suc i ≡ suc n) → getD (set store n v) i 0 ≡ given s at i
-      go (inl k) = getD-set-other store n i v 0 (omega arith) ∙ d i k
-      go (inr q) = rw (suc-inj q) (getD-set-same store n v 0 room ∙ e)
+      go : (i < n) ⊎ (suc i ≡ suc n) → (i < n → getD (upTo f n) i 0 ≡ f i) → getD (upTo f n ++ (f n ∷ [])) i 0 ≡ f i
+      go (inl k) before = List·getD-append (upTo f n) (f n ∷ []) 0 i (rw (length-upTo n) k) ∙ before k
+      go (inr q) before = rw (suc-inj q) (ap (λ k. getD (upTo f n ++ (f n ∷ [])) k 0) (sym (length-upTo n)) ∙ getD-append-seam (upTo f n) (f n) [] 0)
 
-pub laid-all : (s : List ℕ) (at packed i w : ℕ) (old store : List ℕ) → packed ≡ behind s at 1 → i ≤ length old → length store ≤ i → length store ≡ length old → Laid s packed i store → w ≡ word s at
-    → (eqb w i ≡ eqb (word s at) (length old)) × Laid s (behind s at 1) (length store) store
-laid-all s at packed i w old store e h k q d v =
-    let whole : i ≡ length old = omega arith in
-    (rw (whole, v), λ j r. d j (omega arith) ∙ ap (λ p. given s p j) e)
+-- a store laid word by word: its first n words are those recorded
+module _ (s : List ℕ) (at : ℕ) where
+  pub record Words (n : ℕ) (store : List ℕ) : Type 0 where
+    word-of : (i : ℕ) → i < n → getD store i 0 ≡ given s at i
+
+  pub laid-none : (store : List ℕ) → Words 0 store
+  laid-none store = record { word-of = λ i h. absurd (omega arith) }
+
+  pub laid-next : (n v : ℕ) (store : List ℕ) → n < length store → Words n store → v ≡ given s at n → Words (n + 1) (set store n v)
+  laid-next n v store room d e = record { word-of = λ i h. go i (le-suc-iff .0 (omega arith)) }
+    where
+      go : (i : ℕ) → (i < n) ⊎ (suc i ≡ suc n) → getD (set store n v) i 0 ≡ given s at i
+      go i (inl k) = getD-set-other store n i v 0 (omega arith) ∙ d .word-of i k
+      go i (inr q) = rw (suc-inj q) (getD-set-same store n v 0 room ∙ e)
+
+pub laid-all : (s : List ℕ) (at packed i : ℕ) (store : List ℕ) → packed ≡ behind s at 1 → length store ≡ word s at → length store ≤ i → Words s packed i store → store ≡ stored s at
+unfolding stored
+laid-all s at packed i store e q h d =
+    ext-getD 0 store (upTo (given s (behind s at 1)) (word s at)) (q ∙ sym (length-upTo _ (word s at)))
+    (λ j k. d .word-of j (omega arith) ∙ (ap (λ p. given s p j) e ∙ sym (getD-upTo (given s (behind s at 1)) (word s at) j (omega arith))))
 
 -- three tests, one after the other
 pub all-first : (a b c : Bool) → a ≡ false → false ≡ (a && b && c)

@@ -5,10 +5,10 @@
 ghost use mathlib.Core.Path.{_≡_};
 ghost use mathlib.Core.Bool.{_&&_};
 ghost use Prim.Native.Nat.{_+_, _<_, _≤_};
-ghost use lib.Dec.{eqb};
 ghost use lib.ListN.{length};
 ghost use Rattle.io.specs.Counts.{Counts};
 ghost use Rattle.recorded.specs.Stream as Stream;
+ghost use Rattle.recorded.specs.Contracts as Contracts;
 
 // The number of a byte.
 fn wide(b: u8) -> u64
@@ -87,15 +87,37 @@ pub fn number(s: &[u8], at: usize, k: u64) -> u64
     word(s, skip(s, at, k))
 }
 
-// The length of lent store k of `count`, and at most that of `room`.
-pub fn length_of(s: &[u8], at: usize, k: u64, count: u64, room: &[u64]) -> usize
-    ensures { λ r. ⌜ Counts r (now (room .entry)) ⌝ }
+// Three places.
+pub struct Trio {
+    pub a: usize,
+    pub b: usize,
+    pub c: usize,
+}
+
+// The places of three stores of `count` from a place on.
+pub fn places(s: &[u8], at: usize, head: u64, count: u64) -> Trio
+    ensures { λ r. ⌜ r ≡ Stream.places (now (s .entry)) at head count ⌝ }
 {
-    let length = word(s, place(s, at, 1, k, count));
-    if room.len() as u64 <= length {
-        return room.len();
+    Trio {
+        a: place(s, at, head, 0, count),
+        b: place(s, at, head, 1, count),
+        c: place(s, at, head, 2, count),
     }
-    length as usize
+}
+
+// Whether the lengths of the stores lent at three places are within i, j and k.
+pub fn fit(s: &[u8], t: Trio, i: u64, j: u64, k: u64) -> bool
+    ensures { λ r. ⌜ r ≡ Stream.fit (now (s .entry)) t i j k ⌝ }
+{
+    all(word(s, t.a) <= i, word(s, t.b) <= j, word(s, t.c) <= k)
+}
+
+// The length of the store lent at a place.
+pub fn length_of(s: &[u8], at: usize, room: &[u64]) -> usize
+    requires { ⌜ Stream.word (now s) at ≤ length (now room) ⌝ }
+    ensures { λ r. ⌜ Counts r (now (room .entry)) × (r ≡ Stream.word (now (s .entry)) at) ⌝ }
+{
+    word(s, at) as usize
 }
 
 // Word i of a store: the word recorded at `from`, or its filling word where none is.
@@ -110,9 +132,10 @@ fn recorded(s: &[u8], at: usize, from: usize, i: u64) -> u64
     }
 }
 
-// Lays a recorded store into this one, and answers whether it has that length.
-fn lay(s: &[u8], at: usize, store: &mut [u64]) -> bool
-    ensures { λ r. ⌜ (r ≡ eqb (Stream.word (now (s .entry)) at) (length (now (store .entry)))) × Stream.Laid (now (s .entry)) (Stream.behind (now (s .entry)) at 1) (length (now (store .exit))) (now (store .exit)) ⌝ }
+// Lays a recorded store into this one.
+fn lay(s: &[u8], at: usize, store: &mut [u64])
+    requires { ⌜ length (now store) ≡ Stream.word (now s) at ⌝ }
+    ensures { λ _. ⌜ now (store .exit) ≡ Stream.stored (now (s .entry)) at ⌝ }
 {
     let packed = skip(s, at, 1);
     let mut from = skip(s, packed, 2);
@@ -123,7 +146,6 @@ fn lay(s: &[u8], at: usize, store: &mut [u64]) -> bool
         from = skip(s, from, 1);
         i += 1;
     }
-    word(s, at) == i as u64
 }
 
 // Whether a store holds what is recorded of it.
@@ -155,29 +177,21 @@ pub fn all(a: bool, b: bool, c: bool) -> bool
     c
 }
 
-// Lays the `count` stores recorded from a place on into these, and answers whether each has its length.
-pub fn lay_all(
-    s: &[u8],
-    at: usize,
-    count: u64,
-    a: &mut [u64],
-    b: &mut [u64],
-    c: &mut [u64],
-) -> bool {
-    let first = lay(s, place(s, at, 1, 0, count), a);
-    let second = lay(s, place(s, at, 1, 1, count), b);
-    let third = lay(s, place(s, at, 1, 2, count), c);
-    all(first, second, third)
+// Lays the stores recorded at three places into these.
+pub fn lay_all(s: &[u8], t: Trio, a: &mut [u64], b: &mut [u64], c: &mut [u64])
+    requires { ⌜ Contracts.Long (now s) t (now a) (now b) (now c) ⌝ }
+    ensures { λ _. ⌜ Contracts.Laid (now (s .entry)) t (now (a .exit)) (now (b .exit)) (now (c .exit)) ⌝ }
+{
+    lay(s, t.a, a);
+    lay(s, t.b, b);
+    lay(s, t.c, c);
 }
 
-// Whether these hold what is recorded of the `count` stores from a place on.
-pub fn hold_all(s: &[u8], at: usize, count: u64, a: &[u64], b: &[u64], c: &[u64]) -> bool
-    ensures { λ r. ⌜ r ≡ Stream.holdAll (now (s .entry)) at count (now (a .entry)) (now (b .entry)) (now (c .entry)) ⌝ }
+// Whether these hold what is recorded of the stores at three places.
+pub fn hold_all(s: &[u8], t: Trio, a: &[u64], b: &[u64], c: &[u64]) -> bool
+    ensures { λ r. ⌜ r ≡ Stream.holdAll (now (s .entry)) t (now (a .entry)) (now (b .entry)) (now (c .entry)) ⌝ }
 {
-    let first = holds(s, place(s, at, 0, 0, count), a);
-    let second = holds(s, place(s, at, 0, 1, count), b);
-    let third = holds(s, place(s, at, 0, 2, count), c);
-    all(first, second, third)
+    all(holds(s, t.a, a), holds(s, t.b, b), holds(s, t.c, c))
 }
 
 // Whether words are those recorded from a place on.

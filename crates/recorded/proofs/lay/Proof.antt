@@ -1,15 +1,16 @@
 use Prim.Native.Nat.{_+_, _-_, _≤_}
-use mathlib.Core.Path.{_≡_, refl}
+use mathlib.Core.Path.{_≡_, refl, _∙_}
 use native.Mathlib.Omega.{arith}
 use borrow.Author.Needs.{needs}
 use lib.ListN.{length, length-set}
-use Rattle.recorded.specs.Stream.{behind, Laid}
-use Rattle.recorded.specs.StreamLaws.{laid-none, laid-next, laid-all, walk-store}
+use Rattle.recorded.specs.Stream.{behind}
+use Rattle.recorded.specs.StreamLaws.{Words, laid-none, laid-next, laid-all, walk-store}
 use Rattle.recorded.proofs.lay.Statement.{statement}
 use Rattle.recorded.proofs.lay.Tie as tie
 
 abbrev Inv-loop : tie.InvT-loop
-Inv-loop s at store₀ packed from₀ i₀ store from i = (i ≤ length store₀) × (length store ≡ length store₀) × («from» ≡ behind s packed (2 + i)) × Laid s packed i store
+Inv-loop s at store₀ packed from₀ i₀ store from i =
+    (i ≤ length store₀) × (length store ≡ length store₀) × («from» ≡ behind s packed (2 + i)) × Words s packed i store
 
 abbrev μ-loop : tie.MeasureT-loop
 μ-loop s at store₀ packed from₀ i₀ store from i = length store - i
@@ -21,10 +22,10 @@ skip-requires-2 : tie.Need-skip-requires-2 Inv-loop μ-loop
 skip-requires-2 c κs = search needs
 
 loop-holds : tie.Need-loop-holds Inv-loop μ-loop
-loop-holds c = (omega arith, refl, (c .skip2 .ensures), laid-none (c .before .before .before .before .args .s .now) (c .before .skip .result) (c .before .before .before .before .args .store .now))
+loop-holds c = (omega arith, refl, c .skip2 .ensures, laid-none _ _ _)
 
 recorded-requires : tie.Need-recorded-requires Inv-loop μ-loop
-recorded-requires c κs = (c .before .loop .inv .2)
+recorded-requires c κs = c .before .loop .inv .2
 
 mul-store : tie.Need-mul-store Inv-loop μ-loop
 mul-store c = search needs
@@ -42,16 +43,17 @@ loop-less : tie.Need-loop-less Inv-loop μ-loop
 loop-less c = simp length-set (omega arith)
 
 loop-again : tie.Need-loop-again Inv-loop μ-loop
-loop-again c = (omega arith, simp length-set (c .before .before .before .loop .inv .1), walk-store (c .before .before .before .before .before .before .before .before .args .s .now) (c .before .before .before .before .before .skip .result) _ _ _ (c .before .before .before .loop .inv .2) (c .skip3 .ensures), laid-next (c .before .before .before .before .before .before .before .before .args .s .now) (c .before .before .before .before .before .skip .result) (c .before .before .before .loop .i) (c .before .recorded .result) (c .before .before .before .loop .store) (omega (arith, (c .before .before .loop-test .taken))) (c .before .before .before .loop .inv .3) (c .before .recorded .ensures))
-
-word-requires : tie.Need-word-requires Inv-loop μ-loop
-word-requires c κs = search needs
+loop-again c =
+    let l = c .before .before .before .loop in
+    (omega arith, simp length-set (l .inv .1), walk-store _ _ _ _ _ (l .inv .2) (c .skip3 .ensures), laid-next _ _ _ _ _ (c .before .before .loop-test .taken) (l .inv .3) (c .before .recorded .ensures))
 
 same-length : tie.Need-same-length Inv-loop μ-loop
-same-length c = (c .before .before .loop .inv .1)
+same-length c = c .before .loop .inv .1
 
 returns : tie.Need-returns Inv-loop μ-loop
-returns c = laid-all (c .before .before .before .before .before .before .before .args .s .now) (c .before .before .before .before .before .before .before .args .at) (c .before .before .before .before .skip .result) (c .before .before .loop .i) (c .word .result) (c .before .before .before .before .before .before .before .args .store .now) (c .before .before .loop .store) (c .before .before .before .before .skip .ensures) (c .before .before .loop .inv .0) (c .before .loop-test .left) (c .before .before .loop .inv .1) (c .before .before .loop .inv .3) (c .word .ensures)
+returns c =
+    let l = c .before .loop in
+    laid-all _ _ _ _ _ (c .before .before .before .skip .ensures) (l .inv .1 ∙ c .before .before .before .before .before .before .pre) (c .loop-test .left) (l .inv .3)
 
 pub lay-spec : {M : Type 1} → statement M
 lay-spec =
@@ -69,6 +71,5 @@ lay-spec =
     add-i
     loop-less
     loop-again
-    word-requires
     same-length
     returns)
