@@ -7,7 +7,7 @@ use mathlib.Core.Path.{_≡_, refl, sym, _∙_, ap}
 use native.Mathlib.Nat.{le-suc-iff, suc-inj}
 use native.Mathlib.Numerals.{add-one}
 use native.Mathlib.Omega.{arith}
-use borrow.Author.Tests.{leb-true, leb-false, le-leb, lt-leb, eq-eqb, ne-eqb}
+use borrow.Author.Tests.{leb-true, leb-false, le-leb, lt-leb, lt-ltb, le-ltb, eq-eqb, ne-eqb}
 use lib.Dec.{leb, eqb}
 use lib.ListN.{getD, length, set, length-append, List·getD-append}
 use lib.Seq.{getD-set-same, getD-set-other, getD-append-seam, ext-getD}
@@ -131,6 +131,16 @@ module _ (s : List ℕ) (at : ℕ) (words : List ℕ) where
   unfolding matches follows
   followed-all i h k d = let q : i ≡ length words = omega arith in sym (rw q at (d .followed))
 
+-- word i of a store with n words given
+module _ (s : List ℕ) (at i n : ℕ) where
+  pub given-inside : i < n → n ≡ word s (behind s at 1) → word s (behind s at (2 + i)) ≡ given s at i
+  unfolding given
+  given-inside h e = rw (← e, lt-ltb i n h)
+
+  pub given-outside : n ≤ i → n ≡ word s (behind s at 1) → word s at ≡ given s at i
+  unfolding given
+  given-outside h e = rw (← e, le-ltb i n h)
+
 -- a list given by its places
 module _ (f : ℕ → ℕ) where
   pub length-upTo : (n : ℕ) → length (upTo f n) ≡ n
@@ -167,14 +177,3 @@ unfolding stored
 laid-all s at packed i store e q h d =
     ext-getD 0 store (upTo (given s (behind s at 1)) (word s at)) (q ∙ sym (length-upTo _ (word s at)))
     (λ j k. d .word-of j (omega arith) ∙ (ap (λ p. given s p j) e ∙ sym (getD-upTo (given s (behind s at 1)) (word s at) j (omega arith))))
-
--- three tests, one after the other
-pub all-first : (a b c : Bool) → a ≡ false → false ≡ (a && b && c)
-all-first a b c e = rw e
-
-pub all-second : (a b c : Bool) → b ≡ false → false ≡ (a && b && c)
-all-second true b c e = rw e
-all-second false b c e = refl
-
-pub all-third : (a b c : Bool) → a ≡ true → b ≡ true → c ≡ (a && b && c)
-all-third a b c e q = rw (e, q)

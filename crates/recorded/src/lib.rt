@@ -5,7 +5,7 @@
 ghost use mathlib.Core.Path.{_≡_};
 ghost use mathlib.Core.Bool.{_&&_};
 ghost use Prim.Native.Nat.{_+_, _<_, _≤_};
-ghost use lib.ListN.{length};
+ghost use lib.ListN.{length, take};
 ghost use Rattle.io.specs.Counts.{Counts};
 ghost use Rattle.recorded.specs.Stream as Stream;
 ghost use Rattle.recorded.specs.Contracts as Contracts;
@@ -115,7 +115,7 @@ pub fn fit(s: &[u8], t: Trio, i: u64, j: u64, k: u64) -> bool
 // The length of the store lent at a place.
 pub fn length_of(s: &[u8], at: usize, room: &[u64]) -> usize
     requires { ⌜ Stream.word (now s) at ≤ length (now room) ⌝ }
-    ensures { λ r. ⌜ Counts r (now (room .entry)) × (r ≡ Stream.word (now (s .entry)) at) ⌝ }
+    ensures { λ r. ⌜ Counts r (now (room .entry)) × (length (take r (now (room .entry))) ≡ Stream.word (now (s .entry)) at) ⌝ }
 {
     word(s, at) as usize
 }
@@ -164,17 +164,18 @@ fn holds(s: &[u8], at: usize, store: &[u64]) -> bool
     number(s, at, 1) <= i as u64
 }
 
+// Whether both hold.
+pub fn both(a: bool, b: bool) -> bool
+    ensures { λ r. ⌜ r ≡ (a && b) ⌝ }
+{
+    if a { b } else { false }
+}
+
 // Whether all three hold.
-pub fn all(a: bool, b: bool, c: bool) -> bool
+fn all(a: bool, b: bool, c: bool) -> bool
     ensures { λ r. ⌜ r ≡ (a && b && c) ⌝ }
 {
-    if !a {
-        return false;
-    }
-    if !b {
-        return false;
-    }
-    c
+    both(both(a, b), c)
 }
 
 // Lays the stores recorded at three places into these.

@@ -1,18 +1,12 @@
 // The exported calls, each on the numbers and stores of a recorded case.
 use recorded::follow;
 use recorded::number;
+ghost use mathlib.Core.List.{[]};
 ghost use mathlib.Core.Path.{_≡_};
-ghost use lib.ListN.{length};
-ghost use Rattle.field.specs.Field.{p};
 ghost use Rattle.recorded.specs.Stream as Stream;
-ghost use Rattle.builder.specs.Calls as Building;
-ghost use Rattle.compact.specs.Calls as Compaction;
-ghost use Rattle.normalize.specs.Calls as Normalising;
-ghost use Rattle.evaluate.specs.Calls as Evaluation;
-ghost use Rattle.columns.specs.Prepare as Prepare;
-ghost use Rattle.lower.specs.Lower as Lowering;
-ghost use Rattle.ace.specs.Answers as Answers;
-ghost use Rattle.replay.specs.Cases as Cases;
+ghost use Rattle.replay.specs.Cases.{shape, shapeOf, number, outcome, stores};
+ghost use Rattle.replay.specs.Contracts.{Asked};
+ghost use Rattle.replay.specs.declared.calls.Call as Calls;
 
 // A call.
 pub enum Call {
@@ -34,7 +28,9 @@ pub struct Shape {
 }
 
 impl Shape {
-    fn new(numbers: u64, read: u64, written: u64, answer: u64) -> Self {
+    fn new(numbers: u64, read: u64, written: u64, answer: u64) -> Self
+        ensures { λ r. ⌜ r ≡ shape numbers read written answer ⌝ }
+    {
         Self {
             numbers,
             read,
@@ -45,7 +41,9 @@ impl Shape {
 }
 
 // A call's shape.
-pub fn shape_of(call: Call) -> Shape {
+pub fn shape_of(call: Call) -> Shape
+    ensures { λ r. ⌜ r ≡ shapeOf call ⌝ }
+{
     match call {
         Call::Step => Shape::new(4, 0, 1, 4),
         Call::Build => Shape::new(2, 1, 2, 4),
@@ -73,18 +71,14 @@ fn answers_long(s: &[u8], said: usize, answer: &[u64; 18]) -> bool
 
 // Step on the case at a place: whether its answer is the one recorded at `said`.
 fn step(s: &[u8], at: usize, said: usize, list: &mut [u64]) -> bool
-    ensures { λ r. ⌜ r ≡ Stream.follows (now (s .entry)) said (Answers.stepWords (Building.stepAnswer (now (list .entry)) (Cases.number (now (s .entry)) at 0) (Cases.number (now (s .entry)) at 1) (Cases.number (now (s .entry)) at 2) (Cases.number (now (s .entry)) at 3))) ⌝ }
+    ensures { λ r. ⌜ Asked (outcome Call.Step (number (now (s .entry)) at) (stores [] [] []) (stores (now (list .entry)) [] [])) (now (s .entry)) said r (now (list .exit)) [] [] ⌝ }
 {
     let mut answer = [0u64; 4];
     let n = number(s, at, 0) as usize;
-    ace::ace_step(
-        list,
-        n,
-        number(s, at, 1),
-        number(s, at, 2),
-        number(s, at, 3),
-        &mut answer,
-    );
+    let tag = number(s, at, 1);
+    let first = number(s, at, 2);
+    let second = number(s, at, 3);
+    ace::ace_step(list, n, tag, first, second, &mut answer);
     answers(s, said, &answer)
 }
 
@@ -96,7 +90,9 @@ fn build(
     list: &[u64],
     result: &mut [u64],
     map: &mut [u64],
-) -> bool {
+) -> bool
+    ensures { λ r. ⌜ Asked (outcome Call.Build (number (now (s .entry)) at) (stores (now (list .entry)) [] []) (stores (now (result .entry)) (now (map .entry)) [])) (now (s .entry)) said r (now (result .exit)) (now (map .exit)) [] ⌝ }
+{
     let mut answer = [0u64; 4];
     let n = number(s, at, 0) as usize;
     let root = number(s, at, 1) as usize;
@@ -105,7 +101,9 @@ fn build(
 }
 
 // Compact on the case at a place: whether its answer is the one recorded at `said`.
-fn compact(s: &[u8], at: usize, said: usize, list: &[u64], result: &mut [u64]) -> bool {
+fn compact(s: &[u8], at: usize, said: usize, list: &[u64], result: &mut [u64]) -> bool
+    ensures { λ r. ⌜ Asked (outcome Call.Compact (number (now (s .entry)) at) (stores (now (list .entry)) [] []) (stores (now (result .entry)) [] [])) (now (s .entry)) said r (now (result .exit)) [] [] ⌝ }
+{
     let mut answer = [0u64; 4];
     let n = number(s, at, 0) as usize;
     let root = number(s, at, 1) as usize;
@@ -121,7 +119,9 @@ fn normalize(
     list: &[u64],
     result: &mut [u64],
     work: &mut [u64],
-) -> bool {
+) -> bool
+    ensures { λ r. ⌜ Asked (outcome Call.Normalize (number (now (s .entry)) at) (stores (now (list .entry)) [] []) (stores (now (result .entry)) (now (work .entry)) [])) (now (s .entry)) said r (now (result .exit)) (now (work .exit)) [] ⌝ }
+{
     let mut answer = [0u64; 4];
     let n = number(s, at, 0) as usize;
     let root = number(s, at, 1) as usize;
@@ -130,7 +130,9 @@ fn normalize(
 }
 
 // Evaluate on the case at a place: whether its answer is the one recorded at `said`.
-fn evaluate(s: &[u8], at: usize, said: usize, list: &[u64], assignment: &[u64]) -> bool {
+fn evaluate(s: &[u8], at: usize, said: usize, list: &[u64], assignment: &[u64]) -> bool
+    ensures { λ r. ⌜ r ≡ Stream.follows (now (s .entry)) said (outcome Call.Evaluate (number (now (s .entry)) at) (stores (now (list .entry)) (now (assignment .entry)) []) (stores [] [] []) .words) ⌝ }
+{
     let mut answer = [0u64; 4];
     let n = number(s, at, 0) as usize;
     let root = number(s, at, 1) as usize;
@@ -140,7 +142,9 @@ fn evaluate(s: &[u8], at: usize, said: usize, list: &[u64], assignment: &[u64]) 
 }
 
 // Prepare on the case at a place: whether its answer is the one recorded at `said`.
-fn prepare(s: &[u8], said: usize, lengths: &[u64], entries: &[u64]) -> bool {
+fn prepare(s: &[u8], at: usize, said: usize, lengths: &[u64], entries: &[u64]) -> bool
+    ensures { λ r. ⌜ r ≡ Stream.follows (now (s .entry)) said (outcome Call.Prepare (number (now (s .entry)) at) (stores (now (lengths .entry)) (now (entries .entry)) []) (stores [] [] []) .words) ⌝ }
+{
     let mut answer = [0u64; 18];
     ace::ace_prepare(lengths, entries, &mut answer);
     answers_long(s, said, &answer)
@@ -157,7 +161,9 @@ fn lower(
     result: &mut [u64],
     work: &mut [u64],
     places: &mut [u64],
-) -> bool {
+) -> bool
+    ensures { λ r. ⌜ Asked (outcome Call.Lower (number (now (s .entry)) at) (stores (now (list .entry)) (now (lengths .entry)) (now (entries .entry))) (stores (now (result .entry)) (now (work .entry)) (now (places .entry)))) (now (s .entry)) said r (now (result .exit)) (now (work .exit)) (now (places .exit)) ⌝ }
+{
     let mut answer = [0u64; 4];
     let n = number(s, at, 0) as usize;
     let period = number(s, at, 1);
@@ -175,7 +181,7 @@ fn lower(
     answers(s, said, &answer)
 }
 
-// A call on the stores that it reads, a to c, and those that it writes, x to z.
+// A call on the stores that it reads, a to c, and those that it writes, x to z: whether its answer is the one recorded at `said`.
 pub fn ask(
     call: Call,
     s: &[u8],
@@ -187,14 +193,16 @@ pub fn ask(
     x: &mut [u64],
     y: &mut [u64],
     z: &mut [u64],
-) -> bool {
+) -> bool
+    ensures { λ r. ⌜ Asked (outcome call (number (now (s .entry)) at) (stores (now (a .entry)) (now (b .entry)) (now (c .entry))) (stores (now (x .entry)) (now (y .entry)) (now (z .entry)))) (now (s .entry)) said r (now (x .exit)) (now (y .exit)) (now (z .exit)) ⌝ }
+{
     match call {
         Call::Step => step(s, at, said, x),
         Call::Build => build(s, at, said, a, x, y),
         Call::Compact => compact(s, at, said, a, x),
         Call::Normalize => normalize(s, at, said, a, x, y),
         Call::Evaluate => evaluate(s, at, said, a, b),
-        Call::Prepare => prepare(s, said, a, b),
+        Call::Prepare => prepare(s, at, said, a, b),
         Call::Lower => lower(s, at, said, a, b, c, x, y, z),
     }
 }

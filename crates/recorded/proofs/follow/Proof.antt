@@ -18,7 +18,7 @@ skip-requires : tie.Need-skip-requires Inv-loop μ-loop
 skip-requires c κs = search needs
 
 loop-holds : tie.Need-loop-holds Inv-loop μ-loop
-loop-holds c = (omega arith, (c .skip .ensures), followed-none (c .before .before .before .args .s .now) (c .before .before .before .args .at) (c .before .before .before .args .words .now))
+loop-holds c = (omega arith, c .skip .ensures, followed-none _ _ _)
 
 mul-if1 : tie.Need-mul-if1 Inv-loop μ-loop
 mul-if1 c = search needs
@@ -30,7 +30,9 @@ word-requires : tie.Need-word-requires Inv-loop μ-loop
 word-requires c κs = search needs
 
 returns : tie.Need-returns Inv-loop μ-loop
-returns c = followed-not (c .before .before .before .before .before .before .before .before .args .s .now) (c .before .before .before .before .before .before .before .before .args .at) (c .before .before .before .before .before .before .before .before .args .words .now) _ _ _ (c .before .before .before .loop-test .taken) (c .before .before .before .before .loop .inv .1) (c .before .word .ensures) (c .if1 .taken)
+returns c =
+    let l = c .before .before .before .before .loop in
+    followed-not _ _ _ _ _ _ (c .before .before .before .loop-test .taken) (l .inv .1) (c .before .word .ensures) (c .if1 .taken)
 
 skip-requires-2 : tie.Need-skip-requires-2 Inv-loop μ-loop
 skip-requires-2 c κs = search needs
@@ -42,10 +44,12 @@ loop-less : tie.Need-loop-less Inv-loop μ-loop
 loop-less c = search needs
 
 loop-again : tie.Need-loop-again Inv-loop μ-loop
-loop-again c = (omega (arith, (c .before .before .before .before .loop-test .taken)), walk-next (c .before .before .before .before .before .before .before .before .before .args .s .now) (c .before .before .before .before .before .before .before .before .before .args .at) _ _ _ (c .before .before .before .before .before .loop .inv .1) (c .skip2 .ensures), followed-next (c .before .before .before .before .before .before .before .before .before .args .s .now) (c .before .before .before .before .before .before .before .before .before .args .at) (c .before .before .before .before .before .before .before .before .before .args .words .now) _ _ _ (c .before .before .before .before .before .loop .inv .2) (c .before .before .before .before .before .loop .inv .1) (c .before .before .word .ensures) (c .before .if1 .left))
+loop-again c =
+    let l = c .before .before .before .before .before .loop in
+    (omega (arith, c .before .before .before .before .loop-test .taken), walk-next _ _ _ _ _ (l .inv .1) (c .skip2 .ensures), followed-next _ _ _ _ _ _ (l .inv .2) (l .inv .1) (c .before .before .word .ensures) (c .before .if1 .left))
 
 returns-2 : tie.Need-returns-2 Inv-loop μ-loop
-returns-2 c = followed-all (c .before .before .before .before .before .args .s .now) (c .before .before .before .before .before .args .at) (c .before .before .before .before .before .args .words .now) _ (c .before .loop .inv .0) (c .loop-test .left) (c .before .loop .inv .2)
+returns-2 c = followed-all _ _ _ _ (c .before .loop .inv .0) (c .loop-test .left) (c .before .loop .inv .2)
 
 pub follow-spec : {M : Type 1} → statement M
 follow-spec =

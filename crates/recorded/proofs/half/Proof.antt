@@ -57,7 +57,7 @@ add-result-3 c = search needs
 
 returns : tie.Need-returns
 unfolding half
-returns c = (rw ((c .before .before .before .before .before .before .wide .ensures .0), (c .before .before .before .before .wide2 .ensures .0), (c .before .before .wide3 .ensures .0), (c .wide4 .ensures .0)), omega (arith, (c .before .before .before .before .before .before .wide .ensures .1), (c .before .before .before .before .wide2 .ensures .1), (c .before .before .wide3 .ensures .1), (c .wide4 .ensures .1)))
+returns c = (cc, omega arith)
 
 pub half-spec : {M : Type 1} → statement M
 half-spec =

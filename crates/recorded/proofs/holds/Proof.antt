@@ -18,7 +18,7 @@ skip-requires : tie.Need-skip-requires Inv-loop μ-loop
 skip-requires c κs = search needs
 
 loop-holds : tie.Need-loop-holds Inv-loop μ-loop
-loop-holds c = (omega arith, (c .skip .ensures), held-none (c .before .before .before .args .s .now) (c .before .before .before .args .at) (c .before .before .before .args .store .now))
+loop-holds c = (omega arith, c .skip .ensures, held-none _ _ _)
 
 mul-if1 : tie.Need-mul-if1 Inv-loop μ-loop
 mul-if1 c = search needs
@@ -30,7 +30,7 @@ recorded-requires : tie.Need-recorded-requires Inv-loop μ-loop
 recorded-requires c κs = (c .before .before .loop .inv .1)
 
 returns : tie.Need-returns Inv-loop μ-loop
-returns c = held-not (c .before .before .before .before .before .before .before .before .args .s .now) (c .before .before .before .before .before .before .before .before .args .at) (c .before .before .before .before .before .before .before .before .args .store .now) _ _ (c .before .before .before .loop-test .taken) (c .before .recorded .ensures) (c .if1 .taken)
+returns c = held-not _ _ _ _ _ (c .before .before .before .loop-test .taken) (c .before .recorded .ensures) (c .if1 .taken)
 
 skip-requires-2 : tie.Need-skip-requires-2 Inv-loop μ-loop
 skip-requires-2 c κs = search needs
@@ -42,13 +42,17 @@ loop-less : tie.Need-loop-less Inv-loop μ-loop
 loop-less c = search needs
 
 loop-again : tie.Need-loop-again Inv-loop μ-loop
-loop-again c = (omega (arith, (c .before .before .before .before .loop-test .taken)), walk-store (c .before .before .before .before .before .before .before .before .before .args .s .now) (c .before .before .before .before .before .before .before .before .before .args .at) _ _ _ (c .before .before .before .before .before .loop .inv .1) (c .skip2 .ensures), held-next (c .before .before .before .before .before .before .before .before .before .args .s .now) (c .before .before .before .before .before .before .before .before .before .args .at) (c .before .before .before .before .before .before .before .before .before .args .store .now) _ _ (c .before .before .before .before .before .loop .inv .2) (c .before .before .recorded .ensures) (c .before .if1 .left))
+loop-again c =
+    let l = c .before .before .before .before .before .loop in
+    (omega (arith, c .before .before .before .before .loop-test .taken), walk-store _ _ _ _ _ (l .inv .1) (c .skip2 .ensures), held-next _ _ _ _ _ (l .inv .2) (c .before .before .recorded .ensures) (c .before .if1 .left))
 
 number-requires : tie.Need-number-requires Inv-loop μ-loop
 number-requires c κs = search needs
 
 returns-2 : tie.Need-returns-2 Inv-loop μ-loop
-returns-2 c = held-all (c .before .before .before .before .before .before .args .s .now) (c .before .before .before .before .before .before .args .at) (c .before .before .before .before .before .before .args .store .now) _ _ (c .before .before .loop .inv .0) (c .before .loop-test .left) (c .before .before .loop .inv .2) (c .number .ensures)
+returns-2 c =
+    let l = c .before .before .loop in
+    held-all _ _ _ _ _ (l .inv .0) (c .before .loop-test .left) (l .inv .2) (c .number .ensures)
 
 pub holds-spec : {M : Type 1} → statement M
 holds-spec =

@@ -8,7 +8,7 @@ word-requires : tie.Need-word-requires
 word-requires c κs = search needs
 
 returns : tie.Need-returns
-returns c = ((omega arith, simp length-take (omega arith)), (c .word .ensures))
+returns c = ((omega arith, simp length-take (omega arith)), simp length-take (omega arith))
 
 pub length-of-spec : {M : Type 1} → statement M
 length-of-spec = tie.close (tie.spec word-requires returns)

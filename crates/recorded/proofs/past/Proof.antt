@@ -14,7 +14,7 @@ abbrev μ-loop : tie.MeasureT-loop
 μ-loop s at head k place₀ left₀ place left = left
 
 loop-holds : tie.Need-loop-holds Inv-loop μ-loop
-loop-holds c = (omega arith, past-none (c .before .args .s .now) (c .before .args .at) (c .before .args .head) (c .before .args .k))
+loop-holds c = (omega arith, past-none _ _ _ _)
 
 skip-requires : tie.Need-skip-requires Inv-loop μ-loop
 skip-requires c κs = search needs
@@ -29,10 +29,12 @@ loop-less : tie.Need-loop-less Inv-loop μ-loop
 loop-less c = omega arith
 
 loop-again : tie.Need-loop-again Inv-loop μ-loop
-loop-again c = (omega arith, (c .past-words .ensures) ∙ (ap (pastStore (c .before .before .before .before .before .args .s .now)) ((c .before .skip .ensures) ∙ ap (λ p. behind (c .before .before .before .before .before .args .s .now) p (c .before .before .before .before .before .args .head)) (c .before .before .before .loop .inv .1)) ∙ past-next (c .before .before .before .before .before .args .s .now) (c .before .before .before .before .before .args .at) (c .before .before .before .before .before .args .head) (c .before .before .before .before .before .args .k) (c .before .before .before .loop .left) (omega arith) (c .before .before .before .loop .inv .0)))
+loop-again c =
+    let l = c .before .before .before .loop in
+    (omega arith, (cc) ∙ past-next _ _ _ _ _ (c .before .before .loop-test .taken) (l .inv .0))
 
 returns : tie.Need-returns Inv-loop μ-loop
-returns c = (c .before .loop .inv .1) ∙ past-all (c .before .before .before .args .s .now) (c .before .before .before .args .at) (c .before .before .before .args .head) (c .before .before .before .args .k) (c .before .loop .left) (omega arith)
+returns c = c .before .loop .inv .1 ∙ past-all _ _ _ _ _ (omega arith)
 
 pub past-spec : {M : Type 1} → statement M
 past-spec =

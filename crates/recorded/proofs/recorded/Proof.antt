@@ -1,7 +1,5 @@
-use native.Mathlib.Omega.{arith}
-use mathlib.Core.Path.{_∙_, ap}
-use borrow.Author.Tests.{lt-ltb, le-ltb}
-use Rattle.recorded.specs.Stream.{word, behind, given}
+use mathlib.Core.Path.{_∙_}
+use Rattle.recorded.specs.StreamLaws.{given-inside, given-outside}
 use borrow.Author.Needs.{needs}
 use Rattle.recorded.proofs.recorded.Statement.{statement}
 use Rattle.recorded.proofs.recorded.Tie as tie
@@ -16,12 +14,10 @@ word-requires-2 : tie.Need-word-requires-2
 word-requires-2 c κs = search needs
 
 returns : tie.Need-returns
-unfolding given
-returns c = (c .word .ensures) ∙ (ap (word (c .before .before .before .before .args .s .now)) (c .before .before .before .before .pre) ∙ rw (lt-ltb (c .before .before .before .before .args .i) (word (c .before .before .before .before .args .s .now) (behind (c .before .before .before .before .args .s .now) (c .before .before .before .before .args .at) 1)) (omega (arith, (c .before .before .number .ensures), (c .before .if1 .taken)))))
+returns c = (cc) ∙ given-inside _ _ _ _ (c .before .if1 .taken) (c .before .before .number .ensures)
 
 returns-2 : tie.Need-returns-2
-unfolding given
-returns-2 c = (c .word2 .ensures) ∙ rw (le-ltb (c .before .before .before .before .args .i) (word (c .before .before .before .before .args .s .now) (behind (c .before .before .before .before .args .s .now) (c .before .before .before .before .args .at) 1)) (omega (arith, (c .before .before .number .ensures), (c .before .if1 .left))))
+returns-2 c = c .word2 .ensures ∙ given-outside _ _ _ _ (c .before .if1 .left) (c .before .before .number .ensures)
 
 pub recorded-spec : {M : Type 1} → statement M
 recorded-spec =

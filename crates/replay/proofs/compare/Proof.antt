@@ -1,22 +1,21 @@
--- `replay::compare` is safe and ends: a case is passed in each round.
-use borrow.Author.Needs.{needs}
 use Prim.Native.Nat.{_≤_, _-_}
+use mathlib.Core.Path.{_≡_}
+use native.Mathlib.Omega.{arith}
+use borrow.Author.Needs.{needs}
+use Rattle.replay.specs.Cases as Cases
+use Rattle.replay.specs.CaseLaws.{place-next, matched-next}
 use Rattle.replay.proofs.compare.Statement.{statement}
 use Rattle.replay.proofs.compare.Tie as tie
 
 abbrev Inv-loop : tie.InvT-loop
-Inv-loop call s cases matched₀ at₀ i₀ matched at i = (matched ≤ i) × (i ≤ cases)
+Inv-loop call s cases matched₀ at₀ i₀ matched at i =
+    (i ≤ cases) × (matched ≤ i) × (at ≡ Cases.placeOf call s i) × (matched ≡ Cases.matched call s i)
 
 abbrev μ-loop : tie.MeasureT-loop
 μ-loop call s cases matched₀ at₀ i₀ matched at i = cases - i
 
-word-requires : tie.Need-word-requires Inv-loop μ-loop
-word-requires c κs = search needs
-
-returns : tie.Need-returns Inv-loop μ-loop
-returns c = search needs
-
 loop-holds : tie.Need-loop-holds Inv-loop μ-loop
+unfolding Cases.matched Cases.placeOf
 loop-holds c = search needs
 
 case-at-requires : tie.Need-case-at-requires Inv-loop μ-loop
@@ -35,10 +34,14 @@ loop-less : tie.Need-loop-less Inv-loop μ-loop
 loop-less c = search needs
 
 loop-again : tie.Need-loop-again Inv-loop μ-loop
-loop-again c = search needs
+loop-again c =
+    let l = c .before .before .before .loop in
+    (search needs, search needs, place-next _ _ _ _ (l .inv .2) _ (c .before .case-at .ensures .1), matched-next _ _ _ _ (l .inv .2) _ _ _ (l .inv .3) (c .before .case-at .ensures .0) (c .score .ensures .0))
 
-returns-2 : tie.Need-returns-2 Inv-loop μ-loop
-returns-2 c = search needs
+returns : tie.Need-returns Inv-loop μ-loop
+returns c =
+    let e : c .before .loop .i ≡ c .before .before .before .args .cases = omega arith in
+    rw e at (c .before .loop .inv .3)
 
 pub compare-spec : {M : Type 1} → statement M
 compare-spec =
@@ -46,8 +49,6 @@ compare-spec =
     (tie.spec
     Inv-loop
     μ-loop
-    word-requires
-    returns
     loop-holds
     case-at-requires
     score-requires
@@ -55,4 +56,4 @@ compare-spec =
     add-i
     loop-less
     loop-again
-    returns-2)
+    returns)

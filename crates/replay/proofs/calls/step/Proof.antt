@@ -1,13 +1,8 @@
-use mathlib.Core.Path.{_∙_, ap}
-use Rattle.recorded.specs.Stream as Stream
+use mathlib.Core.Path.{refl}
+use Rattle.replay.specs.Cases.{outcome}
 use borrow.Author.Needs.{needs}
 use Rattle.replay.proofs.calls.step.Statement.{statement}
 use Rattle.replay.proofs.calls.step.Tie as tie
-use Rattle.replay.proofs.calls.step.Reads as reads
-use Rattle.replay.proofs.calls.step.Lts as lts
-use Rattle.ace.proofs.ace_step.Reads as ace-step-reads
-use Rattle.recorded.proofs.number.Reads as number-reads
-use Rattle.replay.proofs.calls.answers.Reads as answers-reads
 
 number-requires : tie.Need-number-requires
 number-requires c κs = search needs
@@ -31,7 +26,8 @@ same-length : tie.Need-same-length
 same-length c = search needs
 
 returns : tie.Need-returns
-returns c = (c .answers .ensures) ∙ (ap (Stream.follows (c .before .before .before .before .before .before .before .before .before .before .before .before .before .args .s .now) (c .before .before .before .before .before .before .before .before .before .before .before .before .before .args .said)) (c .before .before .before .before .ace-step .ensures .1) ∙ rw ((c .before .before .before .before .before .before .before .before .before .before .number .ensures), (c .before .before .before .before .before .before .before .before .number2 .ensures), (c .before .before .before .before .before .before .before .number3 .ensures), (c .before .before .before .before .before .before .number4 .ensures)))
+unfolding outcome
+returns c = record { told = cc; first = cc; second = refl; third = refl }
 
 pub step-spec : {M : Type 1} → statement M
 step-spec =

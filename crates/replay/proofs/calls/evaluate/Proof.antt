@@ -1,0 +1,34 @@
+use Rattle.replay.specs.Cases.{outcome}
+use borrow.Author.Needs.{needs}
+use Rattle.replay.proofs.calls.evaluate.Statement.{statement}
+use Rattle.replay.proofs.calls.evaluate.Tie as tie
+
+number-requires : tie.Need-number-requires
+number-requires c κs = search needs
+
+number-requires-2 : tie.Need-number-requires-2
+number-requires-2 c κs = search needs
+
+number-requires-3 : tie.Need-number-requires-3
+number-requires-3 c κs = search needs
+
+ace-evaluate-requires : tie.Need-ace-evaluate-requires
+ace-evaluate-requires c κs = search needs
+
+answers-requires : tie.Need-answers-requires
+answers-requires c κs = search needs
+
+returns : tie.Need-returns
+unfolding outcome
+returns c = cc
+
+pub evaluate-spec : {M : Type 1} → statement M
+evaluate-spec =
+    tie.close
+    (tie.spec
+    number-requires
+    number-requires-2
+    number-requires-3
+    ace-evaluate-requires
+    answers-requires
+    returns)

@@ -1,0 +1,47 @@
+use mathlib.Core.Path.{_∙_}
+use Rattle.replay.specs.Cases.{outcome}
+use borrow.Author.Needs.{needs}
+use Rattle.replay.proofs.calls.lower.Statement.{statement}
+use Rattle.replay.proofs.calls.lower.Tie as tie
+
+number-requires : tie.Need-number-requires
+number-requires c κs = search needs
+
+number-requires-2 : tie.Need-number-requires-2
+number-requires-2 c κs = search needs
+
+ace-lower-requires : tie.Need-ace-lower-requires
+ace-lower-requires c κs = search needs
+
+answers-requires : tie.Need-answers-requires
+answers-requires c κs = search needs
+
+same-length : tie.Need-same-length
+same-length c = search needs
+
+same-length-2 : tie.Need-same-length-2
+same-length-2 c = search needs
+
+same-length-3 : tie.Need-same-length-3
+same-length-3 c = search needs
+
+returns : tie.Need-returns
+unfolding outcome
+returns c =
+    let e = c .before .before .before .before .before .before .before .before .ace-lower .ensures in
+    let n = c .before .before .before .before .before .before .before .before .before .before .before .before .before .before .number .ensures in
+    let period = c .before .before .before .before .before .before .before .before .before .before .before .before .before .number2 .ensures in
+    record { told = c .answers .ensures ∙ rw (e .1 .1 .1, n, period); first = e .0 ∙ rw (n, period); second = e .1 .0 ∙ rw (n, period); third = e .1 .1 .0 ∙ rw (n, period) }
+
+pub lower-spec : {M : Type 1} → statement M
+lower-spec =
+    tie.close
+    (tie.spec
+    number-requires
+    number-requires-2
+    ace-lower-requires
+    answers-requires
+    same-length
+    same-length-2
+    same-length-3
+    returns)

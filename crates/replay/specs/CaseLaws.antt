@@ -1,0 +1,85 @@
+-- A call on the stores laid for a case, a case that has room, and one case more.
+use Prim.Native.Nat.{ℕ, _+_, _≤_}
+use mathlib.Core.Bool.{Bool, true, false, cond, _&&_, false≢true}
+use mathlib.Core.List.{List}
+use mathlib.Core.Path.{_≡_, refl, sym, _∙_, ap}
+use native.Mathlib.Numerals.{add-one}
+use borrow.Author.Tests.{leb-true}
+use lib.Dec.{leb}
+use Rattle.recorded.specs.Stream.{word, behind, past, places, fit, holdAll}
+use Rattle.recorded.specs.Contracts.{Laid}
+use Rattle.recorded.specs.declared.Trio.{Trio}
+use Rattle.replay.specs.Cases.{Outcome, outcome, stores, number, shapeOf, partsOf, answered, room, same, placeOf, matched}
+use Rattle.replay.specs.Contracts.{Asked}
+use Rattle.replay.specs.declared.calls.Call.{Call}
+use Rattle.replay.specs.declared.calls.Shape.{Shape}
+use Rattle.replay.specs.declared.Parts.{Parts}
+
+-- a call on the stores laid for a case, and what is held of them then
+pub answered-is : (call : Call) (s : List ℕ) (at : ℕ) (q : Parts) {a b c x y z x' y' z' : List ℕ} {told : Bool} (held : Bool) → Laid s (q .read) a b c → Laid s (q .written) x y z
+    → Asked (outcome call (number s at) (stores a b c) (stores x y z)) s (q .said) told x' y' z' → held ≡ holdAll s (q .held) x' y' z' → (told && held) ≡ answered call s at q
+unfolding answered
+answered-is call s at q held r w h e =
+    rw (← r .first, ← r .second, ← r .third, ← w .first, ← w .second, ← w .third, ← h .told, ← h .first, ← h .second, ← h .third, e)
+
+-- the parts of a case, one after the other
+pub parts-made : (call : Call) (s : List ℕ) (at : ℕ) (h : Shape) (read written said after next : ℕ) (r w d : Trio) → h ≡ shapeOf call → read ≡ behind s at (h .numbers)
+    → written ≡ past s read 1 (h .read) → said ≡ past s written 1 (h .written) → after ≡ behind s said (h .answer)
+    → r ≡ places s read 1 (h .read) → w ≡ places s written 1 (h .written) → d ≡ places s after 0 (h .written) → next ≡ past s after 0 (h .written)
+    → record { read = r; written = w; said = said; held = d; next = next } ≡ partsOf call s at
+unfolding partsOf
+parts-made call s at h read written said after next r w d eh er ew es ea fr fw fd fn = rw (fr, fw, fd, fn, ea, es, ew, er, eh)
+
+-- the tests of a case's room
+module _ (s : List ℕ) (q : Parts) where
+  pub room-yes : fit s (q .read) 12352 12352 2112 ≡ true → fit s (q .written) 12352 24640 64 ≡ room s q
+  unfolding room
+  room-yes e = rw e
+
+  pub room-no : fit s (q .read) 12352 12352 2112 ≡ false → false ≡ room s q
+  unfolding room
+  room-no e = rw e
+
+both : {X : Type 0} (t u : Bool) → (t && u) ≡ true → (t ≡ true → u ≡ true → X) → X
+both true u e f = f refl e
+both false u e f = absurd (false≢true e)
+
+-- the lengths of three stores are within three numbers
+pub record Within (s : List ℕ) (t : Trio) (i j k : ℕ) : Type 0 where
+  pub first : word s (t .a) ≤ i
+  pub second : word s (t .b) ≤ j
+  pub third : word s (t .c) ≤ k
+
+fit-within : (s : List ℕ) (t : Trio) (i j k : ℕ) → fit s t i j k ≡ true → Within s t i j k
+unfolding fit
+fit-within s t i j k e =
+    both (leb (word s (t .a)) i && leb (word s (t .b)) j) (leb (word s (t .c)) k) e
+    (λ d f. both (leb (word s (t .a)) i) (leb (word s (t .b)) j) d (λ g h. record { first = leb-true _ i g; second = leb-true _ j h; third = leb-true _ k f }))
+
+pub read-within : (s : List ℕ) (q : Parts) → room s q ≡ true → Within s (q .read) 12352 12352 2112
+unfolding room
+read-within s q e = both (fit s (q .read) 12352 12352 2112) _ e (λ d f. fit-within s _ _ _ _ d)
+
+pub written-within : (s : List ℕ) (q : Parts) → room s q ≡ true → Within s (q .written) 12352 24640 64
+unfolding room
+written-within s q e = both (fit s (q .read) 12352 12352 2112) _ e (λ d f. fit-within s _ _ _ _ f)
+
+-- the tests of a case
+module _ (call : Call) (s : List ℕ) (at : ℕ) where
+  pub same-yes : room s (partsOf call s at) ≡ true → answered call s at (partsOf call s at) ≡ same call s at
+  unfolding same
+  same-yes e = rw e
+
+  pub same-no : room s (partsOf call s at) ≡ false → false ≡ same call s at
+  unfolding same
+  same-no e = rw e
+
+-- one case more
+module _ (call : Call) (s : List ℕ) (i at : ℕ) (e : at ≡ placeOf call s i) where
+  pub place-next : (next : ℕ) → next ≡ partsOf call s at .next → next ≡ placeOf call s (i + 1)
+  unfolding placeOf
+  place-next next q = q ∙ (ap (λ h. partsOf call s h .next) e ∙ rw (add-one i))
+
+  pub matched-next : (n m : ℕ) (t : Bool) → n ≡ matched call s i → t ≡ same call s at → m ≡ cond t 1 0 → n + m ≡ matched call s (i + 1)
+  unfolding matched
+  matched-next n m t d q k = rw (add-one i, ← e, ← d, ← q, k)
