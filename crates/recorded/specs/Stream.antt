@@ -53,9 +53,9 @@ storeAt s at head k count = cond (ltb k count) (past s at head k) (length s)
 unfoldable pub places : List ℕ → ℕ → ℕ → ℕ → Trio
 places s at head count = record { a = storeAt s at head 0 count; b = storeAt s at head 1 count; c = storeAt s at head 2 count }
 
--- the lengths of the stores lent at three places are within three numbers
-unfoldable pub fit : List ℕ → Trio → ℕ → ℕ → ℕ → Bool
-fit s t i j k = leb (word s (t .a)) i && leb (word s (t .b)) j && leb (word s (t .c)) k
+-- the stores lent at three places have at most so many words
+unfoldable pub fit : List ℕ → Trio → ℕ → Bool
+fit s t most = leb (word s (t .a)) most && leb (word s (t .b)) most && leb (word s (t .c)) most
 
 -- a store is what is recorded of it
 unfoldable pub holds : List ℕ → ℕ → List ℕ → Bool

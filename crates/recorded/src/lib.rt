@@ -1,5 +1,5 @@
 // Recorded answers of the Rust: a stream of 64-bit little-endian words, as rust/differential/src/record.rs writes it.
-// The number of cases; for each its numbers, its stores as lent, the answer, and the written stores after the call.
+// A case is its numbers, its stores as lent, the answer, and the written stores after the call.
 // A store is a filling word, the number of words given and those words, with the store's length before it where it is lent.
 // Past the stream's end every word is 0.
 ghost use mathlib.Core.Path.{_≡_};
@@ -105,11 +105,15 @@ pub fn places(s: &[u8], at: usize, head: u64, count: u64) -> Trio
     }
 }
 
-// Whether the lengths of the stores lent at three places are within i, j and k.
-pub fn fit(s: &[u8], t: Trio, i: u64, j: u64, k: u64) -> bool
-    ensures { λ r. ⌜ r ≡ Stream.fit (now (s .entry)) t i j k ⌝ }
+// Whether the stores lent at three places have at most so many words.
+pub fn fit(s: &[u8], t: Trio, most: u64) -> bool
+    ensures { λ r. ⌜ r ≡ Stream.fit (now (s .entry)) t most ⌝ }
 {
-    all(word(s, t.a) <= i, word(s, t.b) <= j, word(s, t.c) <= k)
+    all(
+        word(s, t.a) <= most,
+        word(s, t.b) <= most,
+        word(s, t.c) <= most,
+    )
 }
 
 // The length of the store lent at a place.

@@ -30,39 +30,29 @@ pub parts-made : (call : Call) (s : List ℕ) (at : ℕ) (h : Shape) (read writt
 unfolding partsOf
 parts-made call s at h read written said after next r w d eh er ew es ea fr fw fd fn = rw (fr, fw, fd, fn, ea, es, ew, er, eh)
 
--- the tests of a case's room
-module _ (s : List ℕ) (q : Parts) where
-  pub room-yes : fit s (q .read) 12352 12352 2112 ≡ true → fit s (q .written) 12352 24640 64 ≡ room s q
-  unfolding room
-  room-yes e = rw e
-
-  pub room-no : fit s (q .read) 12352 12352 2112 ≡ false → false ≡ room s q
-  unfolding room
-  room-no e = rw e
-
 both : {X : Type 0} (t u : Bool) → (t && u) ≡ true → (t ≡ true → u ≡ true → X) → X
 both true u e f = f refl e
 both false u e f = absurd (false≢true e)
 
--- the lengths of three stores are within three numbers
-pub record Within (s : List ℕ) (t : Trio) (i j k : ℕ) : Type 0 where
-  pub first : word s (t .a) ≤ i
-  pub second : word s (t .b) ≤ j
-  pub third : word s (t .c) ≤ k
+-- three stores have at most so many words
+pub record Within (s : List ℕ) (t : Trio) (most : ℕ) : Type 0 where
+  pub first : word s (t .a) ≤ most
+  pub second : word s (t .b) ≤ most
+  pub third : word s (t .c) ≤ most
 
-fit-within : (s : List ℕ) (t : Trio) (i j k : ℕ) → fit s t i j k ≡ true → Within s t i j k
+fit-within : (s : List ℕ) (t : Trio) (most : ℕ) → fit s t most ≡ true → Within s t most
 unfolding fit
-fit-within s t i j k e =
-    both (leb (word s (t .a)) i && leb (word s (t .b)) j) (leb (word s (t .c)) k) e
-    (λ d f. both (leb (word s (t .a)) i) (leb (word s (t .b)) j) d (λ g h. record { first = leb-true _ i g; second = leb-true _ j h; third = leb-true _ k f }))
+fit-within s t most e =
+    both (leb (word s (t .a)) most && leb (word s (t .b)) most) (leb (word s (t .c)) most) e
+    (λ d f. both (leb (word s (t .a)) most) (leb (word s (t .b)) most) d (λ g h. record { first = leb-true _ most g; second = leb-true _ most h; third = leb-true _ most f }))
 
-pub read-within : (s : List ℕ) (q : Parts) → room s q ≡ true → Within s (q .read) 12352 12352 2112
+pub read-within : (s : List ℕ) (q : Parts) → room s q ≡ true → Within s (q .read) 4096
 unfolding room
-read-within s q e = both (fit s (q .read) 12352 12352 2112) _ e (λ d f. fit-within s _ _ _ _ d)
+read-within s q e = both (fit s (q .read) 4096) _ e (λ d f. fit-within s _ _ d)
 
-pub written-within : (s : List ℕ) (q : Parts) → room s q ≡ true → Within s (q .written) 12352 24640 64
+pub written-within : (s : List ℕ) (q : Parts) → room s q ≡ true → Within s (q .written) 12352
 unfolding room
-written-within s q e = both (fit s (q .read) 12352 12352 2112) _ e (λ d f. fit-within s _ _ _ _ f)
+written-within s q e = both (fit s (q .read) 4096) _ e (λ d f. fit-within s _ _ f)
 
 -- the tests of a case
 module _ (call : Call) (s : List ℕ) (at : ℕ) where

@@ -101,7 +101,7 @@ answered call s at q =
 
 -- the arrays that stores are lent from are long enough
 unfoldable pub room : List ℕ → Parts → Bool
-room s q = fit s (q .read) 12352 12352 2112 && fit s (q .written) 12352 24640 64
+room s q = fit s (q .read) 4096 && fit s (q .written) 12352
 
 -- the case at a place has room and is answered as recorded
 unfoldable pub same : Call → List ℕ → ℕ → Bool

@@ -66,8 +66,8 @@ fn parts_of(call: Call, s: &[u8], at: usize) -> Parts
 fn has_room(s: &[u8], p: Parts) -> bool
     ensures { λ r. ⌜ r ≡ Cases.room (now (s .entry)) p ⌝ }
 {
-    let reads = fit(s, p.read, 12352, 12352, 2112);
-    let writes = fit(s, p.written, 12352, 24640, 64);
+    let reads = fit(s, p.read, 4096);
+    let writes = fit(s, p.written, 12352);
     both(reads, writes)
 }
 
@@ -99,8 +99,8 @@ fn with_written(call: Call, s: &[u8], at: usize, p: Parts, a: &[u64], b: &[u64],
     ensures { λ r. ⌜ r ≡ Cases.answered call (now (s .entry)) at p ⌝ }
 {
     let mut x = [0u64; 12352];
-    let mut y = [0u64; 24640];
-    let mut z = [0u64; 64];
+    let mut y = [0u64; 12352];
+    let mut z = [0u64; 12352];
     let i = length_of(s, p.written.a, &x);
     let j = length_of(s, p.written.b, &y);
     let k = length_of(s, p.written.c, &z);
@@ -140,9 +140,9 @@ fn with_stores(call: Call, s: &[u8], at: usize, p: Parts) -> bool
     requires { ⌜ Cases.room (now s) p ≡ true ⌝ }
     ensures { λ r. ⌜ r ≡ Cases.answered call (now (s .entry)) at p ⌝ }
 {
-    let mut a = [0u64; 12352];
-    let mut b = [0u64; 12352];
-    let mut c = [0u64; 2112];
+    let mut a = [0u64; 4096];
+    let mut b = [0u64; 4096];
+    let mut c = [0u64; 4096];
     let i = length_of(s, p.read.a, &a);
     let j = length_of(s, p.read.b, &b);
     let k = length_of(s, p.read.c, &c);

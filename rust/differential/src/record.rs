@@ -1,9 +1,11 @@
-//! A sample of the Rust's answers, for a program that replays it.
+//! A sample of the Rust's answers, for the program `replay`.
 //!
-//! A stream of 64-bit little-endian words: the number of cases; then for each case its numbers in
-//! the order of the call's signature, each store as lent, the answer words, and each writable
-//! store after the call. A store as lent is its length, a filling word, the number of words given
-//! and those words; the rest are the filling word. After the call the length is left out.
+//! A stream of 64-bit little-endian words, a section for each call: the call's number, from 1 in
+//! the order of `Call`, the number of cases, the number of the words that follow, and those: for
+//! each case its numbers in the order of the call's signature, each store as lent, the answer
+//! words, and each writable store after the call. A store as lent is its length, a filling word,
+//! the number of words given and those words; the rest are the filling word. After the call the
+//! length is left out.
 
 use std::collections::HashMap;
 use std::ops::ControlFlow::{Break, Continue};
@@ -97,7 +99,7 @@ fn telling(mutant: Mutant, call: Call, rng: &mut Rng) -> Vec<Case> {
     found
 }
 
-/// The cases recorded for a call, about `count`, the same for the same seed.
+/// The cases recorded for a call, `count` of them, the same for the same seed.
 pub fn chosen(call: Call, count: usize, seed: u64) -> Vec<(Case, Outcome)> {
     let mut rng = Rng::new(seed);
     let mut sample = Sample::new(call, count);
@@ -107,6 +109,7 @@ pub fn chosen(call: Call, count: usize, seed: u64) -> Vec<(Case, Outcome)> {
             sample.chosen.push((case, outcome));
         }
     }
+    sample.chosen.truncate(count);
     let mut corners = Vec::new();
     let mut keep = |case| -> Flow {
         corners.push(case);
@@ -122,13 +125,23 @@ pub fn chosen(call: Call, count: usize, seed: u64) -> Vec<(Case, Outcome)> {
     for _ in 0..60 * count {
         sample.take(cases::random(call, &mut rng));
     }
+    sample.most = count;
+    while sample.chosen.len() < count {
+        sample.take(cases::random(call, &mut rng));
+    }
     sample.chosen
 }
 
-/// The recorded sample of a call as bytes.
+/// The section of a call as bytes.
 pub fn sample(call: Call, count: usize, seed: u64) -> Vec<u8> {
     let chosen = chosen(call, count, seed);
-    let cases = chosen.iter().flat_map(|(case, outcome)| case_words(case, outcome));
-    let words: Vec<u64> = [chosen.len() as u64].into_iter().chain(cases).collect();
-    words.iter().flat_map(|word| word.to_le_bytes()).collect()
+    let cases: Vec<u64> =
+        chosen.iter().flat_map(|(case, outcome)| case_words(case, outcome)).collect();
+    let head = [call as u64 + 1, chosen.len() as u64, cases.len() as u64];
+    head.iter().chain(&cases).flat_map(|word| word.to_le_bytes()).collect()
+}
+
+/// The sections of these calls, one after the other.
+pub fn stream(calls: &[Call], count: usize, seed: u64) -> Vec<u8> {
+    calls.iter().flat_map(|&call| sample(call, count, seed)).collect()
 }
