@@ -247,16 +247,17 @@ fn list() -> Result<ExitCode, String> {
     Ok(ExitCode::SUCCESS)
 }
 
-/// Writes the recorded sample of a call.
+/// Writes the recorded sample of a call, or of every call.
 fn write_sample(options: &Options) -> Result<ExitCode, String> {
-    let Some(Part::Call(call)) = options.part else {
-        return Err("record needs --call NAME, a call".into());
+    let calls = match options.part {
+        None => Call::ALL.to_vec(),
+        Some(Part::Call(call)) => vec![call],
+        Some(Part::Normlist) => return Err("record takes a call".into()),
     };
     let out: &PathBuf = options.out.as_ref().ok_or("record needs --out FILE")?;
-    let bytes = record::sample(call, options.count, options.seed);
+    let bytes = record::stream(&calls, options.count, options.seed);
     std::fs::write(out, &bytes).map_err(|error| format!("{}: {error}", out.display()))?;
-    let cases = u64::from_le_bytes(bytes[..8].try_into().unwrap());
-    say!("{cases} cases of {}, {} bytes", call.signature().name, bytes.len());
+    say!("{} cases of each of {} calls, {} bytes", options.count, calls.len(), bytes.len());
     Ok(ExitCode::SUCCESS)
 }
 
