@@ -23,10 +23,11 @@ use Rattle.builder.specs.declared.Outcome.the-variants.{Place, Node}
 use Rattle.compact.specs.Reach.{marks}
 use Rattle.compact.specs.Compact.{rank, compact}
 use Rattle.compact.specs.RankLaws.{kept-elim}
-use Rattle.normalize.specs.Rounds.{planOf, planned, round, fanout, rounded, normalize}
+use Rattle.plan.specs.Plan.{planOf, fanout}
+use Rattle.normalize.specs.Rounds.{planned, round, rounded, normalize}
 use Rattle.normalize.specs.RepeatLaws.{rounds-elim}
-use Rattle.normalize.specs.declared.Plan.{Plan}
-use Rattle.normalize.specs.declared.Plan.the-variants.{Factored, Rotated, Plain}
+use Rattle.plan.specs.declared.Plan.{Plan}
+use Rattle.plan.specs.declared.Plan.the-variants.{Factored, Rotated, Plain}
 
 -- an input's key has K; other records have no key
 abbrev pub Keyed : (ℕ → Type 0) → NodeKind → Type 0

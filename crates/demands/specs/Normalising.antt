@@ -26,7 +26,8 @@ use Rattle.compact.specs.Reach._∈_.{here}
 use Rattle.compact.specs.OperandLaws.{one-below}
 use Rattle.compact.specs.Contracts.{AllBelow}
 use Rattle.dag.specs.WordLaws.{nodes-words, words-pass}
-use Rattle.normalize.specs.Rounds.{fanout, fired, rounded, normalize}
+use Rattle.plan.specs.Plan.{fanout}
+use Rattle.normalize.specs.Rounds.{fired, rounded, normalize}
 use Rattle.normalize.specs.RepeatLaws.{Answered}
 use Rattle.normalize.specs.Demand3.{same-value-at, as-many-roots, answer-well-formed, never-more, rounds-at-most-lost, given-back-exactly-when, idempotent}
 use Rattle.normalize.specs.Calls.{normalizeCheck, normalized, normalizeAnswer, normalizeResult}

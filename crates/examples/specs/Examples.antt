@@ -12,7 +12,8 @@ use Rattle.dag.specs.Lookup.{lookup}
 use Rattle.builder.specs.Steps.{isConstant, isAdd, isSub, isMul, isNeg, element, isThe, lowFirst, addRule, subRule, mulOutcome, negOutcome, follow, addWithin, subWithin, addOutcome, subOutcome, outcome, interned, intern, enter, step, Built, placeOf, recorded}
 use Rattle.compact.specs.Reach.{marked, sweep, marks}
 use Rattle.compact.specs.Compact.{rank, kept, compact, Rooted}
-use Rattle.normalize.specs.Rounds.{count, mentions, fanout, sharedFactor, commonFactor, orElse, ontoBefore, existingRotation, eitherRotation, planOf, planned, round, fired, rounded, isKept, roundsFrom, normalize, Normal}
+use Rattle.plan.specs.Plan.{count, mentions, fanout, sharedFactor, commonFactor, orElse, ontoBefore, existingRotation, eitherRotation, planOf}
+use Rattle.normalize.specs.Rounds.{planned, round, fired, rounded, isKept, roundsFrom, normalize, Normal}
 use Rattle.columns.specs.Columns.{logWithin, logLength, count as occurrences, isSparse, standalone, placesFrom, withNew, valuesFrom, values, weight, heaviest, dominant, isScaled, scalings, combinationCost, offset, equalEntries, gain, sameEntries, isAmong, saving, savings, threshold, goesOver, form, formNumber}
 use Rattle.columns.specs.Prepare.{upTo, firstOf, total, columns, prepareCheck}
 use Rattle.dag.specs.Keys.{isKey}

@@ -10,7 +10,7 @@ use borrow.Author.Tests.{leb-true}
 use lib.Dec.{leb}
 use lib.ListN.{length, getD, take, replicate}
 use Rattle.field.specs.Field.{p, quad, quad-laws}
-use Rattle.dag.specs.Nodes.{blank, nodes, wordsOf, filled}
+use Rattle.dag.specs.Nodes.{mostRecords, blank, nodes, wordsOf, filled}
 use Rattle.dag.specs.NodeLaws.{length-nodes}
 use Rattle.dag.specs.CaseLaws.{and-true}
 use Rattle.dag.specs.Refusals.{need, _then_}
@@ -71,28 +71,22 @@ fuel-enough (suc f) g l roots k h j = go (isKept quad l roots) refl g j (λ d q.
         let s = kept-shorter quad l roots e in
         rounds-kept f l roots k e ∙ (again d (omega arith) (omega arith) ∙ sym (rounds-kept d l roots k e))
 
--- the whole list copied
-pub copied-list : (s d : List ℕ) (n : ℕ) → Sound p s n → copied s d (3 * n) ≡ written d (nodes s n)
-unfolding copied written
-copied-list s d n sound = rw (take-words p s n sound, length-nodes s n)
-
-pub running-begins : (s : List ℕ) (n root : ℕ) (d result : List ℕ) → Sound p s n → root < n → result ≡ written d (nodes s n) → Running s n root result n root 0
+pub running-begins : {s : List ℕ} {n root k : ℕ} → Ready s n root k → Running s n root s n root 0
 unfolding normalized normalize
-running-begins s n root d result sound h e =
-    let len = length-nodes s n in
-    let same : nodes result n ≡ nodes s n = ap₂ nodes e (sym len) ∙ nodes-written d (nodes s n) in
+running-begins {s} {n} {root} h =
     record {
-      sound = rw e (rw len at (sound-written p d (nodes s n) (list-fine s n sound)));
-      inside = h;
+      sound = h .sound;
+      inside = h .inside;
       lost = omega arith;
-      rounds = ap₂ (λ f l. roundsFrom quad f l (root ∷ []) 0) len (sym same);
+      rounds = ap (λ f. roundsFrom quad f (nodes s n) (root ∷ []) 0) (length-nodes s n);
     }
 
-module _ (s : List ℕ) (n root : ℕ) (result : List ℕ) (count r k : ℕ) (h : Running s n root result count r k) where
-  pub running-ready : (words : ℕ) → n ≤ 4096 → 6 * n ≤ words → Ready result count r words
+-- the rounds so far, and one round more
+module _ {s : List ℕ} {n root : ℕ} {result : List ℕ} {count r k : ℕ} (h : Running s n root result count r k) where
+  pub running-ready : (words : ℕ) → n ≤ mostRecords → 6 * n ≤ words → Ready result count r words
   running-ready words few room = let a = h .lost in record { sound = h .sound; few = omega arith; inside = h .inside; room = omega arith }
 
-  module _ (after : List ℕ) (q : RoundKept) (o : Once result count r after q) where
+  module _ {after : List ℕ} {q : RoundKept} (o : Once result count r after q) where
     module _ (e : q .kept ≡ true) where
       kept : isKept quad (nodes result count) (r ∷ []) ≡ true
       kept = sym (o .kept-is) ∙ e
@@ -105,37 +99,36 @@ module _ (s : List ℕ) (n root : ℕ) (result : List ℕ) (count r k : ℕ) (h 
 
       pub running-on : Running s n root after (q .count) (q .root) (k + 1)
       running-on =
-          let below = rounded-inside quad quad-laws (nodes result count) (list-fine result count (h .sound)) (r ∷ []) (one-below (length (nodes result count)) r (let d = length-nodes result count in let i = h .inside in omega arith)) in
+          let b = new-count in
           let f = fewer in
           let a = h .lost in
+          let d = length-nodes result count in
+          let i = h .inside in
+          let l = rounded quad (nodes result count) (r ∷ []) in
+          let below = rounded-inside quad quad-laws (nodes result count) (list-fine result count (h .sound)) (r ∷ []) (one-below (length (nodes result count)) r (omega arith)) in
           record {
             sound = o .sound e;
             inside = rw new-count (below (q .root) (rw (← o .roots-are e) here));
             lost = omega arith;
             rounds =
                 h .rounds
-                ∙ (first-kept count (nodes result count) (r ∷ []) k (let i = h .inside in omega arith) kept
-                ∙ (fuel-enough (pred count) (q .count) (rounded quad (nodes result count) (r ∷ []) .list) (rounded quad (nodes result count) (r ∷ []) .roots) (suc k) (let b = new-count in omega arith) (let b = new-count in omega arith)
+                ∙ (first-kept count (nodes result count) (r ∷ []) k (omega arith) kept
+                ∙ (fuel-enough (pred count) (q .count) (l .list) (l .roots) (suc k) (omega arith) (omega arith)
                 ∙ rw (← o .list-is e, ← o .roots-are e, add-one k)));
           }
 
     -- the rounds end
-    module _ (e : q .kept ≡ false) where
-      pub rounds-end : normalized s n root ≡ record { list = nodes result count; roots = r ∷ []; rounds = k }
-      rounds-end = h .rounds ∙ given-back quad count (nodes result count) (r ∷ []) k (sym (o .kept-is) ∙ e)
-
-pub ended : (s : List ℕ) (n root : ℕ) (result : List ℕ) (count r k : ℕ) → Running s n root result count r k → (after : List ℕ) (q : RoundKept) → Once result count r after q → q .kept ≡ false
-    → Ended s n root after (record { count = count; root = r; rounds = k })
-ended s n root result count r k h after q o e =
-    let z = rounds-end s n root result count r k h after q o e in
-    let same = o .stays e in
-    record {
-      sound = rw same (h .sound);
-      few = let a = h .lost in omega arith;
-      list-is = ap (λ t. nodes t count) same ∙ sym (ap (λ m. m .list) z);
-      root-is = sym (ap (λ m. getD (m .roots) 0 0) z);
-      rounds-are = sym (ap (λ m. m .rounds) z);
-    }
+    pub ended : q .kept ≡ false → Ended s n root after (record { count = count; root = r; rounds = k })
+    ended e =
+        let z = h .rounds ∙ given-back quad count (nodes result count) (r ∷ []) k (sym (o .kept-is) ∙ e) in
+        let same = o .stays e in
+        record {
+          sound = rw same (h .sound);
+          few = let a = h .lost in omega arith;
+          list-is = ap (λ t. nodes t count) same ∙ sym (ap (λ m. m .list) z);
+          root-is = sym (ap (λ m. getD (m .roots) 0 0) z);
+          rounds-are = sym (ap (λ m. m .rounds) z);
+        }
 
 pub passed : (s : List ℕ) (n root resultWords workWords : ℕ) → normalizeCheck s n root resultWords workWords ≡ Good → Passed s n root resultWords workWords
 unfolding normalizeCheck
@@ -151,16 +144,33 @@ passed s n root resultWords workWords e =
       work-room = leb-true (6 * n) workWords (stores .1);
     }
 
-pub finished : (s : List ℕ) (n root : ℕ) (result work mid : List ℕ) (e : NormalEnd) → Ended s n root mid e → length mid ≡ length result
-    → (after last blanked : List ℕ) → after ≡ take (3 * e .count) mid ++ replicate (length mid - 3 * e .count) blank → length last ≡ length work → blanked ≡ replicate (length last - 0) blank
-    → Finished s n root result work (NormalizeAnswer'.Done (e .count) (e .root) (e .rounds)) after blanked
-finished s n root result work mid e h k after last blanked ea ew eb =
-    let c : e .count ≡ length (normalized s n root .list) = sym (length-nodes mid (e .count)) ∙ ap length (h .list-is) in
-    record {
-      answer = λ i. NormalizeAnswer'.Done (c i) (h .root-is i) (h .rounds-are i);
-      list-is = ea ∙ (filled-list p mid (e .count) (length result) (h .sound) k ∙ ap (λ l. filled (length result) (wordsOf l)) (h .list-is));
-      work-is = eb ∙ rw (sub-zero (length last), ew);
-    }
+-- the whole list copied to the result store, which is then ready for the rounds
+module _ {s : List ℕ} {n root resultWords workWords : ℕ} (h : Passed s n root resultWords workWords) (d : List ℕ) {t : List ℕ} (e : t ≡ copied s d (3 * n)) where
+  is-written : t ≡ written d (nodes s n)
+  unfolding copied written
+  is-written = e ∙ rw (take-words p s n (h .sound), length-nodes s n)
+
+  pub copied-ready : Ready t n root workWords
+  copied-ready =
+      let sound : Sound p t n = rw is-written (rw (length-nodes s n) at (sound-written p d (nodes s n) (list-fine s n (h .sound)))) in
+      record { sound = sound; few = h .few; inside = h .inside; room = h .work-room }
+
+  copied-normalized : normalized t n root ≡ normalized s n root
+  unfolding normalized
+  copied-normalized = ap (λ l. normalize quad l (root ∷ [])) (ap₂ nodes is-written (sym (length-nodes s n)) ∙ nodes-written d (nodes s n))
+
+  pub finished : {result work mid : List ℕ} {r : NormalEnd} → Ended t n root mid r → length mid ≡ length result
+      → (last : List ℕ) {after blanked : List ℕ} → after ≡ take (3 * r .count) mid ++ replicate (length mid - 3 * r .count) blank → length last ≡ length work → blanked ≡ replicate (length last - 0) blank
+      → Finished s n root result work (NormalizeAnswer'.Done (r .count) (r .root) (r .rounds)) after blanked
+  finished {result} {work} {mid} {r} o k last ea ew eb =
+      let g = copied-normalized in
+      let list-is = o .list-is ∙ ap (λ a. a .list) g in
+      let c : r .count ≡ length (normalized s n root .list) = sym (length-nodes mid (r .count)) ∙ ap length list-is in
+      record {
+        answer = λ i. NormalizeAnswer'.Done (c i) ((o .root-is ∙ ap (λ a. getD (a .roots) 0 0) g) i) ((o .rounds-are ∙ ap (λ a. a .rounds) g) i);
+        list-is = ea ∙ (filled-list p mid (r .count) (length result) (o .sound) k ∙ ap (λ l. filled (length result) (wordsOf l)) list-is);
+        work-is = eb ∙ rw (sub-zero (length last), ew);
+      }
 
 pub record Called (s : List ℕ) (n root : ℕ) (result work : List ℕ) (a : NormalizeAnswer) (after blanked : List ℕ) : Type 0 where
   pub answer : a ≡ normalizeAnswer s n root (length result) (length work)

@@ -1,83 +1,26 @@
 -- What the functions of a round ask of their stores, and say of them.
-use Prim.Native.Nat.{ℕ, _+_, _*_, _<_, _≤_, _-_, _^_}
+use Prim.Native.Nat.{ℕ, _+_, _*_, _<_, _≤_, _^_}
 use mathlib.Core.Bool.{Bool, true, false}
 use mathlib.Core.List.{List, [], _∷_}
 use mathlib.Core.Path.{_≡_}
-use lib.ListN.{getD, length, set, replicate}
-use Rattle.normalize.specs.Rounds.{sharedFactor, round, fired, rounded, isKept, roundsFrom}
-use Rattle.normalize.specs.Calls.{normalized}
+use lib.ListN.{getD, length, replicate}
 use Rattle.field.specs.Field.{p, Below, quad}
 use Rattle.dag.specs.Store.{Sound}
 use Rattle.dag.specs.WellFormed.{Fine}
-use Rattle.dag.specs.Nodes.{nodes, blank, wordsOf, filled}
+use Rattle.dag.specs.Nodes.{mostRecords, nodes, blank, wordsOf, filled}
 use Rattle.dag.specs.declared.NodeKind.{NodeKind}
-use Rattle.dag.specs.declared.NodeKind.the-variants.{Add, Mul}
-use Rattle.normalize.specs.declared.AssociativeOp.{AssociativeOp}
-use Rattle.normalize.specs.declared.Factor.{Factor}
-use Rattle.normalize.specs.declared.Factor.the-variants.{Shared, NoFactor}
-use Rattle.normalize.specs.declared.Rotation.{Rotation}
-use Rattle.normalize.specs.declared.Rotation.the-variants.{Onto, NoRotation}
 use Rattle.index.specs.Index.{half, NodeIndex}
 use Rattle.builder.specs.Steps.{Built, Replay}
 use Rattle.builder.specs.Contracts.{read, Holds}
 use Rattle.builder.specs.declared.Entered.{Entered}
-use Rattle.normalize.specs.declared.Plan.{Plan}
+use Rattle.plan.specs.Contracts.{PlanFine}
+use Rattle.plan.specs.declared.Plan.{Plan}
+use Rattle.normalize.specs.Rounds.{round, fired, rounded, isKept, roundsFrom}
+use Rattle.normalize.specs.Calls.{normalized}
 use Rattle.normalize.specs.declared.RoundKept.{RoundKept}
 use Rattle.normalize.specs.declared.NormalEnd.{NormalEnd}
 use Rattle.normalize.specs.declared.NormalizeAnswer.{NormalizeAnswer}
 use Rattle.normalize.specs.declared.NormalizeAnswer.the-variants as NormalizeAnswer'
-use Rattle.normalize.specs.declared.Plan.the-variants.{Factored, Rotated, Plain}
-
--- two operands in an array
-abbrev pub Pair : List ℕ → Type 0
-Pair l = length l ≡ 2
-
--- the factor that two arrays of operands share
-abbrev pub sharedIn : List ℕ → List ℕ → Factor
-sharedIn a b = sharedFactor (getD a 0 0) (getD a 1 0) (getD b 0 0) (getD b 1 0)
-
--- the operation that a name stands for
-abbrev pub operation : AssociativeOp → ℕ → ℕ → NodeKind
-operation AssociativeOp.Add a b = Add a b
-operation AssociativeOp.Mul a b = Mul a b
-
-abbrev pub isOnto : Rotation → Bool
-isOnto (Onto e r) = true
-isOnto NoRotation = false
-
-abbrev pub isShared : Factor → Bool
-isShared (Shared f a b) = true
-isShared NoFactor = false
-
--- a record x that may stand at place i of n records that pass the list check, with a fanout for each
-pub record Planning (s : List ℕ) (n : ℕ) (fan : List ℕ) (i : ℕ) (x : NodeKind) : Type 0 where
-  pub sound : Sound p s n
-  pub fits : n ≤ length fan
-  pub inside : i ≤ n
-  pub fine : Fine Below i x
-
--- each mention adds one at its place
-unfoldable pub mentioned : List ℕ → List ℕ → List ℕ
-mentioned f [] = f
-mentioned f (i ∷ is) = mentioned (set f i (getD f i 0 + 1)) is
-
--- every count is at most k
-abbrev pub AtMost : ℕ → List ℕ → Type 0
-AtMost k f = (j : ℕ) → getD f j 0 ≤ k
-
--- n records that pass the list check, a root among them, and a count of 0 for each
-pub record Countable (s : List ℕ) (n root : ℕ) (f : List ℕ) : Type 0 where
-  pub sound : Sound p s n
-  pub inside : root < n
-  pub few : n ≤ 4096
-  pub fits : n ≤ length f
-  pub zeros : (j : ℕ) → getD f j 0 ≡ 0
-
--- the places of a plan come before the record
-abbrev pub PlanFine : ℕ → Plan → Type 0
-PlanFine i (Factored f x y) = (f < i) × (x < i) × (y < i)
-PlanFine i (Rotated e y) = (e < i) × (y < i)
-PlanFine i Plain = Unit {0}
 
 -- a record and its plan at place i, with earlier results inside a list of `count` records that has room for two more
 pub record Entering (work : List ℕ) (count : ℕ) (map : List ℕ) (i : ℕ) (x : NodeKind) (plan : Plan) : Type 0 where
@@ -110,7 +53,7 @@ pub record Planned (work : List ℕ) (count : ℕ) (b : Built) (after : List ℕ
 -- what a round asks of its stores
 pub record Rounding (s : List ℕ) (n : ℕ) (fan work map : List ℕ) : Type 0 where
   pub sound : Sound p s n
-  pub few : n ≤ 4096
+  pub few : n ≤ mostRecords
   pub fan-fits : n ≤ length fan
   pub work-fits : 6 * n ≤ length work
   pub map-fits : n ≤ length map
@@ -123,18 +66,18 @@ pub record RoundHeld (s : List ℕ) (n : ℕ) (fan : List ℕ) (i : ℕ) (work m
 -- what one round asks: a list with its root, and a work store of twice its length
 pub record Ready (s : List ℕ) (n root workWords : ℕ) : Type 0 where
   pub sound : Sound p s n
-  pub few : n ≤ 4096
+  pub few : n ≤ mostRecords
   pub inside : root < n
   pub room : 6 * n ≤ workWords
 
 -- scratch stores for n records: counts, places, and the links of two indexes
-pub record Scratch (n fan places own links : ℕ) : Type 0 where
-  pub fan-long : n ≤ fan
-  pub places-long : n ≤ places
-  pub own-long : 2 * n ≤ own
-  pub own-few : own ≤ 2 ^ 32
-  pub links-long : 4 * n ≤ links
-  pub links-few : links ≤ 2 ^ 32
+pub record Scratch (n : ℕ) (fan places own links : List ℕ) : Type 0 where
+  pub fan-long : n ≤ length fan
+  pub places-long : n ≤ length places
+  pub own-long : 2 * n ≤ length own
+  pub own-few : length own ≤ 2 ^ 32
+  pub links-long : 4 * n ≤ length links
+  pub links-few : length links ≤ 2 ^ 32
 
 -- what it says of a store that was s
 pub record Once (s : List ℕ) (n root : ℕ) (after : List ℕ) (r : RoundKept) : Type 0 where
@@ -162,7 +105,7 @@ pub record Ended (s : List ℕ) (n root : ℕ) (after : List ℕ) (e : NormalEnd
 -- what Normalise asks once its tests have passed
 pub record Passed (s : List ℕ) (n root resultWords workWords : ℕ) : Type 0 where
   pub sound : Sound p s n
-  pub few : n ≤ 4096
+  pub few : n ≤ mostRecords
   pub inside : root < n
   pub result-room : 3 * n ≤ resultWords
   pub work-room : 6 * n ≤ workWords

@@ -12,7 +12,8 @@ use Rattle.dag.specs.NodeLaws.{getD-inside}
 use Rattle.dag.specs.WellFormed.{WellFormed}
 use Rattle.dag.specs.declared.NodeKind.{NodeKind}
 use Rattle.meaning.specs.Values.{value}
-use Rattle.normalize.specs.Rounds.{fanout, fired, rounded, isKept, roundsFrom, normalize}
+use Rattle.plan.specs.Plan.{fanout}
+use Rattle.normalize.specs.Rounds.{fired, rounded, isKept, roundsFrom, normalize}
 use Rattle.normalize.specs.RepeatLaws.{not-kept-when, lost, given-back, shorter, ends, Answered, stay-well-formed, keep-values}
 use Rattle.compact.specs.Contracts.{AllBelow}
 

@@ -15,9 +15,10 @@ use Rattle.builder.specs.Steps.{placeOf, step}
 use Rattle.builder.specs.Contracts.{Request, Pushed, Room, read}
 use Rattle.builder.specs.declared.Entered.{Entered}
 use Rattle.normalize.specs.Rounds.{planned}
-use Rattle.normalize.specs.Contracts.{Entering, Linked, held, Planned, PlanFine}
-use Rattle.normalize.specs.declared.Plan.{Plan}
-use Rattle.normalize.specs.declared.Plan.the-variants.{Factored, Rotated, Plain}
+use Rattle.plan.specs.Contracts.{PlanFine}
+use Rattle.normalize.specs.Contracts.{Entering, Linked, held, Planned}
+use Rattle.plan.specs.declared.Plan.{Plan}
+use Rattle.plan.specs.declared.Plan.the-variants.{Factored, Rotated, Plain}
 
 by-push : (work : List ℕ) (count : ℕ) (x : NodeKind) (after : List ℕ) (e : Entered) → Pushed work count x after e → Planned work count (step quad (nodes work count) x) after e
 by-push work count x after e h =

@@ -1,15 +1,8 @@
 pub mod Rounds
-pub mod SearchLaws
-pub mod PlanLaws
-pub mod PlanValueLaws
 pub mod RoundLaws
 pub mod RepeatLaws
 pub mod Demand3
-pub mod FanoutLaws
 pub mod Contracts
-pub mod FactorLaws
-pub mod ReadLaws
-pub mod PlanReadLaws
 pub mod EnterLaws
 pub mod TurnLaws
 pub mod OnceLaws

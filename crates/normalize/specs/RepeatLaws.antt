@@ -14,7 +14,8 @@ use Rattle.dag.specs.CaseLaws.{and-true, and-false, not-both}
 use Rattle.dag.specs.WellFormed.{WellFormed}
 use Rattle.dag.specs.declared.NodeKind.{NodeKind}
 use Rattle.meaning.specs.Values.{value}
-use Rattle.normalize.specs.Rounds.{fanout, fired, Normal, rounded, isKept, roundsFrom}
+use Rattle.plan.specs.Plan.{fanout}
+use Rattle.normalize.specs.Rounds.{fired, Normal, rounded, isKept, roundsFrom}
 use Rattle.normalize.specs.RoundLaws.{rounded-well-formed, rounded-inside, rounded-values}
 use Rattle.compact.specs.Contracts.{AllBelow}
 

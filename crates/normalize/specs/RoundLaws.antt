@@ -20,12 +20,13 @@ use Rattle.builder.specs.ReplayLaws.{Replayed, Faithful, nothing-replayed, reco
 use Rattle.compact.specs.OperandLaws.{below-map, map-through}
 use Rattle.compact.specs.CompactLaws.{compact-well-formed, compact-inside, compact-values}
 use Rattle.compact.specs.Contracts.{AllBelow}
-use Rattle.normalize.specs.Rounds.{planOf, planned, round, fanout, rounded}
-use Rattle.normalize.specs.PlanLaws.{plan-fine}
-use Rattle.normalize.specs.PlanValueLaws.{planValue, plan-worth}
-use Rattle.normalize.specs.Contracts.{PlanFine}
-use Rattle.normalize.specs.declared.Plan.{Plan}
-use Rattle.normalize.specs.declared.Plan.the-variants.{Factored, Rotated, Plain}
+use Rattle.plan.specs.Plan.{planOf, fanout}
+use Rattle.normalize.specs.Rounds.{planned, round, rounded}
+use Rattle.plan.specs.PlanLaws.{plan-fine}
+use Rattle.plan.specs.PlanValueLaws.{planValue, plan-worth}
+use Rattle.plan.specs.Contracts.{PlanFine}
+use Rattle.plan.specs.declared.Plan.{Plan}
+use Rattle.plan.specs.declared.Plan.the-variants.{Factored, Rotated, Plain}
 
 -- a record of z's kind on the operands' places
 like-worth : (F : Ops QuadFelt) (given u v : ℕ → QuadFelt) (z : NodeKind) (m : ℕ → ℕ) (a b : ℕ) → u (m a) ≡ v a → u (m b) ≡ v b

@@ -16,12 +16,14 @@ use Rattle.builder.specs.OutcomeLaws.{list-fine}
 use Rattle.builder.specs.HoldLaws.{rename-agree, holds-nothing, count-is, place-read, holds-more}
 use Rattle.builder.specs.Contracts.{read}
 use Rattle.builder.specs.declared.Entered.{Entered}
-use Rattle.normalize.specs.Rounds.{planOf, planned, round, fires, fired}
-use Rattle.normalize.specs.PlanLaws.{plan-fine}
+use Rattle.plan.specs.Plan.{planOf, fires}
+use Rattle.normalize.specs.Rounds.{planned, round, fired}
+use Rattle.plan.specs.PlanLaws.{plan-fine}
 use Rattle.normalize.specs.RoundLaws.{round-replayed, round-length}
-use Rattle.normalize.specs.Contracts.{Planning, Entering, held, Planned, Rounding, RoundHeld, PlanFine}
-use Rattle.normalize.specs.declared.Plan.{Plan}
-use Rattle.normalize.specs.declared.Plan.the-variants.{Factored, Rotated, Plain}
+use Rattle.plan.specs.Contracts.{Planning, PlanFine}
+use Rattle.normalize.specs.Contracts.{Entering, held, Planned, Rounding, RoundHeld}
+use Rattle.plan.specs.declared.Plan.{Plan}
+use Rattle.plan.specs.declared.Plan.the-variants.{Factored, Rotated, Plain}
 
 -- results that agree before place i give the same list by a plan
 planned-agree : (r q : Replay) (i : ℕ) (x : NodeKind) (plan : Plan) → r .list ≡ q .list → ((j : ℕ) → j < i → placeOf r j ≡ placeOf q j) → Fine Below i x → PlanFine i plan

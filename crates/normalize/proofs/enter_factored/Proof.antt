@@ -1,4 +1,4 @@
-use Rattle.normalize.specs.declared.Plan.the-variants.{Factored}
+use Rattle.plan.specs.declared.Plan.the-variants.{Factored}
 use Rattle.normalize.specs.EnterLaws as Enter
 use mathlib.Core.Path.{refl}
 use borrow.Author.Needs.{needs}
