@@ -10,6 +10,7 @@ use lower::LowerAnswer;
 use normalize::NormalizeAnswer;
 ghost use mathlib.Core.Path.{_≡_};
 ghost use lib.ListN.{length};
+ghost use Rattle.field.specs.Fields.{goldilocks};
 ghost use Rattle.builder.specs.Calls as Calls;
 ghost use Rattle.columns.specs.Prepare as Prepare;
 ghost use Rattle.compact.specs.Calls as Compaction;
@@ -150,8 +151,8 @@ pub extern "C" fn ace_step(
     second: u64,
     answer: &mut [u64; 4],
 )
-    ensures store { λ _. ⌜ now (list .exit) ≡ Calls.stepStore (now (list .entry)) n tag first second ⌝ }
-    ensures answer { λ _. ⌜ now (answer .exit) ≡ Answers.stepWords (Calls.stepAnswer (now (list .entry)) n tag first second) ⌝ }
+    ensures store { λ _. ⌜ now (list .exit) ≡ Calls.stepStore goldilocks (now (list .entry)) n tag first second ⌝ }
+    ensures answer { λ _. ⌜ now (answer .exit) ≡ Answers.stepWords (Calls.stepAnswer goldilocks (now (list .entry)) n tag first second) ⌝ }
 {
     *answer = step_words(builder::step(list, n, tag, first, second));
 }
@@ -166,9 +167,9 @@ pub extern "C" fn ace_build(
     map: &mut [u64],
     answer: &mut [u64; 4],
 )
-    ensures result { λ _. ⌜ now (result .exit) ≡ Calls.buildResult (now (list .entry)) n root (now (result .entry)) (length (now (map .entry))) ⌝ }
-    ensures map { λ _. ⌜ now (map .exit) ≡ Calls.buildMap (now (list .entry)) n root (length (now (result .entry))) (now (map .entry)) ⌝ }
-    ensures answer { λ _. ⌜ now (answer .exit) ≡ Answers.buildWords (Calls.buildAnswer (now (list .entry)) n root (length (now (result .entry))) (length (now (map .entry)))) ⌝ }
+    ensures result { λ _. ⌜ now (result .exit) ≡ Calls.buildResult goldilocks (now (list .entry)) n root (now (result .entry)) (length (now (map .entry))) ⌝ }
+    ensures map { λ _. ⌜ now (map .exit) ≡ Calls.buildMap goldilocks (now (list .entry)) n root (length (now (result .entry))) (now (map .entry)) ⌝ }
+    ensures answer { λ _. ⌜ now (answer .exit) ≡ Answers.buildWords (Calls.buildAnswer goldilocks (now (list .entry)) n root (length (now (result .entry))) (length (now (map .entry)))) ⌝ }
 {
     *answer = build_words(builder::build(list, n, root, result, map));
 }
@@ -182,8 +183,8 @@ pub extern "C" fn ace_compact(
     result: &mut [u64],
     answer: &mut [u64; 4],
 )
-    ensures result { λ _. ⌜ now (result .exit) ≡ Compaction.compactResult (now (list .entry)) n root (now (result .entry)) ⌝ }
-    ensures answer { λ _. ⌜ now (answer .exit) ≡ Answers.compactWords (Compaction.compactAnswer (now (list .entry)) n root (length (now (result .entry)))) ⌝ }
+    ensures result { λ _. ⌜ now (result .exit) ≡ Compaction.compactResult goldilocks (now (list .entry)) n root (now (result .entry)) ⌝ }
+    ensures answer { λ _. ⌜ now (answer .exit) ≡ Answers.compactWords (Compaction.compactAnswer goldilocks (now (list .entry)) n root (length (now (result .entry)))) ⌝ }
 {
     *answer = compact_words(compact::compact(list, n, root, result));
 }
@@ -198,9 +199,9 @@ pub extern "C" fn ace_normalize(
     work: &mut [u64],
     answer: &mut [u64; 4],
 )
-    ensures result { λ _. ⌜ now (result .exit) ≡ Normalising.normalizeResult (now (list .entry)) n root (now (result .entry)) (length (now (work .entry))) ⌝ }
-    ensures work { λ _. ⌜ now (work .exit) ≡ Normalising.normalizeWork (now (list .entry)) n root (length (now (result .entry))) (now (work .entry)) ⌝ }
-    ensures answer { λ _. ⌜ now (answer .exit) ≡ Answers.normalizeWords (Normalising.normalizeAnswer (now (list .entry)) n root (length (now (result .entry))) (length (now (work .entry)))) ⌝ }
+    ensures result { λ _. ⌜ now (result .exit) ≡ Normalising.normalizeResult goldilocks (now (list .entry)) n root (now (result .entry)) (length (now (work .entry))) ⌝ }
+    ensures work { λ _. ⌜ now (work .exit) ≡ Normalising.normalizeWork goldilocks (now (list .entry)) n root (length (now (result .entry))) (now (work .entry)) ⌝ }
+    ensures answer { λ _. ⌜ now (answer .exit) ≡ Answers.normalizeWords (Normalising.normalizeAnswer goldilocks (now (list .entry)) n root (length (now (result .entry))) (length (now (work .entry)))) ⌝ }
 {
     *answer = normalize_words(normalize::normalize(list, n, root, result, work));
 }
@@ -215,7 +216,7 @@ pub extern "C" fn ace_evaluate(
     m: usize,
     answer: &mut [u64; 4],
 )
-    ensures answer { λ _. ⌜ now (answer .exit) ≡ Answers.evaluateWords (Evaluation.evaluateAnswer (now (list .entry)) n root (now (assignment .entry)) m) ⌝ }
+    ensures answer { λ _. ⌜ now (answer .exit) ≡ Answers.evaluateWords (Evaluation.evaluateAnswer goldilocks (now (list .entry)) n root (now (assignment .entry)) m) ⌝ }
 {
     *answer = evaluate_words(evaluate::evaluate(list, n, root, assignment, m));
 }
@@ -241,10 +242,10 @@ pub extern "C" fn ace_lower(
     places: &mut [u64],
     answer: &mut [u64; 4],
 )
-    ensures result { λ _. ⌜ now (result .exit) ≡ Lowering.lowerResult (now (list .entry)) n (now (lengths .entry)) (now (entries .entry)) period (now (result .entry)) (now (work .entry)) (now (places .entry)) ⌝ }
-    ensures work { λ _. ⌜ now (work .exit) ≡ Lowering.lowerWork (now (list .entry)) n (now (lengths .entry)) (now (entries .entry)) period (now (result .entry)) (now (work .entry)) (now (places .entry)) ⌝ }
-    ensures places { λ _. ⌜ now (places .exit) ≡ Lowering.lowerPlaces (now (list .entry)) n (now (lengths .entry)) (now (entries .entry)) period (now (result .entry)) (now (work .entry)) (now (places .entry)) ⌝ }
-    ensures answer { λ _. ⌜ now (answer .exit) ≡ Answers.lowerWords (Lowering.lowerAnswer (now (list .entry)) n (now (lengths .entry)) (now (entries .entry)) period (now (result .entry)) (now (work .entry)) (now (places .entry))) ⌝ }
+    ensures result { λ _. ⌜ now (result .exit) ≡ Lowering.lowerResult goldilocks (now (list .entry)) n (now (lengths .entry)) (now (entries .entry)) period (now (result .entry)) (now (work .entry)) (now (places .entry)) ⌝ }
+    ensures work { λ _. ⌜ now (work .exit) ≡ Lowering.lowerWork goldilocks (now (list .entry)) n (now (lengths .entry)) (now (entries .entry)) period (now (result .entry)) (now (work .entry)) (now (places .entry)) ⌝ }
+    ensures places { λ _. ⌜ now (places .exit) ≡ Lowering.lowerPlaces goldilocks (now (list .entry)) n (now (lengths .entry)) (now (entries .entry)) period (now (result .entry)) (now (work .entry)) (now (places .entry)) ⌝ }
+    ensures answer { λ _. ⌜ now (answer .exit) ≡ Answers.lowerWords (Lowering.lowerAnswer goldilocks (now (list .entry)) n (now (lengths .entry)) (now (entries .entry)) period (now (result .entry)) (now (work .entry)) (now (places .entry))) ⌝ }
 {
     *answer = lower_words(lower::lower(list, n, lengths, entries, period, result, work, places));
 }

@@ -7,9 +7,9 @@ use native.Mathlib.Omega.{arith}
 use borrow.Author.Tests.{eq-eqb, ne-eqb}
 use lib.ListN.{getD, length, take, replicate}
 use lib.Seq.{take-at}
+use Rattle.field.specs.Fields.{Field, modulus, coordinateLaws}
 use Rattle.ring.specs.Power.{low-pow}
-use Rattle.field.specs.Field.{p, felt, felt-laws, quad}
-use Rattle.field.specs.Generators.{generator, half}
+use Rattle.field.specs.Field.{felt}
 use Rattle.columns.specs.Columns.{logLength, offset, values}
 use Rattle.columns.specs.Prepare.{upTo, padded, allBelow}
 use Rattle.columns.specs.ClassLaws.{below-values}
@@ -24,76 +24,77 @@ use Rattle.periodic.specs.ListLaws.{all-later}
 use Rattle.basis.specs.Contracts as Said
 use Rattle.basis.specs.Contracts.{Roots, Products, Offset}
 
-pub entered-done : (s : List ℕ) (n a : ℕ) → Inside n a → Entering s n (done a) s (record { place = a; count = n })
-entered-done s n a h = record { ran = ran-done s n a; inside = h }
+module _ (field : Field) where
+  pub entered-done : (s : List ℕ) (n a : ℕ) → Inside n a → Entering field s n (done a) s (record { place = a; count = n })
+  entered-done s n a h = record { ran = ran-done field s n a; inside = h }
 
--- the table of roots
-pub roots-of : (c rs : List ℕ) → rs ≡ roots felt generator half c → Roots c rs
-unfolding roots root
-roots-of c rs e =
-    record {
-      at = λ k h. rw e (getD-filled 0 0 128 (root felt generator half c) (length c) k h);
-      low = λ k h. rw (e, getD-filled 0 0 128 (root felt generator half c) (length c) k h) (low-pow felt-laws (generator (logLength c)) k);
-    }
+  -- the table of roots
+  pub roots-of : (c rs : List ℕ) → rs ≡ roots field c → Roots field c rs
+  unfolding roots root
+  roots-of c rs e =
+      record {
+        at = λ k h. rw e (getD-filled 0 0 128 (root field c) (length c) k h);
+        low = λ k h. rw (e, getD-filled 0 0 128 (root field c) (length c) k h) (low-pow (coordinateLaws field) (field .generator (logLength c)) k);
+      }
 
--- the factor of row k
-pub factor-at : (c rs : List ℕ) (point k : ℕ) → Roots c rs → k < length c → Said.factor point (getD rs k 0) ≡ factor quad p felt generator half c point k
-unfolding Said.factor factor
-factor-at c rs point k d h = rw (d .at k h)
+  -- the factor of row k
+  pub factor-at : (c rs : List ℕ) (point k : ℕ) → Roots field c rs → k < length c → Said.factor field point (getD rs k 0) ≡ factor field c point k
+  unfolding Said.factor factor
+  factor-at c rs point k d h = rw (d .at k h)
 
-pub products-later : {n k : ℕ} {c roots prefix suffix : List ℕ} → n ≤ k → Products n c roots prefix suffix → Products k c roots prefix suffix
-products-later h d =
-    record {
-      rows = d .rows;
-      short = d .short;
-      prefix-long = d .prefix-long;
-      suffix-long = d .suffix-long;
-      prefix-inside = all-later h (d .prefix-inside);
-      suffix-inside = all-later h (d .suffix-inside);
-    }
+  pub products-later : {n k : ℕ} {c roots prefix suffix : List ℕ} → n ≤ k → Products field n c roots prefix suffix → Products field k c roots prefix suffix
+  products-later h d =
+      record {
+        rows = d .rows;
+        short = d .short;
+        prefix-long = d .prefix-long;
+        suffix-long = d .suffix-long;
+        prefix-inside = all-later h (d .prefix-inside);
+        suffix-inside = all-later h (d .suffix-inside);
+      }
 
-module _ (c prefix suffix : List ℕ) where
-  module _ (v j acc : ℕ) where
-    pub row-skipped : (getD c j 0 ≡ v → ⊥) → done acc ≡ classTurn quad p felt generator half c prefix suffix v j acc
-    unfolding classTurn
-    row-skipped e = rw (ne-eqb _ _ e)
+  module _ (c prefix suffix : List ℕ) where
+    module _ (v j acc : ℕ) where
+      pub row-skipped : (getD c j 0 ≡ v → ⊥) → done acc ≡ classTurn field c prefix suffix v j acc
+      unfolding classTurn
+      row-skipped e = rw (ne-eqb _ _ e)
 
-    pub row-taken : getD c j 0 ≡ v → (element quad p felt generator half c prefix suffix j >>= λ e. add quad acc e) ≡ classTurn quad p felt generator half c prefix suffix v j acc
-    unfolding classTurn
-    row-taken e = rw (eq-eqb _ _ e)
+      pub row-taken : getD c j 0 ≡ v → (element field c prefix suffix j >>= λ e. add (field .elements) acc e) ≡ classTurn field c prefix suffix v j acc
+      unfolding classTurn
+      row-taken e = rw (eq-eqb _ _ e)
 
-  module _ (d v k sum : ℕ) (ed : d ≡ offset p c) where
-    pub add-offset : v ≡ d → done sum ≡ addTurn quad p felt generator half c prefix suffix v sum
-    unfolding addTurn isAdded
-    add-offset e = rw (eq-eqb v (offset p c) (e ∙ ed))
-
-    pub sub-offset : v ≡ d → done sum ≡ subTurn quad p felt generator half c prefix suffix v sum
-    unfolding subTurn isSubtracted
-    sub-offset e = rw (eq-eqb v (offset p c) (e ∙ ed))
-
-    module _ (n : v ≡ d → ⊥) (ek : k ≡ felt .sub v d) where
-      pub is-coefficient : k ≡ coefficient quad p felt generator half c v
-      unfolding coefficient felt
-      is-coefficient = ek ∙ ap (felt .sub v) ed
-
-      other : v ≡ offset p c → ⊥
-      other e = n (e ∙ sym ed)
-
-      pub add-minus : k ≡ p - 1 → done sum ≡ addTurn quad p felt generator half c prefix suffix v sum
+    module _ (d v k sum : ℕ) (ed : d ≡ offset (modulus field) c) where
+      pub add-offset : v ≡ d → done sum ≡ addTurn field c prefix suffix v sum
       unfolding addTurn isAdded
-      add-minus e = rw (ne-eqb v (offset p c) other, eq-eqb (coefficient quad p felt generator half c v) (p - 1) (sym is-coefficient ∙ e))
+      add-offset e = rw (eq-eqb v (offset (modulus field) c) (e ∙ ed))
 
-      pub add-taken : (k ≡ p - 1 → ⊥) → addClass quad p felt generator half c prefix suffix v sum ≡ addTurn quad p felt generator half c prefix suffix v sum
-      unfolding addTurn isAdded
-      add-taken e = rw (ne-eqb v (offset p c) other, ne-eqb (coefficient quad p felt generator half c v) (p - 1) (λ q. e (is-coefficient ∙ q)))
-
-      pub sub-other : (k ≡ p - 1 → ⊥) → done sum ≡ subTurn quad p felt generator half c prefix suffix v sum
+      pub sub-offset : v ≡ d → done sum ≡ subTurn field c prefix suffix v sum
       unfolding subTurn isSubtracted
-      sub-other e = rw (ne-eqb v (offset p c) other, ne-eqb (coefficient quad p felt generator half c v) (p - 1) (λ q. e (is-coefficient ∙ q)))
+      sub-offset e = rw (eq-eqb v (offset (modulus field) c) (e ∙ ed))
 
-      pub sub-taken : k ≡ p - 1 → subClass quad p felt generator half c prefix suffix v sum ≡ subTurn quad p felt generator half c prefix suffix v sum
-      unfolding subTurn isSubtracted
-      sub-taken e = rw (ne-eqb v (offset p c) other, eq-eqb (coefficient quad p felt generator half c v) (p - 1) (sym is-coefficient ∙ e))
+      module _ (n : v ≡ d → ⊥) (ek : k ≡ field .coordinates .sub v d) where
+        pub is-coefficient : k ≡ coefficient field c v
+        unfolding coefficient
+        is-coefficient = ek ∙ (ap (field .coordinates .sub v) ed ∙ field .coordinates-sub v (offset (modulus field) c))
+
+        other : v ≡ offset (modulus field) c → ⊥
+        other e = n (e ∙ sym ed)
+
+        pub add-minus : k ≡ modulus field - 1 → done sum ≡ addTurn field c prefix suffix v sum
+        unfolding addTurn isAdded
+        add-minus e = rw (ne-eqb v (offset (modulus field) c) other, eq-eqb (coefficient field c v) (modulus field - 1) (sym is-coefficient ∙ e))
+
+        pub add-taken : (k ≡ modulus field - 1 → ⊥) → addClass field c prefix suffix v sum ≡ addTurn field c prefix suffix v sum
+        unfolding addTurn isAdded
+        add-taken e = rw (ne-eqb v (offset (modulus field) c) other, ne-eqb (coefficient field c v) (modulus field - 1) (λ q. e (is-coefficient ∙ q)))
+
+        pub sub-other : (k ≡ modulus field - 1 → ⊥) → done sum ≡ subTurn field c prefix suffix v sum
+        unfolding subTurn isSubtracted
+        sub-other e = rw (ne-eqb v (offset (modulus field) c) other, ne-eqb (coefficient field c v) (modulus field - 1) (λ q. e (is-coefficient ∙ q)))
+
+        pub sub-taken : k ≡ modulus field - 1 → subClass field c prefix suffix v sum ≡ subTurn field c prefix suffix v sum
+        unfolding subTurn isSubtracted
+        sub-taken e = rw (ne-eqb v (offset (modulus field) c) other, eq-eqb (coefficient field c v) (modulus field - 1) (sym is-coefficient ∙ e))
 
 -- a list of places from its end
 pub backwards-is : (ps turned : List ℕ) (n : ℕ) → turned ≡ padded 0 128 (backwards ps) → length ps ≡ n → take n turned ≡ backwards ps
@@ -114,5 +115,6 @@ pub length-backwards : (ps : List ℕ) → length (backwards ps) ≡ length ps
 unfolding backwards
 length-backwards ps = length-upTo (λ i. getD ps (length ps - (i + 1)) 0) (length ps)
 
-pub offset-of : (c vs : List ℕ) (d : ℕ) → allBelow p c ≡ true → vs ≡ values c → d ≡ offset p c → d < p → Offset c vs d
-offset-of c vs d low e o h = record { are = e; low = rw e (below-values p c low); offset-is = o; offset-low = h }
+module _ (field : Field) where
+  pub offset-of : (c vs : List ℕ) (d : ℕ) → allBelow (modulus field) c ≡ true → vs ≡ values c → d ≡ offset (modulus field) c → d < modulus field → Offset field c vs d
+  offset-of c vs d low e o h = record { are = e; low = rw e (below-values (modulus field) c low); offset-is = o; offset-low = h }

@@ -5,8 +5,8 @@ use field::felt;
 ghost use mathlib.Core.Path.{_≡_};
 ghost use Prim.Native.Nat.{_+_, _-_, _<_, _≤_};
 ghost use lib.ListN.{length};
-ghost use Rattle.field.specs.Field.{p, felt, quad};
-ghost use Rattle.field.specs.Generators.{generator, half};
+ghost use Rattle.field.specs.Fields.{goldilocks};
+ghost use Rattle.field.specs.Field.{p};
 ghost use Rattle.columns.specs.Prepare.{padded};
 ghost use Rattle.columns.specs.Contracts as ColumnContracts;
 ghost use Rattle.periodic.specs.Periodic as Periodic;
@@ -15,8 +15,8 @@ ghost use Rattle.basis.specs.Contracts as Contracts;
 
 // point − w^k, from w^k.
 fn basis_factor(list: &mut [u64], n: usize, point: usize, root: u64) -> Entered
-    requires { ⌜ PeriodicContracts.Ready (now list) n × PeriodicContracts.Inside n point × (root < p) ⌝ }
-    ensures { λ r. ⌜ PeriodicContracts.Entering (now (list .entry)) n (Contracts.factor point root) (now (list .exit)) r ⌝ }
+    requires { ⌜ PeriodicContracts.Ready goldilocks (now list) n × PeriodicContracts.Inside n point × (root < p) ⌝ }
+    ensures { λ r. ⌜ PeriodicContracts.Entering goldilocks (now (list .entry)) n (Contracts.factor goldilocks point root) (now (list .exit)) r ⌝ }
 {
     let root = periodic::constant(list, n, root);
     periodic::sub(list, root.count, point, root.place)
@@ -31,8 +31,8 @@ fn basis_factors(
     col: &[u64],
     places: &mut [u64],
 ) -> usize
-    requires { ⌜ PeriodicContracts.Ready (now list) n × PeriodicContracts.Inside n point × (length (now col) ≤ length (now places)) × Contracts.Roots (now col) (now roots) × (length (now col) ≤ 128) ⌝ }
-    ensures { λ r. ⌜ PeriodicContracts.Listing (now (list .entry)) n (Periodic.factors quad p felt generator half (now (col .entry)) point) (now (list .exit)) r (now (places .exit)) (length (now (col .entry))) ⌝ }
+    requires { ⌜ PeriodicContracts.Ready goldilocks (now list) n × PeriodicContracts.Inside n point × (length (now col) ≤ length (now places)) × Contracts.Roots goldilocks (now col) (now roots) × (length (now col) ≤ 128) ⌝ }
+    ensures { λ r. ⌜ PeriodicContracts.Listing goldilocks (now (list .entry)) n (Periodic.factors goldilocks (now (col .entry)) point) (now (list .exit)) r (now (places .exit)) (length (now (col .entry))) ⌝ }
 {
     let mut count = n;
     let mut k = 0;
@@ -69,8 +69,8 @@ fn element(
     col: &[u64],
     j: usize,
 ) -> Entered
-    requires { ⌜ PeriodicContracts.Ready (now list) n × Contracts.Products n (now col) (now roots) (now prefix) (now suffix) × (j < length (now col)) ⌝ }
-    ensures { λ r. ⌜ PeriodicContracts.Entering (now (list .entry)) n (Periodic.element quad p felt generator half (now (col .entry)) (now (prefix .entry)) (now (suffix .entry)) j) (now (list .exit)) r ⌝ }
+    requires { ⌜ PeriodicContracts.Ready goldilocks (now list) n × Contracts.Products goldilocks n (now col) (now roots) (now prefix) (now suffix) × (j < length (now col)) ⌝ }
+    ensures { λ r. ⌜ PeriodicContracts.Entering goldilocks (now (list .entry)) n (Periodic.element goldilocks (now (col .entry)) (now (prefix .entry)) (now (suffix .entry)) j) (now (list .exit)) r ⌝ }
 {
     let product = periodic::mul(
         list,
@@ -94,8 +94,8 @@ fn class_turn(
     j: usize,
     acc: usize,
 ) -> Entered
-    requires { ⌜ PeriodicContracts.Ready (now list) n × Contracts.Products n (now col) (now roots) (now prefix) (now suffix) × (j < length (now col)) × PeriodicContracts.Inside n acc ⌝ }
-    ensures { λ r. ⌜ PeriodicContracts.Entering (now (list .entry)) n (Periodic.classTurn quad p felt generator half (now (col .entry)) (now (prefix .entry)) (now (suffix .entry)) v j acc) (now (list .exit)) r ⌝ }
+    requires { ⌜ PeriodicContracts.Ready goldilocks (now list) n × Contracts.Products goldilocks n (now col) (now roots) (now prefix) (now suffix) × (j < length (now col)) × PeriodicContracts.Inside n acc ⌝ }
+    ensures { λ r. ⌜ PeriodicContracts.Entering goldilocks (now (list .entry)) n (Periodic.classTurn goldilocks (now (col .entry)) (now (prefix .entry)) (now (suffix .entry)) v j acc) (now (list .exit)) r ⌝ }
 {
     if col[j] != v {
         return Entered {
@@ -117,8 +117,8 @@ fn class_sum(
     col: &[u64],
     v: u64,
 ) -> Entered
-    requires { ⌜ PeriodicContracts.Ready (now list) n × Contracts.Products n (now col) (now roots) (now prefix) (now suffix) ⌝ }
-    ensures { λ r. ⌜ PeriodicContracts.Entering (now (list .entry)) n (Periodic.classSum quad p felt generator half (now (col .entry)) (now (prefix .entry)) (now (suffix .entry)) v) (now (list .exit)) r ⌝ }
+    requires { ⌜ PeriodicContracts.Ready goldilocks (now list) n × Contracts.Products goldilocks n (now col) (now roots) (now prefix) (now suffix) ⌝ }
+    ensures { λ r. ⌜ PeriodicContracts.Entering goldilocks (now (list .entry)) n (Periodic.classSum goldilocks (now (col .entry)) (now (prefix .entry)) (now (suffix .entry)) v) (now (list .exit)) r ⌝ }
 {
     let mut acc = periodic::constant(list, n, 0);
     let mut j = 0;
@@ -141,8 +141,8 @@ fn add_turn(
     v: u64,
     sum: usize,
 ) -> Entered
-    requires { ⌜ PeriodicContracts.Ready (now list) n × Contracts.Products n (now col) (now roots) (now prefix) (now suffix) × PeriodicContracts.Inside n sum × Contracts.Class (now col) d v ⌝ }
-    ensures { λ r. ⌜ PeriodicContracts.Entering (now (list .entry)) n (Periodic.addTurn quad p felt generator half (now (col .entry)) (now (prefix .entry)) (now (suffix .entry)) v sum) (now (list .exit)) r ⌝ }
+    requires { ⌜ PeriodicContracts.Ready goldilocks (now list) n × Contracts.Products goldilocks n (now col) (now roots) (now prefix) (now suffix) × PeriodicContracts.Inside n sum × Contracts.Class goldilocks (now col) d v ⌝ }
+    ensures { λ r. ⌜ PeriodicContracts.Entering goldilocks (now (list .entry)) n (Periodic.addTurn goldilocks (now (col .entry)) (now (prefix .entry)) (now (suffix .entry)) v sum) (now (list .exit)) r ⌝ }
 {
     if v == d {
         return Entered {
@@ -175,8 +175,8 @@ fn sub_turn(
     v: u64,
     sum: usize,
 ) -> Entered
-    requires { ⌜ PeriodicContracts.Ready (now list) n × Contracts.Products n (now col) (now roots) (now prefix) (now suffix) × PeriodicContracts.Inside n sum × Contracts.Class (now col) d v ⌝ }
-    ensures { λ r. ⌜ PeriodicContracts.Entering (now (list .entry)) n (Periodic.subTurn quad p felt generator half (now (col .entry)) (now (prefix .entry)) (now (suffix .entry)) v sum) (now (list .exit)) r ⌝ }
+    requires { ⌜ PeriodicContracts.Ready goldilocks (now list) n × Contracts.Products goldilocks n (now col) (now roots) (now prefix) (now suffix) × PeriodicContracts.Inside n sum × Contracts.Class goldilocks (now col) d v ⌝ }
+    ensures { λ r. ⌜ PeriodicContracts.Entering goldilocks (now (list .entry)) n (Periodic.subTurn goldilocks (now (col .entry)) (now (prefix .entry)) (now (suffix .entry)) v sum) (now (list .exit)) r ⌝ }
 {
     if v == d {
         return Entered {
@@ -206,8 +206,8 @@ fn add_classes(
     d: u64,
     start: usize,
 ) -> Entered
-    requires { ⌜ PeriodicContracts.Ready (now list) n × Contracts.Products n (now col) (now roots) (now prefix) (now suffix) × PeriodicContracts.Inside n start × Contracts.Offset (now col) (now values) d ⌝ }
-    ensures { λ r. ⌜ PeriodicContracts.Entering (now (list .entry)) n (Periodic.addClasses quad p felt generator half (now (col .entry)) (now (prefix .entry)) (now (suffix .entry)) start) (now (list .exit)) r ⌝ }
+    requires { ⌜ PeriodicContracts.Ready goldilocks (now list) n × Contracts.Products goldilocks n (now col) (now roots) (now prefix) (now suffix) × PeriodicContracts.Inside n start × Contracts.Offset goldilocks (now col) (now values) d ⌝ }
+    ensures { λ r. ⌜ PeriodicContracts.Entering goldilocks (now (list .entry)) n (Periodic.addClasses goldilocks (now (col .entry)) (now (prefix .entry)) (now (suffix .entry)) start) (now (list .exit)) r ⌝ }
 {
     let mut sum = Entered {
         place: start,
@@ -243,8 +243,8 @@ fn sub_classes(
     d: u64,
     start: usize,
 ) -> Entered
-    requires { ⌜ PeriodicContracts.Ready (now list) n × Contracts.Products n (now col) (now roots) (now prefix) (now suffix) × PeriodicContracts.Inside n start × Contracts.Offset (now col) (now values) d ⌝ }
-    ensures { λ r. ⌜ PeriodicContracts.Entering (now (list .entry)) n (Periodic.subClasses quad p felt generator half (now (col .entry)) (now (prefix .entry)) (now (suffix .entry)) start) (now (list .exit)) r ⌝ }
+    requires { ⌜ PeriodicContracts.Ready goldilocks (now list) n × Contracts.Products goldilocks n (now col) (now roots) (now prefix) (now suffix) × PeriodicContracts.Inside n start × Contracts.Offset goldilocks (now col) (now values) d ⌝ }
+    ensures { λ r. ⌜ PeriodicContracts.Entering goldilocks (now (list .entry)) n (Periodic.subClasses goldilocks (now (col .entry)) (now (prefix .entry)) (now (suffix .entry)) start) (now (list .exit)) r ⌝ }
 {
     let mut sum = Entered {
         place: start,
@@ -277,8 +277,8 @@ fn basis_sum(
     suffix: &[u64],
     col: &[u64],
 ) -> Entered
-    requires { ⌜ PeriodicContracts.Ready (now list) n × Contracts.Products n (now col) (now roots) (now prefix) (now suffix) × ColumnContracts.Column p (now col) ⌝ }
-    ensures { λ r. ⌜ PeriodicContracts.Entering (now (list .entry)) n (Periodic.basisSum quad p felt generator half (now (col .entry)) (now (prefix .entry)) (now (suffix .entry))) (now (list .exit)) r ⌝ }
+    requires { ⌜ PeriodicContracts.Ready goldilocks (now list) n × Contracts.Products goldilocks n (now col) (now roots) (now prefix) (now suffix) × ColumnContracts.Column p (now col) ⌝ }
+    ensures { λ r. ⌜ PeriodicContracts.Entering goldilocks (now (list .entry)) n (Periodic.basisSum goldilocks (now (col .entry)) (now (prefix .entry)) (now (suffix .entry))) (now (list .exit)) r ⌝ }
 {
     let mut store = [0u64; 128];
     let t = columns::values(col, &mut store);
@@ -318,8 +318,8 @@ fn basis_back(
     prefix: &[u64],
     col: &[u64],
 ) -> Entered
-    requires { ⌜ PeriodicContracts.Ready (now list) n × Contracts.Products n (now col) (now roots) (now prefix) (now factors) × ColumnContracts.Column p (now col) ⌝ }
-    ensures { λ r. ⌜ PeriodicContracts.Entering (now (list .entry)) n (Periodic.basisBack quad p felt generator half (now (col .entry)) (now (factors .entry)) (now (prefix .entry))) (now (list .exit)) r ⌝ }
+    requires { ⌜ PeriodicContracts.Ready goldilocks (now list) n × Contracts.Products goldilocks n (now col) (now roots) (now prefix) (now factors) × ColumnContracts.Column p (now col) ⌝ }
+    ensures { λ r. ⌜ PeriodicContracts.Entering goldilocks (now (list .entry)) n (Periodic.basisBack goldilocks (now (col .entry)) (now (factors .entry)) (now (prefix .entry))) (now (list .exit)) r ⌝ }
 {
     let period = col.len();
     let one = periodic::constant(list, n, 1);
@@ -338,8 +338,8 @@ fn basis_back(
 
 // The factors and the products before each row, and then the rest.
 fn basis_front(list: &mut [u64], n: usize, point: usize, roots: &[u64; 128], col: &[u64]) -> Entered
-    requires { ⌜ PeriodicContracts.Ready (now list) n × PeriodicContracts.Inside n point × ColumnContracts.Column p (now col) × Contracts.Roots (now col) (now roots) ⌝ }
-    ensures { λ r. ⌜ PeriodicContracts.Entering (now (list .entry)) n (Periodic.basisFront quad p felt generator half (now (col .entry)) point) (now (list .exit)) r ⌝ }
+    requires { ⌜ PeriodicContracts.Ready goldilocks (now list) n × PeriodicContracts.Inside n point × ColumnContracts.Column p (now col) × Contracts.Roots goldilocks (now col) (now roots) ⌝ }
+    ensures { λ r. ⌜ PeriodicContracts.Entering goldilocks (now (list .entry)) n (Periodic.basisFront goldilocks (now (col .entry)) point) (now (list .exit)) r ⌝ }
 {
     let period = col.len();
     let mut store = [0u64; 128];
@@ -360,8 +360,8 @@ fn basis_front(list: &mut [u64], n: usize, point: usize, roots: &[u64; 128], col
 
 // The value of a column in basis whose point is ZK squared k times.
 pub fn basis_value(list: &mut [u64], n: usize, col: &[u64], k: usize) -> Entered
-    requires { ⌜ PeriodicContracts.Ready (now list) n × ColumnContracts.Column p (now col) ⌝ }
-    ensures { λ r. ⌜ PeriodicContracts.Entering (now (list .entry)) n (Periodic.basisValue quad p felt generator half (now (col .entry)) k) (now (list .exit)) r ⌝ }
+    requires { ⌜ PeriodicContracts.Ready goldilocks (now list) n × ColumnContracts.Column p (now col) ⌝ }
+    ensures { λ r. ⌜ PeriodicContracts.Entering goldilocks (now (list .entry)) n (Periodic.basisValue goldilocks (now (col .entry)) k) (now (list .exit)) r ⌝ }
 {
     let z = periodic::z_power(list, n, k);
     let roots = coefficients::roots(col);

@@ -7,7 +7,7 @@ use native.Mathlib.Numerals.{add-one}
 use native.Mathlib.Omega.{arith}
 use borrow.Author.Tests.{lt-ltb, le-ltb, le-leb, lt-leb}
 use lib.ListN.{length, take-append-drop}
-use Rattle.field.specs.Field.{p, quad}
+use Rattle.field.specs.Fields.{Field}
 use Rattle.dag.specs.Nodes.{mostRecords, decode, nodes}
 use Rattle.dag.specs.NodeLaws.{length-nodes, length-snoc}
 use Rattle.dag.specs.Refusals.{need, _then_}
@@ -30,76 +30,78 @@ use Rattle.builder.specs.declared.Outcome.the-variants.{Place, Node}
 use Rattle.builder.specs.declared.StepAnswer.{StepAnswer}
 use Rattle.builder.specs.declared.StepAnswer.the-variants as StepAnswer'
 
--- a store that passes begins with its list's words
-written-own : (s : List ℕ) (n : ℕ) → Sound p s n → written s (nodes s n) ≡ s
-unfolding written
-written-own s n sound = rw (length-nodes s n, ← take-words p s n sound) (take-append-drop (3 * n) s)
+module _ (field : Field) where
+  -- a store that passes begins with its list's words
+  written-own : (s : List ℕ) (n : ℕ) → Sound (field .bounds) s n → written s (nodes s n) ≡ s
+  unfolding written
+  written-own s n sound = rw (length-nodes s n, ← take-words (field .bounds) s n sound) (take-append-drop (3 * n) s)
 
-module _ (s : List ℕ) (n : ℕ) (sound : Sound p s n) where
-  room-there : (i : ℕ) → stepRoomCheck s n (appended (nodes s n) (Place i)) ≡ Good
-  unfolding stepRoomCheck
-  room-there i = rw (length-nodes s n, le-leb n n (omega arith))
-
-  -- a place that is there
-  pub stays : (i : ℕ) (b : Built) → b ≡ appended (nodes s n) (Place i) → Stepped s n b (StepAnswer'.Done i n) s
-  stays i b e = record { answer = rw (e, room-there i, length-nodes s n); store = rw (e, room-there i) (sym (written-own s n sound)) }
-
-  module _ (y : NodeKind) where
-    abbrev longer : Built
-    longer = appended (nodes s n) (Node y)
-
-    room-new : stepRoomCheck s n longer ≡ need (hasRoom s n) NoRoom
+  module _ (s : List ℕ) (n : ℕ) (sound : Sound (field .bounds) s n) where
+    room-there : (i : ℕ) → stepRoomCheck s n (appended (nodes s n) (Place i)) ≡ Good
     unfolding stepRoomCheck
-    room-new = rw (length-snoc (nodes s n) y, length-nodes s n, lt-leb (suc n) n (omega arith))
+    room-there i = rw (length-nodes s n, le-leb n n (omega arith))
 
-    refuses : hasRoom s n ≡ false → Stepped s n longer (StepAnswer'.Refused NoRoom) s
-    refuses e = record { answer = rw (room-new, e); store = rw (room-new, e) }
+    -- a place that is there
+    pub stays : (i : ℕ) (b : Built) → b ≡ appended (nodes s n) (Place i) → Stepped s n b (StepAnswer'.Done i n) s
+    stays i b e = record { answer = rw (e, room-there i, length-nodes s n); store = rw (e, room-there i) (sym (written-own s n sound)) }
 
-    pub list-full : mostRecords ≤ n → Stepped s n longer (StepAnswer'.Refused NoRoom) s
-    unfolding hasRoom
-    list-full h = refuses (rw (le-ltb n mostRecords h))
+    module _ (y : NodeKind) where
+      abbrev longer : Built
+      longer = appended (nodes s n) (Node y)
 
-    pub store-short : n < mostRecords → length s < 3 * (n + 1) → Stepped s n longer (StepAnswer'.Refused NoRoom) s
-    unfolding hasRoom
-    store-short h k = refuses (rw (lt-ltb n mostRecords h) (lt-leb (3 * (n + 1)) (length s) k))
+      room-new : stepRoomCheck s n longer ≡ need (hasRoom s n) NoRoom
+      unfolding stepRoomCheck
+      room-new = rw (length-snoc (nodes s n) y, length-nodes s n, lt-leb (suc n) n (omega arith))
 
-    put-written : 3 * (n + 1) ≤ length s → put s n y ≡ written s (nodes s n ++ (y ∷ []))
-    put-written k = rw (written-own s n sound, length-nodes s n) at (written-put s (nodes s n) y (omega (arith, length-nodes s n)))
+      refuses : hasRoom s n ≡ false → Stepped s n longer (StepAnswer'.Refused NoRoom) s
+      refuses e = record { answer = rw (room-new, e); store = rw (room-new, e) }
 
-    pub appends : (after : List ℕ) → n < mostRecords → 3 * (n + 1) ≤ length s → after ≡ put s n y → Stepped s n longer (StepAnswer'.Done n (n + 1)) after
-    unfolding hasRoom
-    appends after h k e =
-        let room : hasRoom s n ≡ true = rw (lt-ltb n mostRecords h) (le-leb (3 * (n + 1)) (length s) k) in
-        record {
-          answer = rw (room-new, room, length-snoc (nodes s n) y, length-nodes s n, add-one n);
-          store = rw (room-new, room) (e ∙ put-written k);
-        }
+      pub list-full : mostRecords ≤ n → Stepped s n longer (StepAnswer'.Refused NoRoom) s
+      unfolding hasRoom
+      list-full h = refuses (rw (le-ltb n mostRecords h))
+
+      pub store-short : n < mostRecords → length s < 3 * (n + 1) → Stepped s n longer (StepAnswer'.Refused NoRoom) s
+      unfolding hasRoom
+      store-short h k = refuses (rw (lt-ltb n mostRecords h) (lt-leb (3 * (n + 1)) (length s) k))
+
+      put-written : 3 * (n + 1) ≤ length s → put s n y ≡ written s (nodes s n ++ (y ∷ []))
+      put-written k = rw (written-own s n sound, length-nodes s n) at (written-put s (nodes s n) y (omega (arith, length-nodes s n)))
+
+      pub appends : (after : List ℕ) → n < mostRecords → 3 * (n + 1) ≤ length s → after ≡ put s n y → Stepped s n longer (StepAnswer'.Done n (n + 1)) after
+      unfolding hasRoom
+      appends after h k e =
+          let room : hasRoom s n ≡ true = rw (lt-ltb n mostRecords h) (le-leb (3 * (n + 1)) (length s) k) in
+          record {
+            answer = rw (room-new, room, length-snoc (nodes s n) y, length-nodes s n, add-one n);
+            store = rw (room-new, room) (e ∙ put-written k);
+          }
 
 pub stepped-as : (s : List ℕ) (n : ℕ) (b d : Built) (r : StepAnswer) (after : List ℕ) → b ≡ d → Stepped s n d r after → Stepped s n b r after
 stepped-as s n b d r after e h = rw e h
 
--- the step, by what was resolved
-pub step-resolved : (s : List ℕ) (n : ℕ) (x : NodeKind) (o q : Outcome) → o ≡ resolved (nodes s n) n x → o ≡ q → step quad (nodes s n) x ≡ appended (nodes s n) q
-step-resolved s n x o q e h = step-appended s n x ∙ ap (appended (nodes s n)) (sym e ∙ h)
+module _ (field : Field) where
+  -- the step, by what was resolved
+  pub step-resolved : (s : List ℕ) (n : ℕ) (x : NodeKind) (o q : Outcome) → o ≡ resolved field (nodes s n) n x → o ≡ q → step (field .elements) (nodes s n) x ≡ appended (nodes s n) q
+  step-resolved s n x o q e h = step-appended field s n x ∙ ap (appended (nodes s n)) (sym e ∙ h)
 
--- the answer and the store of Step
-pub record Called (s : List ℕ) (n t a b : ℕ) (r : StepAnswer) (after : List ℕ) : Type 0 where
-  pub answer : r ≡ stepAnswer s n t a b
-  pub store : after ≡ stepStore s n t a b
+  -- the answer and the store of Step
+  pub record Called (s : List ℕ) (n t a b : ℕ) (r : StepAnswer) (after : List ℕ) : Type 0 where
+    pub answer : r ≡ stepAnswer field s n t a b
+    pub store : after ≡ stepStore field s n t a b
 
-module _ (s : List ℕ) (n t a b : ℕ) where
-  -- a request that passes
-  pub step-request : stepCheck s n t a b ≡ Good → Request s n (decode t a b) × (n ≤ mostRecords)
-  unfolding stepCheck
-  step-request e =
-      let both = then-good (rootlessCheck p 0 s n) (recordCheck p t a b n) e in
-      let list = listed p 0 s n (both .0) in
-      (record { sound = list .sound; fine = faithful p t a b n (passed p t a b n (both .1)) .fine }, list .most)
+  module _ (s : List ℕ) (n t a b : ℕ) where
+    -- a request that passes
+    pub step-request : stepCheck field s n t a b ≡ Good → Request field s n (decode t a b) × (n ≤ mostRecords)
+    unfolding stepCheck
+    step-request e =
+        let both = then-good (rootlessCheck (field .bounds) 0 s n) (recordCheck (field .bounds) t a b n) e in
+        let list = listed (field .bounds) 0 s n (both .0) in
+        (record { sound = list .sound; fine = faithful (field .bounds) t a b n (passed (field .bounds) t a b n (both .1)) .fine }, list .most)
 
-  pub step-refused : (r : Refusal) → stepCheck s n t a b ≡ Refused r → Called s n t a b (StepAnswer'.Refused r) s
-  unfolding stepAnswer stepStore stepWholeCheck
-  step-refused r e = record { answer = rw e; store = rw e }
+    pub step-refused : (r : Refusal) → stepCheck field s n t a b ≡ Refused r → Called s n t a b (StepAnswer'.Refused r) s
+    unfolding stepAnswer stepStore stepWholeCheck
+    step-refused r e = record { answer = rw e; store = rw e }
 
-  pub step-done : (r : StepAnswer) (after : List ℕ) → stepCheck s n t a b ≡ Good → Stepped s n (step quad (nodes s n) (decode t a b)) r after → Called s n t a b r after
-  unfolding stepAnswer stepStore stepWholeCheck stepped
-  step-done r after e h = record { answer = rw e (h .answer); store = rw e (h .store) }
+    pub step-done : (r : StepAnswer) (after : List ℕ) → stepCheck field s n t a b ≡ Good → Stepped s n (step (field .elements) (nodes s n) (decode t a b)) r after → Called s n t a b r after
+    unfolding stepAnswer stepStore stepWholeCheck stepped
+    step-done r after e h = record { answer = rw e (h .answer); store = rw e (h .store) }

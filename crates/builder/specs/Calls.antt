@@ -4,7 +4,7 @@ use mathlib.Core.Bool.{Bool, _&&_, _||_}
 use mathlib.Core.List.{List}
 use lib.Dec.{leb, ltb}
 use lib.ListN.{length}
-use Rattle.field.specs.Field.{p, quad}
+use Rattle.field.specs.Fields.{Field}
 use Rattle.dag.specs.Nodes.{mostRecords, decode, nodes, wordsOf, filled}
 use Rattle.dag.specs.Refusals.{need, _then_, unlessRefused}
 use Rattle.dag.specs.Check.{recordCheck, rootlessCheck, listCheck}
@@ -17,53 +17,56 @@ use Rattle.builder.specs.declared.StepAnswer.the-variants as StepAnswer'
 use Rattle.builder.specs.declared.BuildAnswer.{BuildAnswer}
 use Rattle.builder.specs.declared.BuildAnswer.the-variants as BuildAnswer'
 
--- Step's tests: the list, n may be 0, then the request as record n
-unfoldable pub stepCheck : List ℕ → ℕ → ℕ → ℕ → ℕ → Checked
-stepCheck s n t a b = rootlessCheck p 0 s n then recordCheck p t a b n
+module _ (field : Field) where
+  -- Step's tests: the list, n may be 0, then the request as record n
+  unfoldable pub stepCheck : List ℕ → ℕ → ℕ → ℕ → ℕ → Checked
+  stepCheck s n t a b = rootlessCheck (field .bounds) 0 s n then recordCheck (field .bounds) t a b n
 
 -- a store of n records has room for one more
 unfoldable pub hasRoom : List ℕ → ℕ → Bool
 hasRoom s n = ltb n mostRecords && leb (3 * (n + 1)) (length s)
 
--- what the request comes to on the list that a store holds
-unfoldable pub stepped : List ℕ → ℕ → ℕ → ℕ → ℕ → Built
-stepped s n t a b = step quad (nodes s n) (decode t a b)
+module _ (field : Field) where
+  -- what the request comes to on the list that a store holds
+  unfoldable pub stepped : List ℕ → ℕ → ℕ → ℕ → ℕ → Built
+  stepped s n t a b = step (field .elements) (nodes s n) (decode t a b)
 
 -- 7 if a new record is needed and there is no room for it
 unfoldable pub stepRoomCheck : List ℕ → ℕ → Built → Checked
 stepRoomCheck s n b = need (leb (length (b .list)) n || hasRoom s n) NoRoom
 
-unfoldable pub stepWholeCheck : List ℕ → ℕ → ℕ → ℕ → ℕ → Checked
-stepWholeCheck s n t a b = stepCheck s n t a b then stepRoomCheck s n (stepped s n t a b)
+module _ (field : Field) where
+  unfoldable pub stepWholeCheck : List ℕ → ℕ → ℕ → ℕ → ℕ → Checked
+  stepWholeCheck s n t a b = stepCheck field s n t a b then stepRoomCheck s n (stepped field s n t a b)
 
--- the result's place and the new n
-unfoldable pub stepAnswer : List ℕ → ℕ → ℕ → ℕ → ℕ → StepAnswer
-stepAnswer s n t a b =
-    let r = stepped s n t a b in
-    unlessRefused (stepWholeCheck s n t a b) StepAnswer'.Refused (StepAnswer'.Done (r .place) (length (r .list)))
+  -- the result's place and the new n
+  unfoldable pub stepAnswer : List ℕ → ℕ → ℕ → ℕ → ℕ → StepAnswer
+  stepAnswer s n t a b =
+      let r = stepped field s n t a b in
+      unlessRefused (stepWholeCheck s n t a b) StepAnswer'.Refused (StepAnswer'.Done (r .place) (length (r .list)))
 
--- the list with the appended record, if there is one; the words behind it stay
-unfoldable pub stepStore : List ℕ → ℕ → ℕ → ℕ → ℕ → List ℕ
-stepStore s n t a b =
-    unlessRefused (stepWholeCheck s n t a b) (λ r. s) (written s (stepped s n t a b .list))
+  -- the list with the appended record, if there is one; the words behind it stay
+  unfoldable pub stepStore : List ℕ → ℕ → ℕ → ℕ → ℕ → List ℕ
+  stepStore s n t a b =
+      unlessRefused (stepWholeCheck s n t a b) (λ r. s) (written s (stepped field s n t a b .list))
 
--- Build's tests: the list check, then the result and map stores
-unfoldable pub buildCheck : List ℕ → ℕ → ℕ → ℕ → ℕ → Checked
-buildCheck s n root resultWords mapWords =
-    listCheck p s n root then need (leb (3 * n) resultWords && leb n mapWords) StoreTooShort
+  -- Build's tests: the list check, then the result and map stores
+  unfoldable pub buildCheck : List ℕ → ℕ → ℕ → ℕ → ℕ → Checked
+  buildCheck s n root resultWords mapWords =
+      listCheck (field .bounds) s n root then need (leb (3 * n) resultWords && leb n mapWords) StoreTooShort
 
--- the count, and the place that the root's request got
-unfoldable pub buildAnswer : List ℕ → ℕ → ℕ → ℕ → ℕ → BuildAnswer
-buildAnswer s n root resultWords mapWords =
-    let r = replay quad (nodes s n) n in
-    unlessRefused (buildCheck s n root resultWords mapWords) BuildAnswer'.Refused (BuildAnswer'.Done (length (r .list)) (placeOf r root))
+  -- the count, and the place that the root's request got
+  unfoldable pub buildAnswer : List ℕ → ℕ → ℕ → ℕ → ℕ → BuildAnswer
+  buildAnswer s n root resultWords mapWords =
+      let r = replay (field .elements) (nodes s n) n in
+      unlessRefused (buildCheck s n root resultWords mapWords) BuildAnswer'.Refused (BuildAnswer'.Done (length (r .list)) (placeOf r root))
 
--- the list built, blanks behind it
-unfoldable pub buildResult : List ℕ → ℕ → ℕ → List ℕ → ℕ → List ℕ
-buildResult s n root result mapWords =
-    unlessRefused (buildCheck s n root (length result) mapWords) (λ r. result) (filled (length result) (wordsOf (replay quad (nodes s n) n .list)))
+  -- the list built, blanks behind it
+  unfoldable pub buildResult : List ℕ → ℕ → ℕ → List ℕ → ℕ → List ℕ
+  buildResult s n root result mapWords =
+      unlessRefused (buildCheck s n root (length result) mapWords) (λ r. result) (filled (length result) (wordsOf (replay (field .elements) (nodes s n) n .list)))
 
--- each request's result place, blanks behind them
-unfoldable pub buildMap : List ℕ → ℕ → ℕ → ℕ → List ℕ → List ℕ
-buildMap s n root resultWords map =
-    unlessRefused (buildCheck s n root resultWords (length map)) (λ r. map) (filled (length map) (replay quad (nodes s n) n .map))
+  -- each request's result place, blanks behind them
+  unfoldable pub buildMap : List ℕ → ℕ → ℕ → ℕ → List ℕ → List ℕ
+  buildMap s n root resultWords map =
+      unlessRefused (buildCheck s n root resultWords (length map)) (λ r. map) (filled (length map) (replay (field .elements) (nodes s n) n .map))

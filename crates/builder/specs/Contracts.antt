@@ -4,7 +4,7 @@ use mathlib.Core.Bool.{true}
 use mathlib.Core.List.{List, [], _∷_, _++_}
 use mathlib.Core.Path.{_≡_}
 use lib.ListN.{length, getD, take}
-use Rattle.field.specs.Field.{p, quad, Below}
+use Rattle.field.specs.Fields.{Field, Low}
 use Rattle.dag.specs.Store.{Sound, written}
 use Rattle.dag.specs.Refusals.{unlessRefused}
 use Rattle.dag.specs.Nodes.{nodes, mostRecords, wordsOf, filled}
@@ -24,24 +24,25 @@ use Rattle.builder.specs.declared.StepAnswer.the-variants as StepAnswer'
 use Rattle.builder.specs.declared.BuildAnswer.{BuildAnswer}
 use Rattle.builder.specs.declared.BuildAnswer.the-variants.{Done}
 
--- a constant is in lowest form
-abbrev pub ConstantBelow : NodeKind → Type 0
-ConstantBelow x = isConstant x ≡ true → Below (element x)
+module _ (field : Field) where
+  -- a constant is in lowest form
+  abbrev pub ConstantBelow : NodeKind → Type 0
+  ConstantBelow x = isConstant x ≡ true → Low field (element x)
 
-pub record ConstantsBelow (x y : NodeKind) : Type 0 where
-  pub left : ConstantBelow x
-  pub right : ConstantBelow y
+  pub record ConstantsBelow (x y : NodeKind) : Type 0 where
+    pub left : ConstantBelow x
+    pub right : ConstantBelow y
 
--- two operands on the first n records of a store that passes the list check
-pub record Operands (s : List ℕ) (n a b : ℕ) : Type 0 where
-  pub sound : Sound p s n
-  pub left-inside : a < n
-  pub right-inside : b < n
+  -- two operands on the first n records of a store that passes the list check
+  pub record Operands (s : List ℕ) (n a b : ℕ) : Type 0 where
+    pub sound : Sound (field .bounds) s n
+    pub left-inside : a < n
+    pub right-inside : b < n
 
--- a request on the first n records of a store that passes the list check
-pub record Request (s : List ℕ) (n : ℕ) (x : NodeKind) : Type 0 where
-  pub sound : Sound p s n
-  pub fine : Fine Below n x
+  -- a request on the first n records of a store that passes the list check
+  pub record Request (s : List ℕ) (n : ℕ) (x : NodeKind) : Type 0 where
+    pub sound : Sound (field .bounds) s n
+    pub fine : Fine (Low field) n x
 
 -- a search's answer: a place, or x that is new
 abbrev pub newUnless : NodeKind → Found → Outcome
@@ -57,9 +58,10 @@ abbrev pub searched : List NodeKind → ℕ → Outcome → Outcome
 searched l n (Place i) = Place i
 searched l n (Node y) = foundOrNew l n y
 
--- the place of a request's result, or the new record that it needs
-unfoldable pub resolved : List NodeKind → ℕ → NodeKind → Outcome
-resolved l n x = searched l n (outcome quad l x)
+module _ (field : Field) where
+  -- the place of a request's result, or the new record that it needs
+  unfoldable pub resolved : List NodeKind → ℕ → NodeKind → Outcome
+  resolved l n x = searched l n (outcome (field .elements) l x)
 
 -- a list and a place in it, by what was resolved
 abbrev pub appended : List NodeKind → Outcome → Built
@@ -71,15 +73,16 @@ pub record Stepped (s : List ℕ) (n : ℕ) (b : Built) (r : StepAnswer) (after 
   pub answer : r ≡ unlessRefused (stepRoomCheck s n b) StepAnswer'.Refused (StepAnswer'.Done (b .place) (length (b .list)))
   pub store : after ≡ unlessRefused (stepRoomCheck s n b) (λ _. s) (written s (b .list))
 
--- a store with one request entered: its list is the step's
-pub record Pushed (s : List ℕ) (n : ℕ) (x : NodeKind) (after : List ℕ) (r : Entered) : Type 0 where
-  pub kept : length after ≡ length s
-  pub sound : Sound p after (r .count)
-  pub list-is : nodes after (r .count) ≡ step quad (nodes s n) x .list
-  pub place-is : r .place ≡ step quad (nodes s n) x .place
-  pub inside : r .place < r .count
-  pub longer : n ≤ r .count
-  pub by-one : r .count ≤ n + 1
+module _ (field : Field) where
+  -- a store with one request entered: its list is the step's
+  pub record Pushed (s : List ℕ) (n : ℕ) (x : NodeKind) (after : List ℕ) (r : Entered) : Type 0 where
+    pub kept : length after ≡ length s
+    pub sound : Sound (field .bounds) after (r .count)
+    pub list-is : nodes after (r .count) ≡ step (field .elements) (nodes s n) x .list
+    pub place-is : r .place ≡ step (field .elements) (nodes s n) x .place
+    pub inside : r .place < r .count
+    pub longer : n ≤ r .count
+    pub by-one : r .count ≤ n + 1
 
 -- a store of n records and its index, with room for one record more
 pub record Room (s : List ℕ) (n : ℕ) (links : List ℕ) : Type 0 where
@@ -87,27 +90,29 @@ pub record Room (s : List ℕ) (n : ℕ) (links : List ℕ) : Type 0 where
   pub index : NodeIndex (nodes s n) links
   pub link-room : n < half links
 
--- a store with one request entered, and its index
-pub record Noted (s : List ℕ) (n : ℕ) (x : NodeKind) (after links : List ℕ) (r : Entered) : Type 0 where
-  pub pushed : Pushed s n x after r
-  pub index : NodeIndex (nodes after (r .count)) links
+module _ (field : Field) where
+  -- a store with one request entered, and its index
+  pub record Noted (s : List ℕ) (n : ℕ) (x : NodeKind) (after links : List ℕ) (r : Entered) : Type 0 where
+    pub pushed : Pushed field s n x after r
+    pub index : NodeIndex (nodes after (r .count)) links
 
 -- the places that a map store holds
 abbrev pub read : List ℕ → ℕ → ℕ
 read map j = getD map j 0
 
-pub record Holds (r : Replay) (i : ℕ) (result map : List ℕ) (count : ℕ) : Type 0 where
-  pub sound : Sound p result count
-  pub list-is : nodes result count ≡ r .list
-  pub map-is : take i map ≡ r .map
+module _ (field : Field) where
+  pub record Holds (r : Replay) (i : ℕ) (result map : List ℕ) (count : ℕ) : Type 0 where
+    pub sound : Sound (field .bounds) result count
+    pub list-is : nodes result count ≡ r .list
+    pub map-is : take i map ≡ r .map
 
--- what Build asks once its tests have passed
-pub record Ready (s : List ℕ) (n root resultWords mapWords : ℕ) : Type 0 where
-  pub sound : Sound p s n
-  pub result-room : 3 * n ≤ resultWords
-  pub map-room : n ≤ mapWords
-  pub inside : root < n
-  pub most : n ≤ mostRecords
+  -- what Build asks once its tests have passed
+  pub record Ready (s : List ℕ) (n root resultWords mapWords : ℕ) : Type 0 where
+    pub sound : Sound (field .bounds) s n
+    pub result-room : 3 * n ≤ resultWords
+    pub map-room : n ≤ mapWords
+    pub inside : root < n
+    pub most : n ≤ mostRecords
 
 -- the answer and the stores of a replay r
 pub record Finished (r : Replay) (root : ℕ) (result map : List ℕ) (a : BuildAnswer) (after places : List ℕ) : Type 0 where

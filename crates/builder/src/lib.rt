@@ -9,7 +9,8 @@ ghost use mathlib.Core.Bool.{_&&_, not};
 ghost use Prim.Native.Nat.{_+_, _*_, _<_, _≤_};
 ghost use lib.Dec.{eqb};
 ghost use lib.ListN.{length};
-ghost use Rattle.field.specs.Field.{p, quad};
+ghost use Rattle.field.specs.Fields.{goldilocks};
+ghost use Rattle.field.specs.Field.{quad};
 ghost use Rattle.dag.specs.Nodes as Nodes;
 ghost use Rattle.dag.specs.Store as Store;
 ghost use Rattle.index.specs.Index.{half, Usable, NodeIndex};
@@ -136,7 +137,7 @@ pub fn low_mul(a: usize, b: usize) -> NodeKind
 
 // add(a, b), where places a and b hold x and y.
 fn add_rule(x: NodeKind, y: NodeKind, a: usize, b: usize) -> Rule
-    requires { ⌜ Contracts.ConstantsBelow x y ⌝ }
+    requires { ⌜ Contracts.ConstantsBelow goldilocks x y ⌝ }
     ensures { λ r. ⌜ r ≡ Steps.addRule quad x y a b ⌝ }
 {
     if both_constant(x, y) {
@@ -165,7 +166,7 @@ fn add_rule(x: NodeKind, y: NodeKind, a: usize, b: usize) -> Rule
 
 // sub(a, b), where places a and b hold x and y.
 fn sub_rule(x: NodeKind, y: NodeKind, a: usize, b: usize) -> Rule
-    requires { ⌜ Contracts.ConstantsBelow x y ⌝ }
+    requires { ⌜ Contracts.ConstantsBelow goldilocks x y ⌝ }
     ensures { λ r. ⌜ r ≡ Steps.subRule quad x y a b ⌝ }
 {
     if both_constant(x, y) {
@@ -194,7 +195,7 @@ fn sub_rule(x: NodeKind, y: NodeKind, a: usize, b: usize) -> Rule
 
 // mul(a, b), where places a and b hold x and y.
 fn mul_outcome(x: NodeKind, y: NodeKind, a: usize, b: usize) -> Outcome
-    requires { ⌜ Contracts.ConstantsBelow x y ⌝ }
+    requires { ⌜ Contracts.ConstantsBelow goldilocks x y ⌝ }
     ensures { λ r. ⌜ r ≡ Steps.mulOutcome quad x y a b ⌝ }
 {
     if both_constant(x, y) {
@@ -217,7 +218,7 @@ fn mul_outcome(x: NodeKind, y: NodeKind, a: usize, b: usize) -> Outcome
 
 // neg(a), where place a holds x.
 fn neg_outcome(x: NodeKind, a: usize) -> Outcome
-    requires { ⌜ Contracts.ConstantBelow x ⌝ }
+    requires { ⌜ Contracts.ConstantBelow goldilocks x ⌝ }
     ensures { λ r. ⌜ r ≡ Steps.negOutcome quad x a ⌝ }
 {
     if has_tag(x, 1) {
@@ -228,7 +229,7 @@ fn neg_outcome(x: NodeKind, a: usize) -> Outcome
 
 // What add(a, b) on the first n records comes to.
 fn add_outcome(list: &[u64], n: usize, a: usize, b: usize) -> Outcome
-    requires { ⌜ Contracts.Operands (now list) n a b ⌝ }
+    requires { ⌜ Contracts.Operands goldilocks (now list) n a b ⌝ }
     ensures { λ r. ⌜ r ≡ Steps.addOutcome quad (Nodes.nodes (now (list .entry)) n) a b ⌝ }
 {
     let rule = add_rule(dag::node_at(list, a), dag::node_at(list, b), a, b);
@@ -241,7 +242,7 @@ fn add_outcome(list: &[u64], n: usize, a: usize, b: usize) -> Outcome
 
 // What sub(a, b) on the first n records comes to.
 fn sub_outcome(list: &[u64], n: usize, a: usize, b: usize) -> Outcome
-    requires { ⌜ Contracts.Operands (now list) n a b ⌝ }
+    requires { ⌜ Contracts.Operands goldilocks (now list) n a b ⌝ }
     ensures { λ r. ⌜ r ≡ Steps.subOutcome quad (Nodes.nodes (now (list .entry)) n) a b ⌝ }
 {
     let rule = sub_rule(dag::node_at(list, a), dag::node_at(list, b), a, b);
@@ -254,7 +255,7 @@ fn sub_outcome(list: &[u64], n: usize, a: usize, b: usize) -> Outcome
 
 // What a request on the first n records comes to.
 fn request_outcome(list: &[u64], n: usize, x: NodeKind) -> Outcome
-    requires { ⌜ Contracts.Request (now list) n x ⌝ }
+    requires { ⌜ Contracts.Request goldilocks (now list) n x ⌝ }
     ensures { λ r. ⌜ r ≡ Steps.outcome quad (Nodes.nodes (now (list .entry)) n) x ⌝ }
 {
     match x {
@@ -279,8 +280,8 @@ fn found_or_new(found: Found, x: NodeKind) -> Outcome
 
 // The place of a request's result among the first n records, or the new record that it needs, by the plain search.
 fn resolve_searching(list: &[u64], n: usize, x: NodeKind) -> Outcome
-    requires { ⌜ Contracts.Request (now list) n x ⌝ }
-    ensures { λ r. ⌜ r ≡ Contracts.resolved (Nodes.nodes (now (list .entry)) n) n x ⌝ }
+    requires { ⌜ Contracts.Request goldilocks (now list) n x ⌝ }
+    ensures { λ r. ⌜ r ≡ Contracts.resolved goldilocks (Nodes.nodes (now (list .entry)) n) n x ⌝ }
 {
     let first = request_outcome(list, n, x);
     match first {
@@ -291,8 +292,8 @@ fn resolve_searching(list: &[u64], n: usize, x: NodeKind) -> Outcome
 
 // The same by the list's index.
 pub fn resolve(list: &[u64], n: usize, links: &[u64], x: NodeKind) -> Outcome
-    requires { ⌜ Contracts.Request (now list) n x × NodeIndex (Nodes.nodes (now list) n) (now links) ⌝ }
-    ensures { λ r. ⌜ r ≡ Contracts.resolved (Nodes.nodes (now (list .entry)) n) n x ⌝ }
+    requires { ⌜ Contracts.Request goldilocks (now list) n x × NodeIndex (Nodes.nodes (now list) n) (now links) ⌝ }
+    ensures { λ r. ⌜ r ≡ Contracts.resolved goldilocks (Nodes.nodes (now (list .entry)) n) n x ⌝ }
 {
     let first = request_outcome(list, n, x);
     match first {
@@ -303,8 +304,8 @@ pub fn resolve(list: &[u64], n: usize, links: &[u64], x: NodeKind) -> Outcome
 
 // Enters one request into a list of n records and its index, which have room for one more.
 pub fn push(list: &mut [u64], n: usize, links: &mut [u64], x: NodeKind) -> Entered
-    requires { ⌜ Contracts.Request (now list) n x × Contracts.Room (now list) n (now links) ⌝ }
-    ensures { λ r. ⌜ Contracts.Noted (now (list .entry)) n x (now (list .exit)) (now (links .exit)) r ⌝ }
+    requires { ⌜ Contracts.Request goldilocks (now list) n x × Contracts.Room (now list) n (now links) ⌝ }
+    ensures { λ r. ⌜ Contracts.Noted goldilocks (now (list .entry)) n x (now (list .exit)) (now (links .exit)) r ⌝ }
 {
     let result = resolve(list, n, links, x);
     match result {
@@ -328,7 +329,7 @@ pub fn push(list: &mut [u64], n: usize, links: &mut [u64], x: NodeKind) -> Enter
 
 // Step's tests.
 fn step_check(list: &[u64], n: usize, tag: u64, first: u64, second: u64) -> Checked
-    ensures { λ r. ⌜ r ≡ Calls.stepCheck (now (list .entry)) n tag first second ⌝ }
+    ensures { λ r. ⌜ r ≡ Calls.stepCheck goldilocks (now (list .entry)) n tag first second ⌝ }
 {
     let checked = dag::rootless_check(list, n, 0);
     if dag::is_refused(checked) {
@@ -339,7 +340,7 @@ fn step_check(list: &[u64], n: usize, tag: u64, first: u64, second: u64) -> Chec
 
 // Appends a new record where there is room.
 fn append(list: &mut [u64], n: usize, y: NodeKind) -> StepAnswer
-    requires { ⌜ Store.Sound p (now list) n × (n ≤ Nodes.mostRecords) ⌝ }
+    requires { ⌜ Store.Sound (goldilocks .bounds) (now list) n × (n ≤ Nodes.mostRecords) ⌝ }
     ensures { λ r. ⌜ Contracts.Stepped (now (list .entry)) n (Contracts.appended (Nodes.nodes (now (list .entry)) n) (Outcome.Node y)) r (now (list .exit)) ⌝ }
 {
     if dag::MOST_RECORDS <= n {
@@ -357,7 +358,7 @@ fn append(list: &mut [u64], n: usize, y: NodeKind) -> StepAnswer
 
 // Step past its tests.
 fn enter(list: &mut [u64], n: usize, x: NodeKind) -> StepAnswer
-    requires { ⌜ Contracts.Request (now list) n x × (n ≤ Nodes.mostRecords) ⌝ }
+    requires { ⌜ Contracts.Request goldilocks (now list) n x × (n ≤ Nodes.mostRecords) ⌝ }
     ensures { λ r. ⌜ Contracts.Stepped (now (list .entry)) n (Steps.step quad (Nodes.nodes (now (list .entry)) n) x) r (now (list .exit)) ⌝ }
 {
     let result = resolve_searching(list, n, x);
@@ -369,8 +370,8 @@ fn enter(list: &mut [u64], n: usize, x: NodeKind) -> StepAnswer
 
 // Step: one request on a list.
 pub fn step(list: &mut [u64], n: usize, tag: u64, first: u64, second: u64) -> StepAnswer
-    ensures answer { λ r. ⌜ r ≡ Calls.stepAnswer (now (list .entry)) n tag first second ⌝ }
-    ensures store { λ _. ⌜ now (list .exit) ≡ Calls.stepStore (now (list .entry)) n tag first second ⌝ }
+    ensures answer { λ r. ⌜ r ≡ Calls.stepAnswer goldilocks (now (list .entry)) n tag first second ⌝ }
+    ensures store { λ _. ⌜ now (list .exit) ≡ Calls.stepStore goldilocks (now (list .entry)) n tag first second ⌝ }
 {
     let checked = step_check(list, n, tag, first, second);
     match checked {
@@ -381,8 +382,8 @@ pub fn step(list: &mut [u64], n: usize, tag: u64, first: u64, second: u64) -> St
 
 // Replays the requests one after the other into an empty list; answers its count.
 fn replay(list: &[u64], n: usize, result: &mut [u64], map: &mut [u64], links: &mut [u64]) -> usize
-    requires { ⌜ Store.Sound p (now list) n × (3 * n ≤ length (now result)) × (n ≤ length (now map)) × Usable (now links) × (n ≤ half (now links)) ⌝ }
-    ensures { λ r. ⌜ Contracts.Holds (Steps.replay quad (Nodes.nodes (now (list .entry)) n) n) n (now (result .exit)) (now (map .exit)) r ⌝ }
+    requires { ⌜ Store.Sound (goldilocks .bounds) (now list) n × (3 * n ≤ length (now result)) × (n ≤ length (now map)) × Usable (now links) × (n ≤ half (now links)) ⌝ }
+    ensures { λ r. ⌜ Contracts.Holds goldilocks (Steps.replay quad (Nodes.nodes (now (list .entry)) n) n) n (now (result .exit)) (now (map .exit)) r ⌝ }
 {
     index::clear(links);
     let mut count = 0;
@@ -405,7 +406,7 @@ fn build_check(
     result_words: usize,
     map_words: usize,
 ) -> Checked
-    ensures { λ r. ⌜ r ≡ Calls.buildCheck (now (list .entry)) n root «result_words» «map_words» ⌝ }
+    ensures { λ r. ⌜ r ≡ Calls.buildCheck goldilocks (now (list .entry)) n root «result_words» «map_words» ⌝ }
 {
     let checked = dag::list_check(list, n, root);
     if dag::is_refused(checked) {
@@ -429,7 +430,7 @@ fn build_with(
     map: &mut [u64],
     links: &mut [u64],
 ) -> BuildAnswer
-    requires { ⌜ Contracts.Ready (now list) n root (length (now result)) (length (now map)) × Usable (now links) × (n ≤ half (now links)) ⌝ }
+    requires { ⌜ Contracts.Ready goldilocks (now list) n root (length (now result)) (length (now map)) × Usable (now links) × (n ≤ half (now links)) ⌝ }
     ensures { λ r. ⌜ Contracts.Finished (Steps.replay quad (Nodes.nodes (now (list .entry)) n) n) root (now (result .entry)) (now (map .entry)) r (now (result .exit)) (now (map .exit)) ⌝ }
 {
     let count = replay(list, n, result, map, links);
@@ -449,7 +450,7 @@ fn build_ready(
     result: &mut [u64],
     map: &mut [u64],
 ) -> BuildAnswer
-    requires { ⌜ Contracts.Ready (now list) n root (length (now result)) (length (now map)) ⌝ }
+    requires { ⌜ Contracts.Ready goldilocks (now list) n root (length (now result)) (length (now map)) ⌝ }
     ensures { λ r. ⌜ Contracts.Finished (Steps.replay quad (Nodes.nodes (now (list .entry)) n) n) root (now (result .entry)) (now (map .entry)) r (now (result .exit)) (now (map .exit)) ⌝ }
 {
     if n <= dag::FEW_RECORDS {
@@ -468,9 +469,9 @@ pub fn build(
     result: &mut [u64],
     map: &mut [u64],
 ) -> BuildAnswer
-    ensures answer { λ r. ⌜ r ≡ Calls.buildAnswer (now (list .entry)) n root (length (now (result .entry))) (length (now (map .entry))) ⌝ }
-    ensures result { λ _. ⌜ now (result .exit) ≡ Calls.buildResult (now (list .entry)) n root (now (result .entry)) (length (now (map .entry))) ⌝ }
-    ensures map { λ _. ⌜ now (map .exit) ≡ Calls.buildMap (now (list .entry)) n root (length (now (result .entry))) (now (map .entry)) ⌝ }
+    ensures answer { λ r. ⌜ r ≡ Calls.buildAnswer goldilocks (now (list .entry)) n root (length (now (result .entry))) (length (now (map .entry))) ⌝ }
+    ensures result { λ _. ⌜ now (result .exit) ≡ Calls.buildResult goldilocks (now (list .entry)) n root (now (result .entry)) (length (now (map .entry))) ⌝ }
+    ensures map { λ _. ⌜ now (map .exit) ≡ Calls.buildMap goldilocks (now (list .entry)) n root (length (now (result .entry))) (now (map .entry)) ⌝ }
 {
     let checked = build_check(list, n, root, result.len(), map.len());
     match checked {

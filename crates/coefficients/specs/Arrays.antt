@@ -7,6 +7,7 @@ use lib.Dec.{eqb}
 use lib.ListN.{getD, length, replicate}
 use Rattle.ring.specs.Ring.{Ops}
 use Rattle.ring.specs.Power.{pow}
+use Rattle.field.specs.Fields.{Field}
 use Rattle.columns.specs.Columns.{logLength, support}
 use Rattle.columns.specs.Prepare.{upTo, padded}
 use Rattle.coefficients.specs.Terms.{root, dense, scaledValue, twiddle}
@@ -23,30 +24,29 @@ squares o base L = padded 0 7 (upTo (λ i. pow o base (2 ^ i)) L)
 unfoldable pub copied : List ℕ → List ℕ
 copied c = padded 0 128 (upTo (λ i. getD c i 0) (length c))
 
-module _ (o : Ops ℕ) where
-  -- base^i for i below n, then 0
-  unfoldable pub powers : ℕ → ℕ → List ℕ
-  powers base n = padded 0 128 (upTo (pow o base) n)
+-- base^i for i below n, then 0
+unfoldable pub powers : Ops ℕ → ℕ → ℕ → List ℕ
+powers o base n = padded 0 128 (upTo (pow o base) n)
 
-  module _ (gen : ℕ → ℕ) (half : ℕ) where
-    -- w^k for each row k, then 0
-    unfoldable pub roots : List ℕ → List ℕ
-    roots c = padded 0 128 (upTo (root o gen half c) (length c))
+module _ (field : Field) where
+  -- w^k for each row k, then 0
+  unfoldable pub roots : List ℕ → List ℕ
+  roots c = padded 0 128 (upTo (root field c) (length c))
 
-    -- the dense coefficients, 0 past the last
-    unfoldable pub coefficients : List ℕ → List ℕ
-    coefficients c = padded 0 128 (upTo (dense o gen half c) (length c))
+  -- the dense coefficients, 0 past the last
+  unfoldable pub coefficients : List ℕ → List ℕ
+  coefficients c = padded 0 128 (upTo (dense field c) (length c))
 
-    -- the twiddles of sparse term k
-    unfoldable pub twiddles : List ℕ → ℕ → List ℕ
-    twiddles c k = padded 0 7 (upTo (twiddle o gen half c (getD (support c) k 0)) (logLength c))
+  -- the twiddles of sparse term k
+  unfoldable pub twiddles : List ℕ → ℕ → List ℕ
+  twiddles c k = padded 0 7 (upTo (twiddle field c (getD (support c) k 0)) (logLength c))
 
-    -- the sparse terms' twiddles and scaled values, 0 past the last
-    unfoldable pub sparseTwiddles : List ℕ → List (List ℕ)
-    sparseTwiddles c = padded (replicate 7 0) 11 (upTo (twiddles c) (length (support c)))
+  -- the sparse terms' twiddles and scaled values, 0 past the last
+  unfoldable pub sparseTwiddles : List ℕ → List (List ℕ)
+  sparseTwiddles c = padded (replicate 7 0) 11 (upTo (twiddles c) (length (support c)))
 
-    unfoldable pub sparseValues : List ℕ → List ℕ
-    sparseValues c = padded 0 11 (upTo (λ k. scaledValue o gen half c (getD (support c) k 0)) (length (support c)))
+  unfoldable pub sparseValues : List ℕ → List ℕ
+  sparseValues c = padded 0 11 (upTo (λ k. scaledValue field c (getD (support c) k 0)) (length (support c)))
 
 -- the places of a sparse column's terms
 pub record Places (c ps : List ℕ) : Type 0 where

@@ -5,11 +5,10 @@ use mathlib.Core.List.{List}
 use mathlib.Core.Path.{_≡_}
 use lib.Dec.{ltb}
 use lib.ListN.{getD, length}
+use Rattle.field.specs.Fields.{Field, modulus}
 use Rattle.ring.specs.Ring.{Ops}
 use Rattle.ring.specs.Power.{pow}
 use Rattle.ring.specs.Sums.{sum}
-use Rattle.field.specs.Field.{p, felt}
-use Rattle.field.specs.Generators.{generator, half}
 use Rattle.coefficients.specs.Terms.{rootInverse}
 
 -- the n entries from place r on, s apart, at the powers of v^h
@@ -32,20 +31,21 @@ joined o from s x a r = o .add (getD from (a + r) 0) (o .mul x (getD from (a + s
 pub record Halved (o : Ops ℕ) (from factors : List ℕ) (s n : ℕ) (t : List ℕ) : Type 0 where
   pub at : (j r : ℕ) → j < 2 * n → r < s → getD t (j * s + r) 0 ≡ joined o from s (getD factors (j * s) 0) (round n j * (2 * s)) r
 
--- the words of a table are below p
-pub record Low (t : List ℕ) : Type 0 where
-  pub at : (i : ℕ) → getD t i 0 < p
+module _ (field : Field) where
+  -- the words of a table are below p
+  pub record LowTable (t : List ℕ) : Type 0 where
+    pub at : (i : ℕ) → getD t i 0 < modulus field
 
--- the s words from place a on are those of f, and those before them are as they were
-pub record RowDone (f : ℕ → ℕ) (old : List ℕ) (a s : ℕ) (t : List ℕ) : Type 0 where
-  pub kept : (i : ℕ) → i < a → getD t i 0 ≡ getD old i 0
-  pub filled : (r : ℕ) → r < s → getD t (a + r) 0 ≡ f r
-  pub many : length t ≡ length old
-  pub low : Low t
+  -- the s words from place a on are those of f, and those before them are as they were
+  pub record RowDone (f : ℕ → ℕ) (old : List ℕ) (a s : ℕ) (t : List ℕ) : Type 0 where
+    pub kept : (i : ℕ) → i < a → getD t i 0 ≡ getD old i 0
+    pub filled : (r : ℕ) → r < s → getD t (a + r) 0 ≡ f r
+    pub many : length t ≡ length old
+    pub low : LowTable t
 
--- a column's table of n rows of s words
-pub record Reached (c : List ℕ) (s n : ℕ) (t : List ℕ) : Type 0 where
-  pub even : (k : ℕ) × (s ≡ 2 ^ k)
-  pub whole : s * n ≡ length c
-  pub level : Level felt (rootInverse felt generator half c) c s n t
-  pub low : Low t
+  -- a column's table of n rows of s words
+  pub record Reached (c : List ℕ) (s n : ℕ) (t : List ℕ) : Type 0 where
+    pub even : (k : ℕ) × (s ≡ 2 ^ k)
+    pub whole : s * n ≡ length c
+    pub level : Level (field .coordinates) (rootInverse field c) c s n t
+    pub low : LowTable t

@@ -12,12 +12,12 @@ use lib.Dec.{eqb, ltb, lit<}
 use lib.ListN.{getD, length, set, replicate, length-set, length-replicate}
 use lib.Pow.{pow-pos}
 use lib.Seq.{getD-set-same, getD-set-other}
+use Rattle.field.specs.Fields.{Field, modulus, coordinateLaws}
 use Rattle.ring.specs.Ring.{Ops, Laws}
 use Rattle.ring.specs.Identities.{mul-one, left-comm}
 use Rattle.ring.specs.Power.{pow, pow-zero, pow-add, pow-mul, low-pow, one-pow}
 use Rattle.ring.specs.Sums.{sum, sum-zero, sum-suc, sum-cong, sum-scale, low-sum}
-use Rattle.field.specs.Field.{p, felt, felt-laws}
-use Rattle.field.specs.Generators.{generator, half, generator-order}
+use Rattle.field.specs.Field.{felt}
 use Rattle.dag.specs.CaseLaws.{le-or-lt, below-suc, cond-elim}
 use Rattle.columns.specs.Columns.{logLength}
 use Rattle.columns.specs.Contracts.{Column}
@@ -27,7 +27,7 @@ use Rattle.columns.specs.ArrayLaws.{fill-next, getD-filled, length-upTo, length
 use Rattle.columns.specs.ClassLaws.{below-at}
 use Rattle.coefficients.specs.Terms.{root, rootInverse, sizeInverse, dense}
 use Rattle.coefficients.specs.Arrays.{powers, copied}
-use Rattle.coefficients.specs.Split.{part, Level, round, joined, Halved, Low, RowDone, Reached}
+use Rattle.coefficients.specs.Split.{part, Level, round, joined, Halved, LowTable, RowDone, Reached}
 
 -- the even terms and the odd terms
 module _ {o : Ops ℕ} (L : Laws o) where
@@ -143,70 +143,71 @@ module _ {o : Ops ℕ} (L : Laws o) where
               (ap₂ (o .mul) (fs (j * s) (omega (arith, mul-le-mul-right s h)))
               (ap (λ i. getD from i 0) (add-assoc (round n j * (2 * s)) s r) ∙ word j (s + r) h (omega arith)))
 
--- a word of a table is set
-pub low-set : (t : List ℕ) (k v : ℕ) → k < length t → Low t → v < p → Low (set t k v)
-low-set t k v room d h = record { at = λ i. go i (eqb i k) refl }
-  where
-    go : (i : ℕ) (b : Bool) → eqb i k ≡ b → getD (set t k v) i 0 < p
-    go i true e = rw (eqb-true i k e, getD-set-same t k v 0 room) h
-    go i false e = rw (getD-set-other t k i v 0 (eqb-false i k e)) (d .at i)
-
-low-blank : (n : ℕ) → Low (replicate n 0)
-low-blank n = record { at = at n }
-  where
-    at : (n i : ℕ) → getD (replicate {A = ℕ} n 0) i 0 < p
-    at zero i = lit< tt
-    at (suc n) zero = lit< tt
-    at (suc n) (suc i) = at n i
-
--- a table filled from the front
-pub low-filled : (f : ℕ → ℕ) (n : ℕ) → n ≤ 128 → ((i : ℕ) → i < n → f i < p) → Low (padded 0 128 (upTo f n))
-unfolding padded upTo
-low-filled f zero short low = low-blank 128
-low-filled f (suc n) short low =
-    subst (λ t. Low t) (fill-next 0 128 f (padded 0 128 (upTo f n)) n (f n) short refl refl ∙ ap (λ k. padded 0 128 (upTo f k)) (add-one n))
-    (low-set (padded 0 128 (upTo f n)) n (f n) (omega (arith, length-padded 0 128 (upTo f n) (omega (arith, length-upTo f n)))) (low-filled f n (omega arith) (λ i h. low i (omega arith))) (low n (omega arith)))
-
--- a row is filled word by word
-module _ (f : ℕ → ℕ) (old : List ℕ) (a : ℕ) where
-  pub row-none : Low old → RowDone f old a 0 old
-  row-none low = record { kept = λ i h. refl; filled = λ r h. absurd (omega arith); many = refl; low = low }
-
-  pub row-next : (s : ℕ) (t : List ℕ) (v : ℕ) → RowDone f old a s t → a + s < length t → v ≡ f s → v < p → RowDone f old a (s + 1) (set t (a + s) v)
-  row-next s t v d room e h =
-      record {
-        kept = λ i l. getD-set-other t (a + s) i v 0 (λ q. omega arith) ∙ d .kept i l;
-        filled = λ r l. go r (below-suc r s (omega arith));
-        many = length-set t (a + s) v ∙ d .many;
-        low = low-set t (a + s) v room (d .low) h;
-      }
+module _ (field : Field) where
+  -- a word of a table is set
+  pub low-set : (t : List ℕ) (k v : ℕ) → k < length t → LowTable field t → v < modulus field → LowTable field (set t k v)
+  low-set t k v room d h = record { at = λ i. go i (eqb i k) refl }
     where
-      go : (r : ℕ) → (r < s) ⊎ (r ≡ s) → getD (set t (a + s) v) (a + r) 0 ≡ f r
-      go r (inl l) = getD-set-other t (a + s) (a + r) v 0 (λ q. omega arith) ∙ d .filled r l
-      go r (inr q) = rw q (getD-set-same t (a + s) v 0 room ∙ e)
+      go : (i : ℕ) (b : Bool) → eqb i k ≡ b → getD (set t k v) i 0 < modulus field
+      go i true e = rw (eqb-true i k e, getD-set-same t k v 0 room) h
+      go i false e = rw (getD-set-other t k i v 0 (eqb-false i k e)) (d .at i)
 
-  pub row-all : (i s : ℕ) (t : List ℕ) → i ≤ s → s ≤ i → RowDone f old a i t → RowDone f old a s t
-  row-all i s t h l d = let e : i ≡ s = omega arith in subst (λ k. RowDone f old a k t) e d
-
--- the first m rows are made
-pub record Rows (from factors : List ℕ) (s n m : ℕ) (t : List ℕ) : Type 0 where
-  pub at : (j r : ℕ) → j < m → r < s → getD t (j * s + r) 0 ≡ joined felt from s (getD factors (j * s) 0) (round n j * (2 * s)) r
-  pub many : length t ≡ 128
-  pub low : Low t
-
-module _ (from factors : List ℕ) (s n : ℕ) where
-  pub rows-none : Rows from factors s n 0 (replicate 128 0)
-  rows-none = record { at = λ j r h l. absurd (omega arith); many = length-replicate {A = ℕ} 128 0; low = low-blank 128 }
-
-  pub rows-next : (m : ℕ) (old t : List ℕ) (x a : ℕ) → Rows from factors s n m old → x ≡ getD factors (m * s) 0 → a ≡ round n m * (2 * s) → RowDone (joined felt from s x a) old (m * s) s t → Rows from factors s n (m + 1) t
-  rows-next m old t x a d ex ea e = record { at = λ j r h l. go j r l (below-suc j m (omega arith)); many = e .many ∙ d .many; low = e .low }
+  low-blank : (n : ℕ) → LowTable field (replicate n 0)
+  low-blank n = record { at = at n }
     where
-      go : (j r : ℕ) → r < s → (j < m) ⊎ (j ≡ m) → getD t (j * s + r) 0 ≡ joined felt from s (getD factors (j * s) 0) (round n j * (2 * s)) r
-      go j r l (inl h) = e .kept (j * s + r) (omega (arith, mul-le-mul-right s h)) ∙ d .at j r h l
-      go j r l (inr q) = rw (q, ← ex, ← ea) (e .filled r l)
+      at : (n i : ℕ) → getD (replicate {A = ℕ} n 0) i 0 < modulus field
+      at zero i = omega (arith, field .large)
+      at (suc n) zero = omega (arith, field .large)
+      at (suc n) (suc i) = at n i
 
-  pub rows-all : (m : ℕ) (t : List ℕ) → 2 * n ≤ m → Rows from factors s n m t → Halved felt from factors s n t × Low t
-  rows-all m t h d = (record { at = λ j r l k. d .at j r (omega arith) k }, d .low)
+  -- a table filled from the front
+  pub low-filled : (f : ℕ → ℕ) (n : ℕ) → n ≤ 128 → ((i : ℕ) → i < n → f i < modulus field) → LowTable field (padded 0 128 (upTo f n))
+  unfolding padded upTo
+  low-filled f zero short low = low-blank 128
+  low-filled f (suc n) short low =
+      subst (λ t. LowTable field t) (fill-next 0 128 f (padded 0 128 (upTo f n)) n (f n) short refl refl ∙ ap (λ k. padded 0 128 (upTo f k)) (add-one n))
+      (low-set (padded 0 128 (upTo f n)) n (f n) (omega (arith, length-padded 0 128 (upTo f n) (omega (arith, length-upTo f n)))) (low-filled f n (omega arith) (λ i h. low i (omega arith))) (low n (omega arith)))
+
+  -- a row is filled word by word
+  module _ (f : ℕ → ℕ) (old : List ℕ) (a : ℕ) where
+    pub row-none : LowTable field old → RowDone field f old a 0 old
+    row-none low = record { kept = λ i h. refl; filled = λ r h. absurd (omega arith); many = refl; low = low }
+
+    pub row-next : (s : ℕ) (t : List ℕ) (v : ℕ) → RowDone field f old a s t → a + s < length t → v ≡ f s → v < modulus field → RowDone field f old a (s + 1) (set t (a + s) v)
+    row-next s t v d room e h =
+        record {
+          kept = λ i l. getD-set-other t (a + s) i v 0 (λ q. omega arith) ∙ d .kept i l;
+          filled = λ r l. go r (below-suc r s (omega arith));
+          many = length-set t (a + s) v ∙ d .many;
+          low = low-set t (a + s) v room (d .low) h;
+        }
+      where
+        go : (r : ℕ) → (r < s) ⊎ (r ≡ s) → getD (set t (a + s) v) (a + r) 0 ≡ f r
+        go r (inl l) = getD-set-other t (a + s) (a + r) v 0 (λ q. omega arith) ∙ d .filled r l
+        go r (inr q) = rw q (getD-set-same t (a + s) v 0 room ∙ e)
+
+    pub row-all : (i s : ℕ) (t : List ℕ) → i ≤ s → s ≤ i → RowDone field f old a i t → RowDone field f old a s t
+    row-all i s t h l d = let e : i ≡ s = omega arith in subst (λ k. RowDone field f old a k t) e d
+
+  -- the first m rows are made
+  pub record Rows (from factors : List ℕ) (s n m : ℕ) (t : List ℕ) : Type 0 where
+    pub at : (j r : ℕ) → j < m → r < s → getD t (j * s + r) 0 ≡ joined (field .coordinates) from s (getD factors (j * s) 0) (round n j * (2 * s)) r
+    pub many : length t ≡ 128
+    pub low : LowTable field t
+
+  module _ (from factors : List ℕ) (s n : ℕ) where
+    pub rows-none : Rows from factors s n 0 (replicate 128 0)
+    rows-none = record { at = λ j r h l. absurd (omega arith); many = length-replicate {A = ℕ} 128 0; low = low-blank 128 }
+
+    pub rows-next : (m : ℕ) (old t : List ℕ) (x a : ℕ) → Rows from factors s n m old → x ≡ getD factors (m * s) 0 → a ≡ round n m * (2 * s) → RowDone field (joined (field .coordinates) from s x a) old (m * s) s t → Rows from factors s n (m + 1) t
+    rows-next m old t x a d ex ea e = record { at = λ j r h l. go j r l (below-suc j m (omega arith)); many = e .many ∙ d .many; low = e .low }
+      where
+        go : (j r : ℕ) → r < s → (j < m) ⊎ (j ≡ m) → getD t (j * s + r) 0 ≡ joined (field .coordinates) from s (getD factors (j * s) 0) (round n j * (2 * s)) r
+        go j r l (inl h) = e .kept (j * s + r) (omega (arith, mul-le-mul-right s h)) ∙ d .at j r h l
+        go j r l (inr q) = rw (q, ← ex, ← ea) (e .filled r l)
+
+    pub rows-all : (m : ℕ) (t : List ℕ) → 2 * n ≤ m → Rows from factors s n m t → Halved (field .coordinates) from factors s n t × LowTable field t
+    rows-all m t h d = (record { at = λ j r l k. d .at j r (omega arith) k }, d .low)
 
 -- rows stay inside
 pub rows-fit : (s n : ℕ) → 0 < s → 2 * s * n ≤ 128 → 2 * n ≤ 128
@@ -222,69 +223,72 @@ round-below n j h = cond-elim (λ k. k < n) (ltb j n) j (j - n) (λ e. ltb-true 
 pub round-fits : (s n j k : ℕ) → k ≡ round n j → 2 * s * n ≤ 128 → j < 2 * n → k * (2 * s) + 2 * s ≤ 128
 round-fits s n j k e h l = let below : k < n = rw e (round-below n j l) in omega (arith, mul-le-mul-right (2 * s) below)
 
--- the column's powers are below p, and turn
-module _ (c : List ℕ) (col : Column p c) where
-  whole-turn : pow felt (rootInverse felt generator half c) (length c) ≡ felt .one
-  unfolding felt rootInverse root logLength
-  whole-turn =
-      sym (pow-mul felt-laws (generator (logLength c)) (length c - 1) (length c))
-      ∙ (ap (pow felt (generator (logLength c))) (mul-comm (length c - 1) (length c))
-      ∙ (pow-mul felt-laws (generator (logLength c)) (length c) (length c - 1)
-      ∙ (ap (λ x. pow felt x (length c - 1)) once ∙ one-pow felt-laws (length c - 1))))
-    where
-      once : pow felt (generator (logLength c)) (length c) ≡ 1
-      once = ap (pow felt (generator (logLength c))) (power-is 7 (length c) (col .power)) ∙ generator-order (logLength c) (omega (arith, log-le 7 (length c)))
+module _ (field : Field) where
+  -- the column's powers are below p, and turn
+  module _ (c : List ℕ) (col : Column (modulus field) c) where
+    whole-turn : pow (field .coordinates) (rootInverse field c) (length c) ≡ field .coordinates .one
+    unfolding rootInverse root logLength
+    whole-turn =
+        sym (pow-mul (coordinateLaws field) (field .generator (logLength c)) (length c - 1) (length c))
+        ∙ (ap (pow (field .coordinates) (field .generator (logLength c))) (mul-comm (length c - 1) (length c))
+        ∙ (pow-mul (coordinateLaws field) (field .generator (logLength c)) (length c) (length c - 1)
+        ∙ (ap (λ x. pow (field .coordinates) x (length c - 1)) once ∙ one-pow (coordinateLaws field) (length c - 1))))
+      where
+        once : pow (field .coordinates) (field .generator (logLength c)) (length c) ≡ field .coordinates .one
+        once =
+            ap (pow (field .coordinates) (field .generator (logLength c))) (power-is 7 (length c) (col .power))
+            ∙ (field .generator-order (logLength c) (omega (arith, log-le 7 (length c), field .columns-fit)) ∙ sym (field .one-is))
 
-  pub reached-start : Reached c (length c) 1 (copied c)
-  unfolding copied logLength
-  reached-start =
-      record {
-        even = (logLength c, power-is 7 (length c) (col .power));
-        whole = omega arith;
-        level = level-start felt-laws (rootInverse felt generator half c) c (length c) (copied c) (λ r h. (word r h, below-at p c r (col .low) h));
-        low = low-filled (λ i. getD c i 0) (length c) (col .short) (λ i h. below-at p c i (col .low) h);
-      }
-    where
-      word : (r : ℕ) → r < length c → getD (copied c) r 0 ≡ getD c r 0
-      word r h = getD-filled 0 0 128 (λ i. getD c i 0) (length c) r h
+    pub reached-start : Reached field c (length c) 1 (copied c)
+    unfolding copied logLength
+    reached-start =
+        record {
+          even = (logLength c, power-is 7 (length c) (col .power));
+          whole = omega arith;
+          level = level-start (coordinateLaws field) (rootInverse field c) c (length c) (copied c) (λ r h. (word r h, below-at (modulus field) c r (col .low) h));
+          low = low-filled field (λ i. getD c i 0) (length c) (col .short) (λ i h. below-at (modulus field) c i (col .low) h);
+        }
+      where
+        word : (r : ℕ) → r < length c → getD (copied c) r 0 ≡ getD c r 0
+        word r h = getD-filled 0 0 128 (λ i. getD c i 0) (length c) r h
 
-  pub reached-next : (s n : ℕ) (from factors t : List ℕ) (v : ℕ) → 1 < s → v ≡ rootInverse felt generator half c → factors ≡ powers felt v (length c) → Reached c s n from
-      → Halved felt from factors (s / 2) n t × Low t → Reached c (s / 2) (2 * n) t
-  unfolding powers
-  reached-next s n from factors t v h ev ef d q =
-      record {
-        even = halving (d .even .0) (d .even .1) .1;
-        whole = omega (arith, whole);
-        level = level-next felt-laws (rootInverse felt generator half c) c (s / 2) n from factors t (ap (pow felt (rootInverse felt generator half c)) whole ∙ whole-turn) (λ i l. rw (ef, ev) (filled i l)) (rw (← halves) at (d .level)) (q .0);
-        low = q .1;
-      }
-    where
-      halving : (k : ℕ) → s ≡ 2 ^ k → (s ≡ 2 * (s / 2)) × ((k : ℕ) × (s / 2 ≡ 2 ^ k))
-      halving zero e = absurd (omega arith)
-      halving (suc k) e = let f = two-pow-succ k in (omega arith, (k, omega arith))
+    pub reached-next : (s n : ℕ) (from factors t : List ℕ) (v : ℕ) → 1 < s → v ≡ rootInverse field c → factors ≡ powers (field .coordinates) v (length c) → Reached field c s n from
+        → Halved (field .coordinates) from factors (s / 2) n t × LowTable field t → Reached field c (s / 2) (2 * n) t
+    unfolding powers
+    reached-next s n from factors t v h ev ef d q =
+        record {
+          even = halving (d .even .0) (d .even .1) .1;
+          whole = omega (arith, whole);
+          level = level-next (coordinateLaws field) (rootInverse field c) c (s / 2) n from factors t (ap (pow (field .coordinates) (rootInverse field c)) whole ∙ whole-turn) (λ i l. rw (ef, ev) (filled i l)) (rw (← halves) at (d .level)) (q .0);
+          low = q .1;
+        }
+      where
+        halving : (k : ℕ) → s ≡ 2 ^ k → (s ≡ 2 * (s / 2)) × ((k : ℕ) × (s / 2 ≡ 2 ^ k))
+        halving zero e = absurd (omega arith)
+        halving (suc k) e = let f = two-pow-succ k in (omega arith, (k, omega arith))
 
-      halves : 2 * (s / 2) ≡ s
-      halves = sym (halving (d .even .0) (d .even .1) .0)
+        halves : 2 * (s / 2) ≡ s
+        halves = sym (halving (d .even .0) (d .even .1) .0)
 
-      whole : 2 * (s / 2) * n ≡ length c
-      whole = ap (λ k. k * n) halves ∙ d .whole
+        whole : 2 * (s / 2) * n ≡ length c
+        whole = ap (λ k. k * n) halves ∙ d .whole
 
-      filled : (i : ℕ) → i < 2 * (s / 2) * n → getD (powers felt (rootInverse felt generator half c) (length c)) i 0 ≡ pow felt (rootInverse felt generator half c) i
-      filled i l = getD-filled 0 0 128 (pow felt (rootInverse felt generator half c)) (length c) i (rw whole at l)
+        filled : (i : ℕ) → i < 2 * (s / 2) * n → getD (powers (field .coordinates) (rootInverse field c) (length c)) i 0 ≡ pow (field .coordinates) (rootInverse field c) i
+        filled i l = getD-filled 0 0 128 (pow (field .coordinates) (rootInverse field c)) (length c) i (rw whole at l)
 
-  pub reached-fits : (s n : ℕ) (t : List ℕ) → Reached c s n t → 2 * (s / 2) * n ≤ 128
-  reached-fits s n t d = let most : 2 * (s / 2) ≤ s = omega arith in omega (arith, mul-le-mul-right n most, d .whole, col .short)
+    pub reached-fits : (s n : ℕ) (t : List ℕ) → Reached field c s n t → 2 * (s / 2) * n ≤ 128
+    reached-fits s n t d = let most : 2 * (s / 2) ≤ s = omega arith in omega (arith, mul-le-mul-right n most, d .whole, col .short)
 
-  pub low-powers : (f : List ℕ) (v : ℕ) → f ≡ powers felt v (length c) → Low f
-  unfolding powers
-  low-powers f v e = rw e (low-filled (pow felt v) (length c) (col .short) (λ i _. low-pow felt-laws v i))
+    pub low-powers : (f : List ℕ) (v : ℕ) → f ≡ powers (field .coordinates) v (length c) → LowTable field f
+    unfolding powers
+    low-powers f v e = rw e (low-filled field (pow (field .coordinates) v) (length c) (col .short) (λ i _. low-pow (coordinateLaws field) v i))
 
-  pub reached-end : (s n : ℕ) (t : List ℕ) → s ≤ 1 → Reached c s n t → Reached c 1 (length c) t
-  reached-end s n t h d =
-      let one : s ≡ 1 = omega (arith, d .even .1, pow-pos (d .even .0)) in
-      let all : n ≡ length c = sym (one-mul n) ∙ (ap (λ k. k * n) (sym one) ∙ d .whole) in
-      subst (λ k. Reached c 1 k t) all (subst (λ k. Reached c k n t) one d)
+    pub reached-end : (s n : ℕ) (t : List ℕ) → s ≤ 1 → Reached field c s n t → Reached field c 1 (length c) t
+    reached-end s n t h d =
+        let one : s ≡ 1 = omega (arith, d .even .1, pow-pos (d .even .0)) in
+        let all : n ≡ length c = sym (one-mul n) ∙ (ap (λ k. k * n) (sym one) ∙ d .whole) in
+        subst (λ k. Reached field c 1 k t) all (subst (λ k. Reached field c k n t) one d)
 
-  pub dense-told : (j h s r : ℕ) (t : List ℕ) → j < length c → Reached c 1 (length c) t → h ≡ getD t j 0 → s ≡ sizeInverse felt generator half c → r ≡ felt .mul h s → r ≡ dense felt generator half c j
-  unfolding dense
-  dense-told j h s r t l d eh es er = er ∙ ap₂ (felt .mul) (eh ∙ level-end felt-laws (rootInverse felt generator half c) c (length c) t (d .level) j l) es
+    pub dense-told : (j h s r : ℕ) (t : List ℕ) → j < length c → Reached field c 1 (length c) t → h ≡ getD t j 0 → s ≡ sizeInverse field c → r ≡ field .coordinates .mul h s → r ≡ dense field c j
+    unfolding dense
+    dense-told j h s r t l d eh es er = er ∙ ap₂ (field .coordinates .mul) (eh ∙ level-end (coordinateLaws field) (rootInverse field c) c (length c) t (d .level) j l) es

@@ -10,12 +10,12 @@ use borrow.Author.Tests.{eq-eqb, ne-eqb}
 use lib.Dec.{eqb}
 use lib.ListN.{getD, length, take, drop, set, length-append, drop-of-length-le}
 use lib.Seq.{drop-cons, take-suc-set, length-take-le}
+use Rattle.field.specs.Fields.{Field, modulus, coordinateLaws}
 use Rattle.ring.specs.Ring.{Ops, Laws}
 use Rattle.ring.specs.Identities.{mul-one, left-comm}
 use Rattle.ring.specs.Power.{pow, pow-zero, pow-suc, pow-add, pow-mul, low-pow}
 use Rattle.ring.specs.Sums.{sum, sum-zero, sum-cong, sum-shift, sum-scale}
-use Rattle.field.specs.Field.{p, felt, felt-laws}
-use Rattle.field.specs.Generators.{generator, half}
+use Rattle.field.specs.Field.{felt}
 use Rattle.dag.specs.CaseLaws.{cond-elim}
 use Rattle.columns.specs.Columns.{logLength, count, others, placesFrom, support}
 use Rattle.columns.specs.Prepare.{upTo, padded, allBelow}
@@ -24,34 +24,35 @@ use Rattle.columns.specs.ClassLaws.{below-at}
 use Rattle.coefficients.specs.Terms.{root, rootInverse, sizeInverse, dense, scaledValue, twiddle}
 use Rattle.coefficients.specs.Arrays.{placed, squares, twiddles}
 
-pub pow-start : (a : ℕ) → 1 ≡ pow felt a 0
-unfolding felt
-pow-start a = sym (pow-zero felt-laws a)
+module _ (field : Field) where
+  pub pow-start : (a : ℕ) → 1 ≡ pow (field .coordinates) a 0
+  pow-start a = sym (pow-zero (coordinateLaws field) a ∙ field .one-is)
 
-pub pow-next : (a x j r : ℕ) → x ≡ pow felt a j → r ≡ felt .mul a x → r ≡ pow felt a (j + 1)
-pow-next a x j r ex er = rw (add-one j) (er ∙ (ap (felt .mul a) ex ∙ sym (pow-suc felt-laws a j)))
+  pub pow-next : (a x j r : ℕ) → x ≡ pow (field .coordinates) a j → r ≡ field .coordinates .mul a x → r ≡ pow (field .coordinates) a (j + 1)
+  pow-next a x j r ex er = rw (add-one j) (er ∙ (ap (field .coordinates .mul a) ex ∙ sym (pow-suc (coordinateLaws field) a j)))
 
--- squaring
-pub square-start : (a : ℕ) → a < p → a ≡ pow felt a (2 ^ 0)
-square-start a h = sym (Rattle.ring.specs.Power.pow-one felt-laws a h)
+  -- squaring
+  pub square-start : (a : ℕ) → a < modulus field → a ≡ pow (field .coordinates) a (2 ^ 0)
+  square-start a h = sym (Rattle.ring.specs.Power.pow-one (coordinateLaws field) a h)
 
-pub square-next : (a x i r : ℕ) → x ≡ pow felt a (2 ^ i) → r ≡ felt .mul x x → r ≡ pow felt a (2 ^ (i + 1))
-square-next a x i r ex er = rw (add-one i, two-pow-succ i) (er ∙ (ap₂ (felt .mul) ex ex ∙ sym (pow-add felt-laws a (2 ^ i) (2 ^ i))))
+  pub square-next : (a x i r : ℕ) → x ≡ pow (field .coordinates) a (2 ^ i) → r ≡ field .coordinates .mul x x → r ≡ pow (field .coordinates) a (2 ^ (i + 1))
+  square-next a x i r ex er = rw (add-one i, two-pow-succ i) (er ∙ (ap₂ (field .coordinates .mul) ex ex ∙ sym (pow-add (coordinateLaws field) a (2 ^ i) (2 ^ i))))
 
 upTo-cong : {A : Type 0} (f g : ℕ → A) (n : ℕ) → ((i : ℕ) → f i ≡ g i) → upTo f n ≡ upTo g n
 unfolding upTo
 upTo-cong f g zero h = refl
 upTo-cong f g (suc n) h = ap₂ (λ l x. l ++ (x ∷ [])) (upTo-cong f g n h) (h n)
 
--- the twiddles of the term at place j
-pub row-told : (c : List ℕ) (k j v b L : ℕ) (row : List ℕ) → j ≡ getD (support c) k 0 → v ≡ rootInverse felt generator half c → b ≡ pow felt v j → L ≡ logLength c → row ≡ squares felt b L
-    → row ≡ twiddles felt generator half c k
-unfolding squares twiddles twiddle
-row-told c k j v b L row ej ev eb eL er =
-    er ∙ (ap (λ n. squares felt b n) eL ∙ ap (padded 0 7) (upTo-cong (λ i. pow felt b (2 ^ i)) (λ i. pow felt (rootInverse felt generator half c) (getD (support c) k 0 * 2 ^ i)) (logLength c) one))
-  where
-    one : (i : ℕ) → pow felt b (2 ^ i) ≡ pow felt (rootInverse felt generator half c) (getD (support c) k 0 * 2 ^ i)
-    one i = rw (eb, ev, ej) (sym (pow-mul felt-laws (rootInverse felt generator half c) (getD (support c) k 0) (2 ^ i)))
+module _ (field : Field) where
+  -- the twiddles of the term at place j
+  pub row-told : (c : List ℕ) (k j v b L : ℕ) (row : List ℕ) → j ≡ getD (support c) k 0 → v ≡ rootInverse field c → b ≡ pow (field .coordinates) v j → L ≡ logLength c → row ≡ squares (field .coordinates) b L
+      → row ≡ twiddles field c k
+  unfolding squares twiddles twiddle
+  row-told c k j v b L row ej ev eb eL er =
+      er ∙ (ap (λ n. squares (field .coordinates) b n) eL ∙ ap (padded 0 7) (upTo-cong (λ i. pow (field .coordinates) b (2 ^ i)) (λ i. pow (field .coordinates) (rootInverse field c) (getD (support c) k 0 * 2 ^ i)) (logLength c) one))
+    where
+      one : (i : ℕ) → pow (field .coordinates) b (2 ^ i) ≡ pow (field .coordinates) (rootInverse field c) (getD (support c) k 0 * 2 ^ i)
+      one i = rw (eb, ev, ej) (sym (pow-mul (coordinateLaws field) (rootInverse field c) (getD (support c) k 0) (2 ^ i)))
 
 -- the places found before place j, and those from there on
 module _ (c : List ℕ) (j : ℕ) (h : j < length c) where
@@ -117,7 +118,8 @@ places-many (v ∷ c) i = go (eqb v 0) (places-many c (suc i))
 pub length-support : (c : List ℕ) → length (support c) ≡ others c 0
 length-support c = omega (arith, places-many c 0)
 
--- the scaled value of the term at a place of the list ps
-pub value-told : (c ps : List ℕ) (k s r : ℕ) → ps ≡ support c → s ≡ sizeInverse felt generator half c → r ≡ felt .mul (getD c (getD ps k 0) 0) s → r ≡ scaledValue felt generator half c (getD (support c) k 0)
-unfolding scaledValue
-value-told c ps k s r ep es er = er ∙ rw (ep, es)
+module _ (field : Field) where
+  -- the scaled value of the term at a place of the list ps
+  pub value-told : (c ps : List ℕ) (k s r : ℕ) → ps ≡ support c → s ≡ sizeInverse field c → r ≡ field .coordinates .mul (getD c (getD ps k 0) 0) s → r ≡ scaledValue field c (getD (support c) k 0)
+  unfolding scaledValue
+  value-told c ps k s r ep es er = er ∙ rw (ep, es)

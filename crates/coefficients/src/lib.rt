@@ -5,9 +5,9 @@ ghost use mathlib.Core.Bool.{true};
 ghost use Prim.Native.Nat.{ℕ, _+_, _*_, _-_, _^_, _<_, _≤_};
 ghost use mathlib.Core.List.{_++_};
 ghost use lib.ListN.{length, take, getD};
+ghost use Rattle.field.specs.Fields.{goldilocks};
 ghost use Rattle.ring.specs.Power.{pow};
 ghost use Rattle.field.specs.Field.{p, felt};
-ghost use Rattle.field.specs.Generators.{generator, half};
 ghost use Rattle.columns.specs.Columns as Columns;
 ghost use Rattle.columns.specs.Prepare as Prepare;
 ghost use Rattle.columns.specs.Contracts as ColumnContracts;
@@ -17,7 +17,7 @@ ghost use Rattle.coefficients.specs.Split as Split;
 
 // w^k, where w generates the subgroup of the column's rows.
 pub fn root(col: &[u64], k: usize) -> u64
-    ensures { λ r. ⌜ (r ≡ Terms.root felt generator half (now (col .entry)) k) × (r < p) ⌝ }
+    ensures { λ r. ⌜ (r ≡ Terms.root goldilocks (now (col .entry)) k) × (r < p) ⌝ }
 {
     felt::pow(felt::two_adic_generator(columns::log_length(col)), k as u64)
 }
@@ -25,14 +25,14 @@ pub fn root(col: &[u64], k: usize) -> u64
 // The inverse of w.
 fn root_inverse(col: &[u64]) -> u64
     requires { ⌜ 0 < length (now col) ⌝ }
-    ensures { λ r. ⌜ (r ≡ Terms.rootInverse felt generator half (now (col .entry))) × (r < p) ⌝ }
+    ensures { λ r. ⌜ (r ≡ Terms.rootInverse goldilocks (now (col .entry))) × (r < p) ⌝ }
 {
     root(col, col.len() - 1)
 }
 
 // The inverse of the number of rows.
 pub fn size_inverse(col: &[u64]) -> u64
-    ensures { λ r. ⌜ (r ≡ Terms.sizeInverse felt generator half (now (col .entry))) × (r < p) ⌝ }
+    ensures { λ r. ⌜ (r ≡ Terms.sizeInverse goldilocks (now (col .entry))) × (r < p) ⌝ }
 {
     felt::pow(felt::half(), columns::log_length(col) as u64)
 }
@@ -56,7 +56,7 @@ fn powers(base: u64, n: usize) -> [u64; 128]
 // w^k for each row k, then 0.
 pub fn roots(col: &[u64]) -> [u64; 128]
     requires { ⌜ length (now col) ≤ 128 ⌝ }
-    ensures { λ r. ⌜ r ≡ Arrays.roots felt generator half (now (col .entry)) ⌝ }
+    ensures { λ r. ⌜ r ≡ Arrays.roots goldilocks (now (col .entry)) ⌝ }
 {
     powers(
         felt::two_adic_generator(columns::log_length(col)),
@@ -87,8 +87,8 @@ fn round(n: usize, j: usize) -> usize
 
 // Writes s words, each from two words of the table that is halved.
 fn join_row(from: &[u64; 128], a: usize, x: u64, s: usize, to: &mut [u64], at: usize)
-    requires { ⌜ Split.Low (now from) × Split.Low (now to) × (x < p) × (a + 2 * s ≤ 128) × (at + s ≤ length (now to)) ⌝ }
-    ensures { λ _. ⌜ Split.RowDone (Split.joined felt (now (from .entry)) s x a) (now (to .entry)) at s (now (to .exit)) ⌝ }
+    requires { ⌜ Split.LowTable goldilocks (now from) × Split.LowTable goldilocks (now to) × (x < p) × (a + 2 * s ≤ 128) × (at + s ≤ length (now to)) ⌝ }
+    ensures { λ _. ⌜ Split.RowDone goldilocks (Split.joined felt (now (from .entry)) s x a) (now (to .entry)) at s (now (to .exit)) ⌝ }
 {
     let mut r = 0;
     while r < s {
@@ -99,8 +99,8 @@ fn join_row(from: &[u64; 128], a: usize, x: u64, s: usize, to: &mut [u64], at: u
 
 // From a table of n rows of 2·s words, one of 2·n rows of s words.
 fn halved(from: &[u64; 128], factors: &[u64; 128], s: usize, n: usize) -> [u64; 128]
-    requires { ⌜ Split.Low (now from) × Split.Low (now factors) × (0 < s) × (2 * s * n ≤ 128) ⌝ }
-    ensures { λ r. ⌜ Split.Halved felt (now (from .entry)) (now (factors .entry)) s n r × Split.Low r ⌝ }
+    requires { ⌜ Split.LowTable goldilocks (now from) × Split.LowTable goldilocks (now factors) × (0 < s) × (2 * s * n ≤ 128) ⌝ }
+    ensures { λ r. ⌜ Split.Halved felt (now (from .entry)) (now (factors .entry)) s n r × Split.LowTable goldilocks r ⌝ }
 {
     let mut to = [0u64; 128];
     let mut j = 0;
@@ -115,7 +115,7 @@ fn halved(from: &[u64; 128], factors: &[u64; 128], s: usize, n: usize) -> [u64; 
 // The sum of the entries at the powers of w^(−j), for each row j.
 fn sums(col: &[u64]) -> [u64; 128]
     requires { ⌜ ColumnContracts.Column p (now col) ⌝ }
-    ensures { λ r. ⌜ Split.Reached (now (col .entry)) 1 (length (now (col .entry))) r ⌝ }
+    ensures { λ r. ⌜ Split.Reached goldilocks (now (col .entry)) 1 (length (now (col .entry))) r ⌝ }
 {
     let factors = powers(root_inverse(col), col.len());
     let mut table = copied(col);
@@ -132,7 +132,7 @@ fn sums(col: &[u64]) -> [u64; 128]
 // The dense coefficients, 0 past the last.
 pub fn dense(col: &[u64]) -> [u64; 128]
     requires { ⌜ ColumnContracts.Column p (now col) ⌝ }
-    ensures { λ r. ⌜ r ≡ Arrays.coefficients felt generator half (now (col .entry)) ⌝ }
+    ensures { λ r. ⌜ r ≡ Arrays.coefficients goldilocks (now (col .entry)) ⌝ }
 {
     let scale = size_inverse(col);
     let sums = sums(col);
@@ -190,7 +190,7 @@ fn squares(base: u64, log: usize) -> [u64; 7]
 // The twiddles of a sparse column's terms, at these places.
 pub fn sparse_twiddles(col: &[u64], places: &[u64]) -> [[u64; 7]; 11]
     requires { ⌜ ColumnContracts.Column p (now col) × Arrays.Places (now col) (now places) ⌝ }
-    ensures { λ r. ⌜ r ≡ Arrays.sparseTwiddles felt generator half (now (col .entry)) ⌝ }
+    ensures { λ r. ⌜ r ≡ Arrays.sparseTwiddles goldilocks (now (col .entry)) ⌝ }
 {
     let step = root_inverse(col);
     let log = columns::log_length(col);
@@ -206,7 +206,7 @@ pub fn sparse_twiddles(col: &[u64], places: &[u64]) -> [[u64; 7]; 11]
 // The scaled values of a sparse column's terms, at these places.
 pub fn sparse_values(col: &[u64], places: &[u64]) -> [u64; 11]
     requires { ⌜ ColumnContracts.Column p (now col) × Arrays.Places (now col) (now places) ⌝ }
-    ensures { λ r. ⌜ r ≡ Arrays.sparseValues felt generator half (now (col .entry)) ⌝ }
+    ensures { λ r. ⌜ r ≡ Arrays.sparseValues goldilocks (now (col .entry)) ⌝ }
 {
     let scale = size_inverse(col);
     let mut values = [0u64; 11];

@@ -9,7 +9,7 @@ use native.Mathlib.Omega.{arith}
 use borrow.Author.Tests.{eq-eqb, ne-eqb, eqb-true, ltb-true}
 use lib.Dec.{ltb, eqb}
 use lib.ListN.{length}
-use Rattle.field.specs.Field.{p, felt}
+use Rattle.field.specs.Fields.{Field, modulus}
 use Rattle.dag.specs.CaseLaws.{cond-elim, or-true}
 use Rattle.columns.specs.Columns.{logWithin, isPower, logLength, nonzero, sparseOps, denseOps, isSparse, standalone, isScaled, gain, equalEntries, combinationCost, offset}
 use Rattle.columns.specs.LogLaws.{log-le, power-is}
@@ -73,11 +73,11 @@ pub standalone-dense : (c : List ℕ) (d : ℕ) → d ≡ denseOps (length c) �
 unfolding standalone
 standalone-dense c d ed e = rw (e, ed)
 
-module _ (d v k : ℕ) (n : v ≡ d → ⊥) (ek : k ≡ felt .sub v d) where
-  pub unit-told : k ≡ 1 → false ≡ isScaled p d v
-  unfolding isScaled felt
-  unit-told e = rw (ne-eqb v d n, ← ek, eq-eqb k 1 e)
+module _ (field : Field) (d v k : ℕ) (n : v ≡ d → ⊥) (ek : k ≡ field .coordinates .sub v d) where
+  pub unit-told : k ≡ 1 → false ≡ isScaled (modulus field) d v
+  unfolding isScaled
+  unit-told e = rw (ne-eqb v d n, ← field .coordinates-sub v d, ← ek, eq-eqb k 1 e)
 
-  pub scaled-told : (k ≡ 1 → ⊥) → not (eqb k (p - 1)) ≡ isScaled p d v
-  unfolding isScaled felt
-  scaled-told e = rw (ne-eqb v d n, ← ek, ne-eqb k 1 e)
+  pub scaled-told : (k ≡ 1 → ⊥) → not (eqb k (modulus field - 1)) ≡ isScaled (modulus field) d v
+  unfolding isScaled
+  scaled-told e = rw (ne-eqb v d n, ← field .coordinates-sub v d, ← ek, ne-eqb k 1 e)

@@ -4,7 +4,7 @@ use mathlib.Core.Bool.{Bool, true, _&&_}
 use mathlib.Core.List.{List, [], _∷_, _++_}
 use lib.Dec.{leb, ltb}
 use lib.ListN.{getD, length, take, drop, replicate}
-use Rattle.dag.specs.Refusals.{need, _then_}
+use Rattle.dag.specs.Refusals.{firstRefused, need, _then_}
 use Rattle.dag.specs.declared.Refusal.the-variants.{StoreTooShort, Malformed, TooManyColumns, ColumnLength}
 use Rattle.dag.specs.declared.Checked.{Checked}
 use Rattle.dag.specs.declared.Checked.the-variants.{Good, Refused}
@@ -25,11 +25,6 @@ unfoldable pub allBelow : ℕ → List ℕ → Bool
 allBelow m [] = true
 allBelow m (v ∷ c) = ltb v m && allBelow m c
 
--- the first refusal of the tests f 0, .., f (n − 1)
-unfoldable pub firstOf : (ℕ → Checked) → ℕ → Checked
-firstOf f zero = Good
-firstOf f (suc n) = firstOf f n then f n
-
 -- a length is a power of two in 1 to 128
 unfoldable pub lengthCheck : List ℕ → ℕ → Checked
 lengthCheck ls j = need (isPower 7 (getD ls j 0)) (ColumnLength j)
@@ -46,9 +41,9 @@ mostColumns = 16
 unfoldable pub prepareCheck : ℕ → List ℕ → List ℕ → Checked
 prepareCheck m ls es =
     need (leb (length ls) mostColumns) TooManyColumns
-    then firstOf (lengthCheck ls) (length ls)
+    then firstRefused (lengthCheck ls) (length ls)
     then need (leb (total ls) (length es)) StoreTooShort
-    then firstOf (entriesCheck m (columns ls es)) (length ls)
+    then firstRefused (entriesCheck m (columns ls es)) (length ls)
 
 -- f 0, f 1, .., f (n − 1)
 unfoldable pub upTo : {A : Type 0} → (ℕ → A) → ℕ → List A

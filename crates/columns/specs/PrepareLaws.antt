@@ -11,14 +11,14 @@ use lib.Dec.{leb}
 use lib.ListN.{getD, length, take, drop, drop-of-length-le}
 use lib.Seq.{drop-cons, take-length}
 use Rattle.dag.specs.CaseLaws.{below-suc, below-suc-elim, not-both}
-use Rattle.dag.specs.CheckLaws.{then-good, need-good, refused-then}
-use Rattle.dag.specs.Refusals.{need, _then_, isRefused}
+use Rattle.dag.specs.CheckLaws.{first-good, then-good, need-good, refused-then}
+use Rattle.dag.specs.Refusals.{firstRefused, need, _then_, isRefused}
 use Rattle.dag.specs.declared.Refusal.{Refusal}
 use Rattle.dag.specs.declared.Refusal.the-variants.{StoreTooShort, Malformed, TooManyColumns, ColumnLength}
 use Rattle.dag.specs.declared.Checked.{Checked}
 use Rattle.dag.specs.declared.Checked.the-variants.{Good, Refused}
 use Rattle.columns.specs.Columns.{isPower, column}
-use Rattle.columns.specs.Prepare.{total, columns, allBelow, firstOf, lengthCheck, entriesCheck, mostColumns, prepareCheck, padded, forms, answer, prepare}
+use Rattle.columns.specs.Prepare.{total, columns, allBelow, lengthCheck, entriesCheck, mostColumns, prepareCheck, padded, forms, answer, prepare}
 use Rattle.columns.specs.LogLaws.{power-pos, power-le}
 use Rattle.columns.specs.ColumnLaws.{length-columns, column-length}
 use Rattle.columns.specs.Contracts.{Column, Handed, Tested}
@@ -37,35 +37,6 @@ module _ (m : ℕ) (c : List ℕ) (i : ℕ) (t : Bool) where
   pub below-end : length c ≤ i → allBelow m (drop i c) ≡ t → true ≡ t
   unfolding allBelow
   below-end h inv = rw (drop-of-length-le c {i = i} h) at inv
-
--- tests one after the other
-module _ (f : ℕ → Checked) where
-  pub first-none : firstOf f 0 ≡ Good
-  unfolding firstOf
-  first-none = refl
-
-  pub first-next : (i : ℕ) → firstOf f i ≡ Good → f i ≡ Good → firstOf f (i + 1) ≡ Good
-  unfolding firstOf
-  first-next i e g = rw (add-one i, e) g
-
-  pub first-stop : (i n : ℕ) (r : Refusal) → firstOf f i ≡ Good → f i ≡ Refused r → i < n → Refused r ≡ firstOf f n
-  unfolding firstOf
-  first-stop i zero r good bad h = absurd (omega arith)
-  first-stop i (suc n) r good bad h = go (λ k. first-stop i n r good bad k) (below-suc i n h)
-    where
-      go : (i < n → Refused r ≡ firstOf f n) → (i < n) ⊎ (i ≡ n) → Refused r ≡ firstOf f n then f n
-      go before (inl k) = ap (λ c. c then f n) (before k)
-      go before (inr e) = rw (← e, good) (sym bad)
-
-  pub first-good : (n : ℕ) → firstOf f n ≡ Good → (i : ℕ) → i < n → f i ≡ Good
-  unfolding firstOf
-  first-good zero e i h = absurd (omega arith)
-  first-good (suc n) e i h =
-      let both = then-good (firstOf f n) (f n) e in
-      below-suc-elim (λ i. f i ≡ Good) n (first-good n (both .0)) (both .1) i h
-
-  pub first-all : (i n : ℕ) → firstOf f i ≡ Good → i ≤ n → n ≤ i → Good ≡ firstOf f n
-  first-all i n e h k = let q : i ≡ n = omega arith in sym e ∙ ap (firstOf f) q
 
 -- one length, and one column
 module _ (ls : List ℕ) (j : ℕ) where
@@ -87,7 +58,7 @@ module _ (m : ℕ) (cs : List (List ℕ)) (j : ℕ) where
   entries-bad e = rw e
 
 -- what the tests give
-pub length-powers : (ls : List ℕ) → firstOf (lengthCheck ls) (length ls) ≡ Good → (j : ℕ) → j < length ls → isPower 7 (getD ls j 0) ≡ true
+pub length-powers : (ls : List ℕ) → firstRefused (lengthCheck ls) (length ls) ≡ Good → (j : ℕ) → j < length ls → isPower 7 (getD ls j 0) ≡ true
 unfolding lengthCheck
 length-powers ls e j h = need-good (isPower 7 (getD ls j 0)) (ColumnLength j) (first-good (lengthCheck ls) (length ls) e j h)
 
@@ -96,13 +67,13 @@ unfolding total
 total-small [] h = omega arith
 total-small (n ∷ ls) h = omega (arith, h 0 (omega arith), total-small ls (λ j k. h (suc j) (omega arith)))
 
-pub lengths-small : (ls : List ℕ) → length ls ≤ mostColumns → firstOf (lengthCheck ls) (length ls) ≡ Good → total ls ≤ 2048
+pub lengths-small : (ls : List ℕ) → length ls ≤ mostColumns → firstRefused (lengthCheck ls) (length ls) ≡ Good → total ls ≤ 2048
 lengths-small ls few e = omega (arith, total-small ls (λ j h. power-le 7 (getD ls j 0) (length-powers ls e j h)))
 
-pub handed : (ls es : List ℕ) → length ls ≤ mostColumns → firstOf (lengthCheck ls) (length ls) ≡ Good → total ls ≤ length es → Handed ls es
+pub handed : (ls es : List ℕ) → length ls ≤ mostColumns → firstRefused (lengthCheck ls) (length ls) ≡ Good → total ls ≤ length es → Handed ls es
 handed ls es few e enough = record { few = few; powers = length-powers ls e; small = lengths-small ls few e; enough = enough }
 
-pub tested : (m : ℕ) (ls es : List ℕ) → Handed ls es → firstOf (entriesCheck m (columns ls es)) (length ls) ≡ Good → Tested m ls es
+pub tested : (m : ℕ) (ls es : List ℕ) → Handed ls es → firstRefused (entriesCheck m (columns ls es)) (length ls) ≡ Good → Tested m ls es
 unfolding entriesCheck
 tested m ls es h e =
     record {
@@ -114,9 +85,9 @@ tested m ls es h e =
 pub prepared : (m : ℕ) (ls es : List ℕ) → prepareCheck m ls es ≡ Good → Tested m ls es
 unfolding prepareCheck
 prepared m ls es e =
-    let one = then-good (need (leb (length ls) mostColumns) TooManyColumns) (firstOf (lengthCheck ls) (length ls) then need (leb (total ls) (length es)) StoreTooShort then firstOf (entriesCheck m (columns ls es)) (length ls)) e in
-    let two = then-good (firstOf (lengthCheck ls) (length ls)) (need (leb (total ls) (length es)) StoreTooShort then firstOf (entriesCheck m (columns ls es)) (length ls)) (one .1) in
-    let three = then-good (need (leb (total ls) (length es)) StoreTooShort) (firstOf (entriesCheck m (columns ls es)) (length ls)) (two .1) in
+    let one = then-good (need (leb (length ls) mostColumns) TooManyColumns) (firstRefused (lengthCheck ls) (length ls) then need (leb (total ls) (length es)) StoreTooShort then firstRefused (entriesCheck m (columns ls es)) (length ls)) e in
+    let two = then-good (firstRefused (lengthCheck ls) (length ls)) (need (leb (total ls) (length es)) StoreTooShort then firstRefused (entriesCheck m (columns ls es)) (length ls)) (one .1) in
+    let three = then-good (need (leb (total ls) (length es)) StoreTooShort) (firstRefused (entriesCheck m (columns ls es)) (length ls)) (two .1) in
     tested m ls es
     (handed ls es (leb-true (length ls) mostColumns (need-good (leb (length ls) mostColumns) TooManyColumns (one .0))) (two .0) (leb-true (total ls) (length es) (need-good (leb (total ls) (length es)) StoreTooShort (three .0))))
     (three .1)
@@ -139,11 +110,11 @@ module _ (m : ℕ) (ls es : List ℕ) (j : ℕ) (h : j < length ls) where
 
 -- the tests in their order
 module _ (m : ℕ) (ls es : List ℕ) (few : length ls ≤ mostColumns) where
-  pub check-lengths : (r : Checked) → r ≡ firstOf (lengthCheck ls) (length ls) → isRefused (firstOf (lengthCheck ls) (length ls)) ≡ true → r ≡ prepareCheck m ls es
+  pub check-lengths : (r : Checked) → r ≡ firstRefused (lengthCheck ls) (length ls) → isRefused (firstRefused (lengthCheck ls) (length ls)) ≡ true → r ≡ prepareCheck m ls es
   unfolding prepareCheck
-  check-lengths r e bad = rw (le-leb _ _ few) (e ∙ refused-then (firstOf (lengthCheck ls) (length ls)) _ bad)
+  check-lengths r e bad = rw (le-leb _ _ few) (e ∙ refused-then (firstRefused (lengthCheck ls) (length ls)) _ bad)
 
-  module _ (good : firstOf (lengthCheck ls) (length ls) ≡ Good) (s : ℕ) (e : s ≡ total (take (length ls) ls)) where
+  module _ (good : firstRefused (lengthCheck ls) (length ls) ≡ Good) (s : ℕ) (e : s ≡ total (take (length ls) ls)) where
     whole : s ≡ total ls
     whole = e ∙ ap total (take-length ls)
 
@@ -154,7 +125,7 @@ module _ (m : ℕ) (ls es : List ℕ) (few : length ls ≤ mostColumns) where
     pub check-handed : s ≤ length es → Handed ls es
     check-handed h = handed ls es few good (rw (← whole) h)
 
-    pub check-entries : (r : Checked) → s ≤ length es → r ≡ firstOf (entriesCheck m (columns ls es)) (length ls) → r ≡ prepareCheck m ls es
+    pub check-entries : (r : Checked) → s ≤ length es → r ≡ firstRefused (entriesCheck m (columns ls es)) (length ls) → r ≡ prepareCheck m ls es
     unfolding prepareCheck
     check-entries r h q = rw (le-leb _ _ few, good, le-leb (total ls) (length es) (rw (← whole) h)) q
 

@@ -8,6 +8,7 @@ ghost use mathlib.Core.Bool.{true, cond};
 ghost use lib.Dec.{leb};
 ghost use Prim.Native.Nat.{ℕ, _+_, _*_, _-_, _^_, _<_, _≤_};
 ghost use lib.ListN.{length, take, drop, getD};
+ghost use Rattle.dag.specs.Refusals as Refusals;
 ghost use Rattle.field.specs.Field.{p};
 ghost use Rattle.columns.specs.Columns as Columns;
 ghost use Rattle.columns.specs.Prepare as Prepare;
@@ -456,7 +457,7 @@ fn forms(lengths: &[u64], entries: &[u64]) -> [u64; 16]
 
 // The first length that is no power of two in 1 to 128: 14.
 fn lengths_check(lengths: &[u64]) -> Checked
-    ensures { λ r. ⌜ r ≡ Prepare.firstOf (Prepare.lengthCheck (now (lengths .entry))) (length (now (lengths .entry))) ⌝ }
+    ensures { λ r. ⌜ r ≡ Refusals.firstRefused (Prepare.lengthCheck (now (lengths .entry))) (length (now (lengths .entry))) ⌝ }
 {
     let mut i = 0;
     while i < lengths.len() {
@@ -485,7 +486,7 @@ fn all_below(col: &[u64]) -> bool
 // The first column with an entry not below p: 4.
 fn entries_check(lengths: &[u64], entries: &[u64]) -> Checked
     requires { ⌜ Contracts.Handed (now lengths) (now entries) ⌝ }
-    ensures { λ r. ⌜ r ≡ Prepare.firstOf (Prepare.entriesCheck p (Prepare.columns (now (lengths .entry)) (now (entries .entry)))) (length (now (lengths .entry))) ⌝ }
+    ensures { λ r. ⌜ r ≡ Refusals.firstRefused (Prepare.entriesCheck p (Prepare.columns (now (lengths .entry)) (now (entries .entry)))) (length (now (lengths .entry))) ⌝ }
 {
     let mut j = 0;
     while j < lengths.len() {

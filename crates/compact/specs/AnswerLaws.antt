@@ -5,13 +5,12 @@ use mathlib.Core.Logic.{_↔_}
 use mathlib.Core.Path.{_≡_}
 use native.Mathlib.Omega.{arith}
 use lib.ListN.{length, replicate}
+use Rattle.field.specs.Fields.{Field, Within}
 use Rattle.ring.specs.Ring.{Ops}
 use Rattle.field.specs.declared.QuadFelt.{QuadFelt}
-use Rattle.field.specs.Field.{p}
 use Rattle.dag.specs.Nodes.{nodes, wordsOf, filled, blank}
 use Rattle.dag.specs.NodeLaws.{length-nodes}
 use Rattle.dag.specs.Check.{listCheck}
-use Rattle.dag.specs.CheckLaws.{Within}
 use Rattle.dag.specs.PassLaws.{Rooted, rooted}
 use Rattle.dag.specs.StoreLaws.{sound-well-formed}
 use Rattle.dag.specs.WellFormed.{WellFormed}
@@ -29,65 +28,66 @@ use Rattle.compact.specs.CallLaws.{tests}
 use Rattle.compact.specs.Contracts.{AllBelow}
 use Rattle.compact.specs.declared.Kept.{Kept}
 
-module _ (s : List ℕ) (n at-root : ℕ) (result : List ℕ) (e : compactCheck s n at-root (length result) ≡ Good) where
-  -- the answer and the result store
-  abbrev kept : Kept
-  kept = keptOf (compacted s n at-root)
+module _ (field : Field) where
+  module _ (s : List ℕ) (n at-root : ℕ) (result : List ℕ) (e : compactCheck field s n at-root (length result) ≡ Good) where
+    -- the answer and the result store
+    abbrev kept : Kept
+    kept = keptOf (compacted s n at-root)
 
-  abbrev store : List ℕ
-  store = compactResult s n at-root result
+    abbrev store : List ℕ
+    store = compactResult field s n at-root result
 
-  passed : Rooted p s n at-root
-  passed = rooted p s n at-root (tests s n at-root result e .0)
+    passed : Rooted (field .bounds) s n at-root
+    passed = rooted (field .bounds) s n at-root (tests field s n at-root result e .0)
 
-  well-formed : WellFormed (Within p) (nodes s n)
-  well-formed = sound-well-formed p s n (passed .list .sound)
+    well-formed : WellFormed (Within (field .bounds)) (nodes s n)
+    well-formed = sound-well-formed (field .bounds) s n (passed .list .sound)
 
-  inside : AllBelow (length (nodes s n)) (at-root ∷ [])
-  inside = one-below (length (nodes s n)) at-root (omega (arith, length-nodes s n, passed .inside))
+    inside : AllBelow (length (nodes s n)) (at-root ∷ [])
+    inside = one-below (length (nodes s n)) at-root (omega (arith, length-nodes s n, passed .inside))
 
-  begins : store ≡ wordsOf (compacted s n at-root .list) ++ replicate (length result - length (wordsOf (compacted s n at-root .list))) blank
-  unfolding compactResult filled
-  begins = rw e
+    begins : store ≡ wordsOf (compacted s n at-root .list) ++ replicate (length result - length (wordsOf (compacted s n at-root .list))) blank
+    unfolding compactResult filled
+    begins = rw e
 
-  -- it holds the compacted list
-  pub answer-list : nodes store (kept .count) ≡ compacted s n at-root .list
-  unfolding keptOf
-  answer-list = rw begins (nodes-words (replicate (length result - length (wordsOf (compacted s n at-root .list))) blank) (compacted s n at-root .list))
+    -- it holds the compacted list
+    pub answer-list : nodes store (kept .count) ≡ compacted s n at-root .list
+    unfolding keptOf
+    answer-list = rw begins (nodes-words (replicate (length result - length (wordsOf (compacted s n at-root .list))) blank) (compacted s n at-root .list))
 
-  -- it passes the list check
-  pub answer-passes : listCheck p store (kept .count) (kept .root) ≡ Good
-  unfolding keptOf compacted compact
-  answer-passes =
-      rw begins
-      (words-pass (replicate (length result - length (wordsOf (compacted s n at-root .list))) blank) p (compacted s n at-root .list)
-      (compact-well-formed (nodes s n) (at-root ∷ []) (Within p) well-formed inside) (kept .root)
-      (compact-inside (nodes s n) (at-root ∷ []) (Within p) well-formed inside (kept .root) here)
-      (omega (arith, compact-short (nodes s n) (at-root ∷ []), length-nodes s n, passed .list .most)))
+    -- it passes the list check
+    pub answer-passes : listCheck (field .bounds) store (kept .count) (kept .root) ≡ Good
+    unfolding keptOf compacted compact
+    answer-passes =
+        rw begins
+        (words-pass (replicate (length result - length (wordsOf (compacted s n at-root .list))) blank) (field .bounds) (compacted s n at-root .list)
+        (compact-well-formed (nodes s n) (at-root ∷ []) (Within (field .bounds)) well-formed inside) (kept .root)
+        (compact-inside (nodes s n) (at-root ∷ []) (Within (field .bounds)) well-formed inside (kept .root) here)
+        (omega (arith, compact-short (nodes s n) (at-root ∷ []), length-nodes s n, passed .list .most)))
 
-  root-value : (F : Ops QuadFelt) (given : ℕ → QuadFelt) → value F given (compacted s n at-root .list) (kept .root) ≡ value F given (nodes s n) at-root
-  unfolding keptOf compacted compact
-  root-value F given = compact-value (nodes s n) (at-root ∷ []) (Within p) well-formed inside F given at-root (root here)
+    root-value : (F : Ops QuadFelt) (given : ℕ → QuadFelt) → value F given (compacted s n at-root .list) (kept .root) ≡ value F given (nodes s n) at-root
+    unfolding keptOf compacted compact
+    root-value F given = compact-value (nodes s n) (at-root ∷ []) (Within (field .bounds)) well-formed inside F given at-root (root here)
 
-  -- the root's value is kept, over any ring and any elements given to the keys
-  pub answer-value : (F : Ops QuadFelt) (given : ℕ → QuadFelt) → value F given (nodes store (kept .count)) (kept .root) ≡ value F given (nodes s n) at-root
-  answer-value F given = rw answer-list (root-value F given)
+    -- the root's value is kept, over any ring and any elements given to the keys
+    pub answer-value : (F : Ops QuadFelt) (given : ℕ → QuadFelt) → value F given (nodes store (kept .count)) (kept .root) ≡ value F given (nodes s n) at-root
+    answer-value F given = rw answer-list (root-value F given)
 
-  -- never more records than before
-  pub answer-count : kept .count ≤ n
-  unfolding keptOf compacted
-  answer-count = omega (arith, compact-short (nodes s n) (at-root ∷ []), length-nodes s n)
+    -- never more records than before
+    pub answer-count : kept .count ≤ n
+    unfolding keptOf compacted
+    answer-count = omega (arith, compact-short (nodes s n) (at-root ∷ []), length-nodes s n)
 
-  -- as many as before exactly when the root reaches all
-  pub answer-whole : (kept .count ≡ n) ↔ ((i : ℕ) → i < n → Reach (nodes s n) (at-root ∷ []) i)
-  unfolding keptOf compacted
-  answer-whole = rw (length-nodes s n) at (compact-count (nodes s n) (at-root ∷ []) (Within p) well-formed inside)
+    -- as many as before exactly when the root reaches all
+    pub answer-whole : (kept .count ≡ n) ↔ ((i : ℕ) → i < n → Reach (nodes s n) (at-root ∷ []) i)
+    unfolding keptOf compacted
+    answer-whole = rw (length-nodes s n) at (compact-count (nodes s n) (at-root ∷ []) (Within (field .bounds)) well-formed inside)
 
-  twice : compact (compacted s n at-root .list) (kept .root ∷ []) ≡ compacted s n at-root
-  unfolding keptOf compacted compact
-  twice = compact-twice (Within p) (nodes s n) (at-root ∷ []) well-formed inside
+    twice : compact (compacted s n at-root .list) (kept .root ∷ []) ≡ compacted s n at-root
+    unfolding keptOf compacted compact
+    twice = compact-twice (Within (field .bounds)) (nodes s n) (at-root ∷ []) well-formed inside
 
-  -- compacting the answer changes nothing more
-  pub answer-again : compacted store (kept .count) (kept .root) ≡ compacted s n at-root
-  unfolding compacted
-  answer-again = rw answer-list twice
+    -- compacting the answer changes nothing more
+    pub answer-again : compacted store (kept .count) (kept .root) ≡ compacted s n at-root
+    unfolding compacted
+    answer-again = rw answer-list twice

@@ -7,12 +7,12 @@ use native.Mathlib.Omega.{arith}
 use borrow.Author.Tests.{leb-true}
 use lib.Dec.{leb}
 use lib.ListN.{getD, length, take, drop, replicate, length-replicate}
-use Rattle.field.specs.Field.{p}
+use Rattle.field.specs.Fields.{Field, Within}
 use Rattle.dag.specs.Nodes.{mostRecords, nodes, blank}
 use Rattle.dag.specs.NodeLaws.{length-nodes}
 use Rattle.dag.specs.Refusals.{need}
 use Rattle.dag.specs.Check.{listCheck}
-use Rattle.dag.specs.CheckLaws.{Within, then-good, need-good}
+use Rattle.dag.specs.CheckLaws.{then-good, need-good}
 use Rattle.dag.specs.PassLaws.{rooted}
 use Rattle.dag.specs.StoreLaws.{sound-well-formed}
 use Rattle.dag.specs.declared.Refusal.{Refusal}
@@ -36,7 +36,7 @@ kept-of count root = record { count = count; root = root }
 module _ (s : List ℕ) (n root k : ℕ) (g : Markable s n root k) (m : List Bool) (e : m ≡ sweep (nodes s n) n (marked (replicate k false) (root ∷ []))) where
   same : Same m (marks (nodes s n) (root ∷ []))
   same =
-      sweep-same (Within p) (nodes s n) (sound-well-formed p s n (g .sound)) (root ∷ [])
+      sweep-same (Within (g .sound .0)) (nodes s n) (sound-well-formed (g .sound .0) s n (g .sound .1)) (root ∷ [])
       (one-below (length (nodes s n)) root (omega (arith, length-nodes s n, g .inside))) k (omega (arith, length-nodes s n, g .fits)) m
       (rw (length-nodes s n) e)
 
@@ -86,47 +86,48 @@ numbered s n root m reach map after r g u fits er el ec ea es =
       },
     )
 
-module _ (s : List ℕ) (n root : ℕ) (result : List ℕ) where
-  -- where Compact refuses
-  module _ (r : Refusal) (e : compactCheck s n root (length result) ≡ Checked'.Refused r) where
-    pub answer-refused : Refused r ≡ compactAnswer s n root (length result)
-    unfolding compactAnswer
-    answer-refused = rw e
-
-    pub result-refused : result ≡ compactResult s n root result
-    unfolding compactResult
-    result-refused = rw e
-
-  -- where Compact accepts
-  module _ (e : compactCheck s n root (length result) ≡ Checked'.Good) where
-    pub tests : (listCheck p s n root ≡ Checked'.Good) × (need (leb (3 * n) (length result)) StoreTooShort ≡ Checked'.Good)
-    unfolding compactCheck
-    tests = then-good (listCheck p s n root) (need (leb (3 * n) (length result)) StoreTooShort) e
-
-    pub room : 3 * length (compacted s n root .list) ≤ length result
-    unfolding compacted
-    room =
-        let h = leb-true (3 * n) (length result) (need-good (leb (3 * n) (length result)) StoreTooShort (tests .1)) in
-        omega (arith, compact-short (nodes s n) (root ∷ []), length-nodes s n)
-
-    pub may-compact : Markable s n root mostRecords × (3 * length (compacted s n root .list) ≤ length result)
-    may-compact =
-        let h = rooted p s n root (tests .0) in
-        (record { sound = h .list .sound; inside = h .inside; fits = omega (arith, h .list .most) }, room)
-
-    module _ (k : Kept) (q : k ≡ keptOf (compacted s n root)) where
-      pub answer-done : Done (k .count) (k .root) ≡ compactAnswer s n root (length result)
+module _ (field : Field) where
+  module _ (s : List ℕ) (n root : ℕ) (result : List ℕ) where
+    -- where Compact refuses
+    module _ (r : Refusal) (e : compactCheck field s n root (length result) ≡ Checked'.Refused r) where
+      pub answer-refused : Refused r ≡ compactAnswer field s n root (length result)
       unfolding compactAnswer
-      answer-done = rw (e, q)
+      answer-refused = rw e
 
-      count-is : k .count ≡ length (compacted s n root .list)
-      unfolding keptOf
-      count-is = ap (λ k. k .count) q
+      pub result-refused : result ≡ compactResult field s n root result
+      unfolding compactResult
+      result-refused = rw e
 
-      module _ (mid : List ℕ) (w : mid ≡ written result (compacted s n root .list)) where
-        pub may-blank : 3 * k .count ≤ length mid
-        may-blank = rw (w, count-is, length-written result (compacted s n root .list) room) room
+    -- where Compact accepts
+    module _ (e : compactCheck field s n root (length result) ≡ Checked'.Good) where
+      pub tests : (listCheck (field .bounds) s n root ≡ Checked'.Good) × (need (leb (3 * n) (length result)) StoreTooShort ≡ Checked'.Good)
+      unfolding compactCheck
+      tests = then-good (listCheck (field .bounds) s n root) (need (leb (3 * n) (length result)) StoreTooShort) e
 
-        pub result-done : (after : List ℕ) → after ≡ take (3 * k .count) mid ++ replicate (length mid - 3 * k .count) blank → after ≡ compactResult s n root result
-        unfolding compactResult
-        result-done after f = f ∙ rw (e, w, count-is) (written-filled result (compacted s n root .list) room)
+      pub room : 3 * length (compacted s n root .list) ≤ length result
+      unfolding compacted
+      room =
+          let h = leb-true (3 * n) (length result) (need-good (leb (3 * n) (length result)) StoreTooShort (tests .1)) in
+          omega (arith, compact-short (nodes s n) (root ∷ []), length-nodes s n)
+
+      pub may-compact : Markable s n root mostRecords × (3 * length (compacted s n root .list) ≤ length result)
+      may-compact =
+          let h = rooted (field .bounds) s n root (tests .0) in
+          (record { sound = (field .bounds, h .list .sound); inside = h .inside; fits = omega (arith, h .list .most) }, room)
+
+      module _ (k : Kept) (q : k ≡ keptOf (compacted s n root)) where
+        pub answer-done : Done (k .count) (k .root) ≡ compactAnswer field s n root (length result)
+        unfolding compactAnswer
+        answer-done = rw (e, q)
+
+        count-is : k .count ≡ length (compacted s n root .list)
+        unfolding keptOf
+        count-is = ap (λ k. k .count) q
+
+        module _ (mid : List ℕ) (w : mid ≡ written result (compacted s n root .list)) where
+          pub may-blank : 3 * k .count ≤ length mid
+          may-blank = rw (w, count-is, length-written result (compacted s n root .list) room) room
+
+          pub result-done : (after : List ℕ) → after ≡ take (3 * k .count) mid ++ replicate (length mid - 3 * k .count) blank → after ≡ compactResult field s n root result
+          unfolding compactResult
+          result-done after f = f ∙ rw (e, w, count-is) (written-filled result (compacted s n root .list) room)

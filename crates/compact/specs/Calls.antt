@@ -3,7 +3,7 @@ use Prim.Native.Nat.{ℕ, _*_}
 use mathlib.Core.List.{List, [], _∷_}
 use lib.Dec.{leb}
 use lib.ListN.{getD, length}
-use Rattle.field.specs.Field.{p}
+use Rattle.field.specs.Fields.{Field}
 use Rattle.dag.specs.Nodes.{nodes, wordsOf, filled}
 use Rattle.dag.specs.Refusals.{need, _then_, unlessRefused}
 use Rattle.dag.specs.Check.{listCheck}
@@ -22,17 +22,18 @@ compacted s n root = compact (nodes s n) (root ∷ [])
 unfoldable pub keptOf : Rooted → Kept
 keptOf r = record { count = length (r .list); root = getD (r .roots) 0 0 }
 
--- Compact's tests: the list check, then the result store
-unfoldable pub compactCheck : List ℕ → ℕ → ℕ → ℕ → Checked
-compactCheck s n root resultWords = listCheck p s n root then need (leb (3 * n) resultWords) StoreTooShort
+module _ (field : Field) where
+  -- Compact's tests: the list check, then the result store
+  unfoldable pub compactCheck : List ℕ → ℕ → ℕ → ℕ → Checked
+  compactCheck s n root resultWords = listCheck (field .bounds) s n root then need (leb (3 * n) resultWords) StoreTooShort
 
--- count and root
-unfoldable pub compactAnswer : List ℕ → ℕ → ℕ → ℕ → Compacted
-compactAnswer s n root resultWords =
-    let k = keptOf (compacted s n root) in
-    unlessRefused (compactCheck s n root resultWords) Refused (Done (k .count) (k .root))
+  -- count and root
+  unfoldable pub compactAnswer : List ℕ → ℕ → ℕ → ℕ → Compacted
+  compactAnswer s n root resultWords =
+      let k = keptOf (compacted s n root) in
+      unlessRefused (compactCheck s n root resultWords) Refused (Done (k .count) (k .root))
 
--- the compacted list, blanks behind it
-unfoldable pub compactResult : List ℕ → ℕ → ℕ → List ℕ → List ℕ
-compactResult s n root result =
-    unlessRefused (compactCheck s n root (length result)) (λ r. result) (filled (length result) (wordsOf (compacted s n root .list)))
+  -- the compacted list, blanks behind it
+  unfoldable pub compactResult : List ℕ → ℕ → ℕ → List ℕ → List ℕ
+  compactResult s n root result =
+      unlessRefused (compactCheck s n root (length result)) (λ r. result) (filled (length result) (wordsOf (compacted s n root .list)))

@@ -4,9 +4,8 @@ use mathlib.Core.Bool.{Bool, false}
 use mathlib.Core.List.{List, [], _∷_, _++_}
 use mathlib.Core.Path.{_≡_}
 use lib.ListN.{getD, length, drop, replicate}
-use Rattle.field.specs.Field.{p}
 use Rattle.dag.specs.Nodes.{nodes}
-use Rattle.dag.specs.Store.{Sound}
+use Rattle.dag.specs.Store.{Records}
 use Rattle.compact.specs.Compact.{rank, ranks}
 use Rattle.compact.specs.Reach.{marked, sweep, _∈_}
 
@@ -18,9 +17,9 @@ mostMarks = 8192
 abbrev pub Unmarked : List Bool → Type 0
 Unmarked m = m ≡ replicate mostMarks false
 
--- n records that pass the list check, a root among them, and k marks for them
+-- n records that decode, a root among them, and k marks for them
 pub record Markable (s : List ℕ) (n root k : ℕ) : Type 0 where
-  pub sound : Sound p s n
+  pub sound : Records s n
   pub inside : root < n
   pub fits : n ≤ k
 
@@ -29,9 +28,9 @@ pub record Remaps (map : List ℕ) (m : List Bool) (n : ℕ) : Type 0 where
   pub fits : n ≤ length map
   pub places : (i : ℕ) → i < n → getD map i 0 ≡ rank m i
 
--- n records that pass the list check, marks and new places for each, and room for those marked in a store of k words
+-- n records that decode, marks and new places for each, and room for those marked in a store of k words
 pub record Writing (s : List ℕ) (n : ℕ) (m : List Bool) (map : List ℕ) (k : ℕ) : Type 0 where
-  pub sound : Sound p s n
+  pub sound : Records s n
   pub marks : n ≤ length m
   pub remaps : Remaps map m n
   pub room : 3 * rank m n ≤ k

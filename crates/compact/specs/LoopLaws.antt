@@ -6,11 +6,10 @@ use mathlib.Core.Path.{_≡_, refl, _∙_}
 use native.Mathlib.Numerals.{add-one, sub-one}
 use native.Mathlib.Omega.{arith}
 use lib.ListN.{getD, length}
-use Rattle.field.specs.Field.{p}
+use Rattle.field.specs.Fields.{Within}
 use Rattle.dag.specs.Nodes.{nodes, at, operands, rename, recordAt}
 use Rattle.dag.specs.NodeLaws.{at-nodes}
-use Rattle.dag.specs.CheckLaws.{Within}
-use Rattle.dag.specs.Store.{Sound, put, written}
+use Rattle.dag.specs.Store.{Records, put, written}
 use Rattle.dag.specs.StoreLaws.{sound-well-formed}
 use Rattle.dag.specs.WellFormed.{Any, Fine, WellFormed}
 use Rattle.dag.specs.WellFormedLaws.{fine-mono, fine-any}
@@ -24,18 +23,18 @@ use Rattle.dag.specs.WordLaws.{written-put}
 use Rattle.compact.specs.Contracts.{Writing, AllBelow}
 
 -- the operands of a record that passes are inside a longer array
-pub operands-inside : (s : List ℕ) (n i k : ℕ) (x : NodeKind) → Sound p s n → i < n → n ≤ k → x ≡ recordAt s i → AllBelow k (operands x)
+pub operands-inside : (s : List ℕ) (n i k : ℕ) (x : NodeKind) → Records s n → i < n → n ≤ k → x ≡ recordAt s i → AllBelow k (operands x)
 unfolding WellFormed
 operands-inside s n i k x sound h long e =
     rw (e, ← at-nodes s n i h)
-    λ j q. let b = operands-below (Within p) i (at (nodes s n) i) (sound-well-formed p s n sound i) j q in omega arith
+    λ j q. let b = operands-below (Within (sound .0)) i (at (nodes s n) i) (sound-well-formed (sound .0) s n (sound .1) i) j q in omega arith
 
 -- so may the record stand behind them
-pub record-fine : (s : List ℕ) (n i k : ℕ) (x : NodeKind) → Sound p s n → i < n → n ≤ k → x ≡ recordAt s i → Fine Any k x
+pub record-fine : (s : List ℕ) (n i k : ℕ) (x : NodeKind) → Records s n → i < n → n ≤ k → x ≡ recordAt s i → Fine Any k x
 unfolding WellFormed
 record-fine s n i k x sound h long e =
     rw (e, ← at-nodes s n i h)
-    (fine-any (Within p) k (at (nodes s n) i) (fine-mono (Within p) i k (at (nodes s n) i) (omega arith) (sound-well-formed p s n sound i)))
+    (fine-any (Within (sound .0)) k (at (nodes s n) i) (fine-mono (Within (sound .0)) i k (at (nodes s n) i) (omega arith) (sound-well-formed (sound .0) s n (sound .1) i)))
 
 -- one place of the sweep
 sweep-step : (l : List NodeKind) (i : ℕ) (m : List Bool) → 0 < i
@@ -66,7 +65,7 @@ module _ (s : List ℕ) (n : ℕ) (m : List Bool) (map d : List ℕ) (w : Writin
   renamed x y e f =
       f ∙ (rw (e, ← at-nodes s n i h)
       (rename-cong (λ j. getD map j 0) (rank m) (at (nodes s n) i)
-      λ j q. let b = operands-below (Within p) i (at (nodes s n) i) (sound-well-formed p s n (w .sound) i) j q in w .remaps .places j (omega arith)))
+      λ j q. let b = operands-below (Within (w .sound .0)) i (at (nodes s n) i) (sound-well-formed (w .sound .0) s n (w .sound .1) i) j q in w .remaps .places j (omega arith)))
 
   pub write-kept : (r : List ℕ) (x y : NodeKind) → r ≡ written d (kept (nodes s n) m i) → Marked m i → x ≡ recordAt s i → y ≡ rename (λ j. getD map j 0) x
       → put r (getD map i 0) y ≡ written d (kept (nodes s n) m (i + 1))

@@ -6,6 +6,7 @@ ghost use mathlib.Core.Path.{_≡_};
 ghost use mathlib.Core.List.{[], _∷_, _++_};
 ghost use Prim.Native.Nat.{_*_, _≤_};
 ghost use lib.ListN.{length, drop};
+ghost use Rattle.field.specs.Fields.{goldilocks};
 ghost use Rattle.dag.specs.Nodes as Nodes;
 ghost use Rattle.compact.specs.Reach as Reach;
 ghost use Rattle.compact.specs.Compact as Places;
@@ -155,7 +156,7 @@ fn compact_sized(list: &[u64], n: usize, root: usize, result: &mut [u64]) -> Kep
 
 // Compact's tests.
 fn compact_check(list: &[u64], n: usize, root: usize, result_words: usize) -> Checked
-    ensures { λ r. ⌜ r ≡ Calls.compactCheck (now (list .entry)) n root «result_words» ⌝ }
+    ensures { λ r. ⌜ r ≡ Calls.compactCheck goldilocks (now (list .entry)) n root «result_words» ⌝ }
 {
     let checked = dag::list_check(list, n, root);
     if dag::is_refused(checked) {
@@ -169,8 +170,8 @@ fn compact_check(list: &[u64], n: usize, root: usize, result_words: usize) -> Ch
 
 // Compact: the records that the root reaches, in order, into the result store.
 pub fn compact(list: &[u64], n: usize, root: usize, result: &mut [u64]) -> Compacted
-    ensures answer { λ r. ⌜ r ≡ Calls.compactAnswer (now (list .entry)) n root (length (now (result .entry))) ⌝ }
-    ensures store { λ _. ⌜ now (result .exit) ≡ Calls.compactResult (now (list .entry)) n root (now (result .entry)) ⌝ }
+    ensures answer { λ r. ⌜ r ≡ Calls.compactAnswer goldilocks (now (list .entry)) n root (length (now (result .entry))) ⌝ }
+    ensures store { λ _. ⌜ now (result .exit) ≡ Calls.compactResult goldilocks (now (list .entry)) n root (now (result .entry)) ⌝ }
 {
     let checked = compact_check(list, n, root, result.len());
     match checked {

@@ -4,16 +4,18 @@ use mathlib.Core.Bool.{Bool, true, false, cond, _&&_, true≢false}
 use mathlib.Core.List.{List}
 use mathlib.Core.Logic.{_⊎_, inl, inr}
 use mathlib.Core.Path.{_≡_, refl, sym, _∙_, ap}
+use native.Mathlib.Numerals.{add-one}
 use native.Mathlib.Omega.{arith}
 use borrow.Author.Tests.{lt-ltb, le-leb, eqb-true, leb-true, ltb-true}
 use lib.Dec.{leb, ltb, eqb}
 use lib.ListN.{getD, length}
 use Rattle.field.specs.declared.QuadFelt.{QuadFelt}
+use Rattle.field.specs.Fields.{Bounds, Within}
 use Rattle.dag.specs.Keys.{isKey}
 use Rattle.dag.specs.Nodes.{tag, first, second, decode, recordAt, nodes, at}
 use Rattle.dag.specs.NodeLaws.{length-nodes, at-nodes}
 use Rattle.dag.specs.CaseLaws.{and-true, below-suc, below-suc-elim, cond-elim}
-use Rattle.dag.specs.Refusals.{need, _then_, isRefused}
+use Rattle.dag.specs.Refusals.{need, _then_, isRefused, firstRefused}
 use Rattle.dag.specs.Check.{formed, earlier, recordCheck, checkAt, recordsCheck}
 use Rattle.dag.specs.WellFormed.{Fine, WellFormed}
 use Rattle.dag.specs.WellFormedLaws.{well-formed-below}
@@ -25,8 +27,6 @@ use Rattle.dag.specs.declared.Checked.{Checked}
 use Rattle.dag.specs.declared.Checked.the-variants.{Good, Refused}
 
 -- both coordinates below m
-abbrev pub Within : ℕ → QuadFelt → Type 0
-Within m c = (c .c0 < m) × (c .c1 < m)
 
 pub then-good : (c d : Checked) → c then d ≡ Good → (c ≡ Good) × (d ≡ Good)
 then-good Good d e = (refl, e)
@@ -52,35 +52,46 @@ pub bad-told : {r d : Checked} {b : Bool} → r ≡ d → b ≡ isRefused r → 
 bad-told e f g = ap isRefused (sym e) ∙ (sym f ∙ g)
 
 -- the first n records one by one
-module _ (m : ℕ) (s : List ℕ) where
-  pub check-next : (i : ℕ) → recordsCheck m s i ≡ Good → recordsCheck m s (suc i) ≡ checkAt m s i
-  unfolding recordsCheck
-  check-next i e = rw e
+-- a test at the places below n, one by one
+module _ (test : ℕ → Checked) where
+  pub first-none : firstRefused test 0 ≡ Good
+  unfolding firstRefused
+  first-none = refl
 
-  -- a bad record after good ones is the first bad record of any longer list
-  pub stops-here : (i n : ℕ) → recordsCheck m s i ≡ Good → isRefused (checkAt m s i) ≡ true → i < n → checkAt m s i ≡ recordsCheck m s n
-  unfolding recordsCheck
-  stops-here i zero good bad h = absurd (omega arith)
-  stops-here i (suc n) good bad h = go (λ k. stops-here i n good bad k) (below-suc i n h)
+  pub first-next : (i : ℕ) → firstRefused test i ≡ Good → test i ≡ Good → firstRefused test (i + 1) ≡ Good
+  unfolding firstRefused
+  first-next i e f = rw (add-one i, e) f
+
+  -- a refusal after good tests is the first of any longer run
+  pub first-bad : (i n : ℕ) → firstRefused test i ≡ Good → isRefused (test i) ≡ true → i < n → test i ≡ firstRefused test n
+  unfolding firstRefused
+  first-bad i zero good bad h = absurd (omega arith)
+  first-bad i (suc n) good bad h = go (λ k. first-bad i n good bad k) (below-suc i n h)
     where
-      go : (i < n → checkAt m s i ≡ recordsCheck m s n) → (i < n) ⊎ (i ≡ n) → checkAt m s i ≡ recordsCheck m s n then checkAt m s n
-      go before (inl k) = refused-then (checkAt m s i) (checkAt m s n) bad ∙ ap (λ c. c then checkAt m s n) (before k)
+      go : (i < n → test i ≡ firstRefused test n) → (i < n) ⊎ (i ≡ n) → test i ≡ firstRefused test n then test n
+      go before (inl k) = refused-then (test i) (test n) bad ∙ ap (λ c. c then test n) (before k)
       go before (inr e) = rw (← e, good)
 
-  pub good-before : (n : ℕ) → recordsCheck m s n ≡ Good → (i : ℕ) → i < n → checkAt m s i ≡ Good
-  unfolding recordsCheck
-  good-before zero e i h = absurd (omega arith)
-  good-before (suc n) e i h =
-      let both = then-good (recordsCheck m s n) (checkAt m s n) e in
-      below-suc-elim (λ i. checkAt m s i ≡ Good) n (good-before n (both .0)) (both .1) i h
+  pub first-stop : (i n : ℕ) (r : Refusal) → firstRefused test i ≡ Good → test i ≡ Refused r → i < n → Refused r ≡ firstRefused test n
+  first-stop i n r good bad h = sym bad ∙ first-bad i n good (rw bad) h
+
+  pub first-good : (n : ℕ) → firstRefused test n ≡ Good → (i : ℕ) → i < n → test i ≡ Good
+  unfolding firstRefused
+  first-good zero e i h = absurd (omega arith)
+  first-good (suc n) e i h =
+      let both = then-good (firstRefused test n) (test n) e in
+      below-suc-elim (λ i. test i ≡ Good) n (first-good n (both .0)) (both .1) i h
+
+  pub first-all : (i n : ℕ) → firstRefused test i ≡ Good → i ≤ n → n ≤ i → Good ≡ firstRefused test n
+  first-all i n e h k = let q : i ≡ n = omega arith in sym e ∙ ap (firstRefused test) q
 
 -- the three tests of one record
-pub record Passed (m t a b i : ℕ) : Type 0 where
+pub record Passed (m : Bounds) (t a b i : ℕ) : Type 0 where
   pub known : t ≤ 5
   pub form : formed m t a b ≡ true
   pub order : earlier t a b i ≡ true
 
-pub passed : (m t a b i : ℕ) → recordCheck m t a b i ≡ Good → Passed m t a b i
+pub passed : (m : Bounds) (t a b i : ℕ) → recordCheck m t a b i ≡ Good → Passed m t a b i
 unfolding recordCheck
 passed m t a b i e =
     let one = then-good (need (leb t 5) (UnknownTag i)) (need (formed m t a b) (Malformed i) then need (earlier t a b i) (OperandNotEarlier i)) e in
@@ -91,25 +102,25 @@ passed m t a b i e =
       order = need-good (earlier t a b i) (OperandNotEarlier i) (two .1);
     }
 
-pub passes : (m t a b i : ℕ) → Passed m t a b i → recordCheck m t a b i ≡ Good
+pub passes : (m : Bounds) (t a b i : ℕ) → Passed m t a b i → recordCheck m t a b i ≡ Good
 unfolding recordCheck
 passes m t a b i h = simp (le-leb t 5 (h .known), h .form, h .order)
 
 -- the record of words that pass has those words, and may stand there
-pub record Faithful (m t a b i : ℕ) : Type 0 where
+pub record Faithful (m : Bounds) (t a b i : ℕ) : Type 0 where
   pub tag-is : tag (decode t a b) ≡ t
   pub first-is : first (decode t a b) ≡ a
   pub second-is : second (decode t a b) ≡ b
   pub fine : Fine (Within m) i (decode t a b)
 
-pub faithful : (m t a b i : ℕ) → Passed m t a b i → Faithful m t a b i
+pub faithful : (m : Bounds) (t a b i : ℕ) → Passed m t a b i → Faithful m t a b i
 unfolding formed earlier decode Fine
 faithful m zero a b i h =
     let e = and-true (isKey a) (eqb b 0) (h .form) in
     record { tag-is = refl; first-is = refl; second-is = sym (eqb-true b 0 (e .1)); fine = e .0 }
 faithful m (suc zero) a b i h =
-    let e = and-true (ltb a m) (ltb b m) (h .form) in
-    record { tag-is = refl; first-is = refl; second-is = refl; fine = (ltb-true a m (e .0), ltb-true b m (e .1)) }
+    let e = and-true (ltb a (m .c0-below)) (ltb b (m .c1-below)) (h .form) in
+    record { tag-is = refl; first-is = refl; second-is = refl; fine = (ltb-true a (m .c0-below) (e .0), ltb-true b (m .c1-below) (e .1)) }
 faithful m (suc (suc zero)) a b i h =
     let e = and-true (ltb a i) (ltb b i) (h .order) in
     record { tag-is = refl; first-is = refl; second-is = refl; fine = (ltb-true a i (e .0), ltb-true b i (e .1)) }
@@ -124,19 +135,19 @@ faithful m (suc (suc (suc (suc (suc zero))))) a b i h =
 faithful m (suc (suc (suc (suc (suc (suc t)))))) a b i h = let k : suc (suc (suc (suc (suc (suc t))))) ≤ 5 = h .known in absurd (omega arith)
 
 -- a record that may stand at place i passes
-pub fine-passes : (m i : ℕ) (x : NodeKind) → Fine (Within m) i x → Passed m (tag x) (first x) (second x) i
+pub fine-passes : (m : Bounds) (i : ℕ) (x : NodeKind) → Fine (Within m) i x → Passed m (tag x) (first x) (second x) i
 unfolding formed earlier Fine
 fine-passes m i (Input k) f = record { known = omega arith; form = rw f; order = refl }
-fine-passes m i (Constant c) f = record { known = omega arith; form = rw (lt-ltb (c .c0) m (f .0), lt-ltb (c .c1) m (f .1)); order = refl }
+fine-passes m i (Constant c) f = record { known = omega arith; form = rw (lt-ltb (c .c0) (m .c0-below) (f .0), lt-ltb (c .c1) (m .c1-below) (f .1)); order = refl }
 fine-passes m i (Add a b) f = record { known = omega arith; form = refl; order = rw (lt-ltb a i (f .0), lt-ltb b i (f .1)) }
 fine-passes m i (Sub a b) f = record { known = omega arith; form = refl; order = rw (lt-ltb a i (f .0), lt-ltb b i (f .1)) }
 fine-passes m i (Mul a b) f = record { known = omega arith; form = refl; order = rw (lt-ltb a i (f .0), lt-ltb b i (f .1)) }
 fine-passes m i (Neg a) f = record { known = omega arith; form = refl; order = rw (lt-ltb a i f) }
 
 -- a list that passes is well-formed
-pub check-well-formed : (m : ℕ) (s : List ℕ) (n : ℕ) → recordsCheck m s n ≡ Good → WellFormed (Within m) (nodes s n)
+pub check-well-formed : (m : Bounds) (s : List ℕ) (n : ℕ) → recordsCheck m s n ≡ Good → WellFormed (Within m) (nodes s n)
 unfolding checkAt recordAt
 check-well-formed m s n e =
     well-formed-below (Within m) (nodes s n) λ i h.
     let k : i < n = omega (arith, length-nodes s n) in
-    rw (at-nodes s n i k) (faithful m _ _ _ i (passed m _ _ _ i (good-before m s n e i k)) .fine)
+    rw (at-nodes s n i k) (faithful m _ _ _ i (passed m _ _ _ i (first-good (checkAt m s) n e i k)) .fine)

@@ -7,7 +7,7 @@ use mathlib.Core.Path.{_≡_, refl, subst}
 use native.Mathlib.Omega.{arith}
 use lib.ListN.{length}
 use Rattle.dag.specs.Nodes.{at, sameNode}
-use Rattle.dag.specs.Lookup.{lookup}
+use Rattle.dag.specs.Lookup.{greatest, lookup}
 use Rattle.dag.specs.NodeLaws.{sameNode-true, eq-sameNode, at-left}
 use Rattle.dag.specs.CaseLaws.{not-both, below-suc-elim}
 use Rattle.dag.specs.declared.NodeKind.{NodeKind}
@@ -24,7 +24,7 @@ Says l x n (At j) = (j < n) × (at l j ≡ x) × NoneFrom (suc j) n l x
 Says l x n Missing = NoneFrom 0 n l x
 
 pub lookup-says : (l : List NodeKind) (x : NodeKind) (n : ℕ) → Says l x n (lookup l x n)
-unfolding lookup
+unfolding greatest
 lookup-says l x zero = λ i h k q. absurd (omega arith)
 lookup-says l x (suc n) = go (sameNode (at l n) x) refl (lookup l x n) (lookup-says l x n)
   where
@@ -49,6 +49,6 @@ lookup-missing l x n = (λ e. subst (Says l x n) e (lookup-says l x n), λ none.
 
 -- records behind place n don't matter
 pub lookup-append : (l t : List NodeKind) (x : NodeKind) (n : ℕ) → n ≤ length l → lookup (l ++ t) x n ≡ lookup l x n
-unfolding lookup
+unfolding greatest
 lookup-append l t x zero h = refl
 lookup-append l t x (suc n) h = rw (at-left l t n h, lookup-append l t x n (omega arith))

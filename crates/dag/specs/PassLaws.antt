@@ -6,6 +6,7 @@ use mathlib.Core.Path.{_≡_}
 use borrow.Author.Tests.{leb-true, ltb-true}
 use lib.Dec.{leb, ltb}
 use lib.ListN.{length}
+use Rattle.field.specs.Fields.{Bounds}
 use Rattle.dag.specs.Nodes.{mostRecords}
 use Rattle.dag.specs.CaseLaws.{and-true}
 use Rattle.dag.specs.Refusals.{need, _then_}
@@ -16,12 +17,12 @@ use Rattle.dag.specs.declared.Refusal.the-variants.{CountOutOfRange, Sto
 use Rattle.dag.specs.declared.Checked.the-variants.{Good}
 
 -- a list without a root
-pub record Listed (m : ℕ) (s : List ℕ) (least n : ℕ) : Type 0 where
+pub record Listed (m : Bounds) (s : List ℕ) (least n : ℕ) : Type 0 where
   pub sound : Sound m s n
   pub enough : least ≤ n
   pub most : n ≤ mostRecords
 
-pub listed : (m least : ℕ) (s : List ℕ) (n : ℕ) → rootlessCheck m least s n ≡ Good → Listed m s least n
+pub listed : (m : Bounds) (least : ℕ) (s : List ℕ) (n : ℕ) → rootlessCheck m least s n ≡ Good → Listed m s least n
 unfolding rootlessCheck
 listed m least s n e =
     let one = then-good (need (leb least n && leb n mostRecords) CountOutOfRange) (need (leb (3 * n) (length s)) StoreTooShort then recordsCheck m s n) e in
@@ -34,11 +35,11 @@ listed m least s n e =
     }
 
 -- a list with a root
-pub record Rooted (m : ℕ) (s : List ℕ) (n root : ℕ) : Type 0 where
+pub record Rooted (m : Bounds) (s : List ℕ) (n root : ℕ) : Type 0 where
   pub list : Listed m s 1 n
   pub inside : root < n
 
-pub rooted : (m : ℕ) (s : List ℕ) (n root : ℕ) → listCheck m s n root ≡ Good → Rooted m s n root
+pub rooted : (m : Bounds) (s : List ℕ) (n root : ℕ) → listCheck m s n root ≡ Good → Rooted m s n root
 unfolding listCheck
 rooted m s n root e =
     let both = then-good (rootlessCheck m 1 s n) (need (ltb root n) RootOutside) e in

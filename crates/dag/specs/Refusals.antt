@@ -1,5 +1,5 @@
 -- What a refusal tells (document 01, 'Each call and when it says no'): its number and its place.
-use Prim.Native.Nat.{ℕ}
+use Prim.Native.Nat.{ℕ, zero, suc}
 use mathlib.Core.Bool.{Bool, true, false}
 use Rattle.dag.specs.declared.Refusal.{Refusal}
 use Rattle.dag.specs.declared.Refusal.the-variants.{CountOutOfRange, StoreTooShort, UnknownTag, Malformed, OperandNotEarlier, RootOutside, NoRoom, TooManyEntries, Unassigned, TooManyColumns, ColumnLength, SharedPeriod, FileTooShort, FileVersion, FileCount, FileLength}
@@ -53,6 +53,11 @@ infixr 30 _then_
 abbrev pub _then_ : Checked → Checked → Checked
 Good then d = d
 (Refused r) then d = Refused r
+
+-- the first refusal of a test at the places below n
+unfoldable pub firstRefused : (ℕ → Checked) → ℕ → Checked
+firstRefused test zero = Good
+firstRefused test (suc n) = firstRefused test n then test n
 
 -- a test refuses
 abbrev pub isRefused : Checked → Bool

@@ -1,15 +1,16 @@
 -- Stores of records: what a store holds once a record or a list is written into it, and what the tests of a list give.
-use Prim.Native.Nat.{ℕ, zero, suc, _+_, _*_, _<_, _≤_}
-use mathlib.Core.Bool.{Bool, cond, _&&_}
+use Prim.Native.Nat.{ℕ, _+_, _*_, _<_, _≤_}
+use mathlib.Core.Bool.{Bool, _&&_}
 use mathlib.Core.List.{List, _++_}
 use lib.Dec.{eqb}
 use mathlib.Core.Path.{_≡_}
 use lib.ListN.{getD, length, set, take, drop}
+use Rattle.field.specs.Fields.{Bounds}
 use Rattle.dag.specs.Nodes.{tag, first, second, wordsOf}
 use Rattle.dag.specs.Check.{recordsCheck}
+use Rattle.dag.specs.Lookup.{greatest}
 use Rattle.dag.specs.declared.NodeKind.{NodeKind}
 use Rattle.dag.specs.declared.Found.{Found}
-use Rattle.dag.specs.declared.Found.the-variants.{At, Missing}
 use Rattle.dag.specs.declared.Checked.the-variants.{Good}
 
 -- a store with the record x at place i
@@ -29,15 +30,18 @@ unfoldable pub wordsAre : List ℕ → ℕ → ℕ → ℕ → ℕ → Bool
 wordsAre s i t a b = eqb (getD s (3 * i) 0) t && eqb (getD s (3 * i + 1) 0) a && eqb (getD s (3 * i + 2) 0) b
 
 -- the greatest place below n whose words are t, a, b
-unfoldable pub lookupWords : List ℕ → ℕ → ℕ → ℕ → ℕ → Found
-lookupWords s t a b zero = Missing
-lookupWords s t a b (suc n) = cond (wordsAre s n t a b) (At n) (lookupWords s t a b n)
+abbrev pub lookupWords : List ℕ → ℕ → ℕ → ℕ → ℕ → Found
+lookupWords s t a b = greatest (λ i. wordsAre s i t a b)
 
 -- two stores agree in the words of their first n records
 abbrev pub Agree : List ℕ → List ℕ → ℕ → Type 0
 Agree s u n = (k : ℕ) → k < 3 * n → getD s k 0 ≡ getD u k 0
 
 -- the first n records of a store pass the tests at the modulus m
-pub record Sound (m : ℕ) (s : List ℕ) (n : ℕ) : Type 0 where
+pub record Sound (m : Bounds) (s : List ℕ) (n : ℕ) : Type 0 where
   pub room : 3 * n ≤ length s
   pub good : recordsCheck m s n ≡ Good
+
+-- n records of a store whatever the field: room for them, words that decode, operands that come earlier
+abbrev pub Records : List ℕ → ℕ → Type 0
+Records s n = (m : Bounds) × Sound m s n

@@ -10,12 +10,13 @@ use lib.Dec.{eqb}
 use lib.ListN.{getD, length, set, take, length-set}
 use lib.Seq.{getD-set-same, getD-set-other, getD-take, take-suc}
 use borrow.Author.Tests.{le-leb}
+use Rattle.field.specs.Fields.{Bounds, Within}
 use Rattle.dag.specs.Nodes.{tag, first, second, decode, recordAt, nodes, at, words, wordsOf, sameNode}
 use Rattle.dag.specs.NodeLaws.{decode-words, length-nodes, at-nodes}
-use Rattle.dag.specs.Refusals.{_then_}
+use Rattle.dag.specs.Refusals.{firstRefused, _then_}
 use Rattle.dag.specs.Check.{checkAt, recordsCheck, rootlessCheck, listCheck}
-use Rattle.dag.specs.CheckLaws.{Within, good-before, passed, passes, faithful, fine-passes, check-well-formed}
-use Rattle.dag.specs.Lookup.{lookup}
+use Rattle.dag.specs.CheckLaws.{first-good, passed, passes, faithful, fine-passes, check-well-formed}
+use Rattle.dag.specs.Lookup.{greatest, lookup}
 use Rattle.dag.specs.Store.{put, wordsAre, lookupWords, Agree, Sound}
 use Rattle.dag.specs.WellFormed.{Fine, WellFormed}
 use Rattle.dag.specs.declared.NodeKind.{NodeKind}
@@ -25,21 +26,21 @@ use Rattle.dag.specs.declared.Checked.{Checked}
 use Rattle.dag.specs.declared.Checked.the-variants.{Good}
 
 -- the words of a record that passes
-module _ (m : ℕ) (s : List ℕ) (n : ℕ) (sound : Sound m s n) where
+module _ (m : Bounds) (s : List ℕ) (n : ℕ) (sound : Sound m s n) where
   pub sound-well-formed : WellFormed (Within m) (nodes s n)
   sound-well-formed = check-well-formed m s n (sound .good)
 
   pub tag-word : (i : ℕ) → i < n → tag (recordAt s i) ≡ getD s (3 * i) 0
   unfolding recordAt checkAt
-  tag-word i h = faithful m _ _ _ i (passed m _ _ _ i (good-before m s n (sound .good) i h)) .tag-is
+  tag-word i h = faithful m _ _ _ i (passed m _ _ _ i (first-good (checkAt m s) n (sound .good) i h)) .tag-is
 
   pub first-word : (i : ℕ) → i < n → first (recordAt s i) ≡ getD s (3 * i + 1) 0
   unfolding recordAt checkAt
-  first-word i h = faithful m _ _ _ i (passed m _ _ _ i (good-before m s n (sound .good) i h)) .first-is
+  first-word i h = faithful m _ _ _ i (passed m _ _ _ i (first-good (checkAt m s) n (sound .good) i h)) .first-is
 
   pub second-word : (i : ℕ) → i < n → second (recordAt s i) ≡ getD s (3 * i + 2) 0
   unfolding recordAt checkAt
-  second-word i h = faithful m _ _ _ i (passed m _ _ _ i (good-before m s n (sound .good) i h)) .second-is
+  second-word i h = faithful m _ _ _ i (passed m _ _ _ i (first-good (checkAt m s) n (sound .good) i h)) .second-is
 
   -- the words of a record that passes tell it from others
   pub words-are-same : (x : NodeKind) (i : ℕ) → i < n → wordsAre s i (tag x) (first x) (second x) ≡ sameNode (at (nodes s n) i) x
@@ -47,13 +48,13 @@ module _ (m : ℕ) (s : List ℕ) (n : ℕ) (sound : Sound m s n) where
   words-are-same x i h = rw (at-nodes s n i h, tag-word i h, first-word i h, second-word i h)
 
   pub lookup-words : (x : NodeKind) (k : ℕ) → k ≤ n → lookupWords s (tag x) (first x) (second x) k ≡ lookup (nodes s n) x k
-  unfolding lookupWords lookup
+  unfolding greatest
   lookup-words x zero h = refl
   lookup-words x (suc k) h = rw (words-are-same x k (omega arith), lookup-words x k (omega arith))
 
 -- one step of the search downward
 pub lookup-step : (s : List ℕ) (t a b i : ℕ) → 0 < i → lookupWords s t a b i ≡ cond (wordsAre s (i - 1) t a b) (At (i - 1)) (lookupWords s t a b (i - 1))
-unfolding lookupWords
+unfolding greatest
 lookup-step s t a b zero h = absurd (omega arith)
 lookup-step s t a b (suc i) h = rw (native.Mathlib.Numerals.sub-one (suc i))
 
@@ -63,7 +64,7 @@ module _ (s u : List ℕ) where
   unfolding recordAt
   agree-record i a = rw (a (3 * i) (omega arith), a (3 * i + 1) (omega arith), a (3 * i + 2) (omega arith))
 
-  agree-check : (m i : ℕ) → Agree s u (suc i) → checkAt m s i ≡ checkAt m u i
+  agree-check : (m : Bounds) (i : ℕ) → Agree s u (suc i) → checkAt m s i ≡ checkAt m u i
   unfolding checkAt
   agree-check m i a = rw (a (3 * i) (omega arith), a (3 * i + 1) (omega arith), a (3 * i + 2) (omega arith))
 
@@ -75,12 +76,12 @@ module _ (s u : List ℕ) where
   agree-nodes zero a = refl
   agree-nodes (suc n) a = ap₂ (λ l x. l ++ (x ∷ [])) (agree-nodes n (agree-less n a)) (agree-record n a)
 
-  pub agree-checks : (m n : ℕ) → Agree s u n → recordsCheck m s n ≡ recordsCheck m u n
-  unfolding recordsCheck
+  pub agree-checks : (m : Bounds) (n : ℕ) → Agree s u n → recordsCheck m s n ≡ recordsCheck m u n
+  unfolding firstRefused
   agree-checks m zero a = refl
   agree-checks m (suc n) a = ap₂ _then_ (agree-checks m n (agree-less n a)) (agree-check m n a)
 
-  pub agree-sound : (m n : ℕ) → 3 * n ≤ length u → Agree s u n → Sound m s n → Sound m u n
+  pub agree-sound : (m : Bounds) (n : ℕ) → 3 * n ≤ length u → Agree s u n → Sound m s n → Sound m u n
   agree-sound m n room a sound = record { room = room; good = sym (agree-checks m n a) ∙ sound .good }
 
   -- stores that begin with the same words agree
@@ -89,11 +90,11 @@ module _ (s u : List ℕ) where
 
   -- they pass the same tests, each with room for n records
   module _ (n : ℕ) (left : 3 * n ≤ length s) (right : 3 * n ≤ length u) (a : Agree s u n) where
-    pub agree-rootless : (m least : ℕ) → rootlessCheck m least s n ≡ rootlessCheck m least u n
+    pub agree-rootless : (m : Bounds) (least : ℕ) → rootlessCheck m least s n ≡ rootlessCheck m least u n
     unfolding rootlessCheck
     agree-rootless m least = rw (le-leb (3 * n) (length s) left, le-leb (3 * n) (length u) right, agree-checks m n a)
 
-    pub agree-list : (m root : ℕ) → listCheck m s n root ≡ listCheck m u n root
+    pub agree-list : (m : Bounds) (root : ℕ) → listCheck m s n root ≡ listCheck m u n root
     unfolding listCheck
     agree-list m root = rw (agree-rootless m 1)
 
@@ -132,7 +133,7 @@ module _ (s : List ℕ) (i : ℕ) (x : NodeKind) where
     unfolding recordAt
     record-put = rw (put-tag, put-first, put-second) (decode-words x)
 
-    check-put : (m : ℕ) → Fine (Within m) i x → checkAt m (put s i x) i ≡ Good
+    check-put : (m : Bounds) → Fine (Within m) i x → checkAt m (put s i x) i ≡ Good
     unfolding checkAt
     check-put m f = rw (put-tag, put-first, put-second) (passes m (tag x) (first x) (second x) i (fine-passes m i x f))
 
@@ -145,8 +146,8 @@ module _ (s : List ℕ) (n : ℕ) (x : NodeKind) (fits : 3 * n + 2 < length s) w
   unfolding nodes
   nodes-put = ap₂ (λ l y. l ++ (y ∷ [])) (sym (agree-nodes s (put s n x) n put-agrees)) (record-put s n x fits)
 
-  pub sound-put : (m : ℕ) → Sound m s n → Fine (Within m) n x → Sound m (put s n x) (suc n)
-  unfolding recordsCheck
+  pub sound-put : (m : Bounds) → Sound m s n → Fine (Within m) n x → Sound m (put s n x) (suc n)
+  unfolding firstRefused
   sound-put m sound f =
       record {
         room = rw (length-put s n x) (omega arith);
@@ -154,8 +155,8 @@ module _ (s : List ℕ) (n : ℕ) (x : NodeKind) (fits : 3 * n + 2 < length s) w
       }
 
 -- a shorter list of the same store
-pub sound-less : (m : ℕ) (s : List ℕ) (n : ℕ) → Sound m s (suc n) → Sound m s n
-unfolding recordsCheck
+pub sound-less : (m : Bounds) (s : List ℕ) (n : ℕ) → Sound m s (suc n) → Sound m s n
+unfolding firstRefused
 sound-less m s n sound =
     record {
       room = omega (arith, sound .room);
@@ -173,7 +174,7 @@ length-words [] = refl
 length-words (y ∷ l) = omega (arith, length-words l)
 
 -- the words of a list that passes are those that its store begins with
-pub take-words : (m : ℕ) (s : List ℕ) (n : ℕ) → Sound m s n → take (3 * n) s ≡ wordsOf (nodes s n)
+pub take-words : (m : Bounds) (s : List ℕ) (n : ℕ) → Sound m s n → take (3 * n) s ≡ wordsOf (nodes s n)
 unfolding nodes wordsOf words
 take-words m s zero sound = refl
 take-words m s (suc n) sound =
@@ -188,7 +189,7 @@ take-words m s (suc n) sound =
         (simp (towards-suc, append-assoc))
 
 -- the search downward over the words t, a, b of a record x
-module _ (m : ℕ) (s : List ℕ) (n : ℕ) (x : NodeKind) (t a b : ℕ) where
+module _ (m : Bounds) (s : List ℕ) (n : ℕ) (x : NodeKind) (t a b : ℕ) where
   pub search-on : (i : ℕ) → 0 < i → lookupWords s t a b n ≡ lookupWords s t a b i → wordsAre s (i - 1) t a b ≡ false → lookupWords s t a b n ≡ lookupWords s t a b (i - 1)
   search-on i h inv miss = inv ∙ (lookup-step s t a b i h ∙ rw miss)
 
@@ -200,6 +201,6 @@ module _ (m : ℕ) (s : List ℕ) (n : ℕ) (x : NodeKind) (t a b : ℕ) where
     search-hit i h inv hit = sym (inv ∙ (lookup-step s t a b i h ∙ rw hit)) ∙ whole
 
     pub search-none : (i : ℕ) → i ≤ 0 → lookupWords s t a b n ≡ lookupWords s t a b i → Missing ≡ lookup (nodes s n) x n
-    unfolding lookupWords
+    unfolding greatest
     search-none zero h inv = sym inv ∙ whole
     search-none (suc i) h inv = absurd (omega arith)

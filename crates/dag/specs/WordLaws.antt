@@ -6,10 +6,12 @@ use native.Mathlib.Omega.{arith}
 use lib.ListN.{getD, length, take, drop, set, replicate, length-append, length-drop}
 use lib.Seq.{drop-cons, set-at, take-at, append-snoc, ext-getD}
 use borrow.Author.Tests.{le-leb, lt-ltb}
+use Rattle.dag.specs.Refusals.{firstRefused}
+use Rattle.field.specs.Fields.{Bounds, Within}
 use Rattle.dag.specs.Nodes.{tag, first, second, recordAt, nodes, at, words, wordsOf, filled, blank, mostRecords}
 use Rattle.dag.specs.NodeLaws.{decode-words, length-nodes, at-nodes, length-snoc}
 use Rattle.dag.specs.Check.{checkAt, recordsCheck, rootlessCheck, listCheck}
-use Rattle.dag.specs.CheckLaws.{Within, passes, fine-passes}
+use Rattle.dag.specs.CheckLaws.{passes, fine-passes}
 use Rattle.dag.specs.Store.{put, written, Sound}
 use Rattle.dag.specs.StoreLaws.{words-snoc, length-words}
 use Rattle.dag.specs.WellFormed.{WellFormed}
@@ -48,7 +50,7 @@ module _ (t : List ℕ) where
       let w = words-at l i k in
       at-nodes (wordsOf l ++ t) (length l) i k ∙ rw (w .tag-is, w .first-is, w .second-is) (decode-words (at l i))
 
-  module _ (m : ℕ) (l : List NodeKind) (f : WellFormed (Within m) l) where
+  module _ (m : Bounds) (l : List NodeKind) (f : WellFormed (Within m) l) where
     check-words : (i : ℕ) → i < length l → checkAt m (wordsOf l ++ t) i ≡ Good
     unfolding checkAt WellFormed
     check-words i h =
@@ -56,7 +58,7 @@ module _ (t : List ℕ) where
         rw (w .tag-is, w .first-is, w .second-is) (passes m _ _ _ i (fine-passes m i (at l i) (f i)))
 
     checks-words : (n : ℕ) → n ≤ length l → recordsCheck m (wordsOf l ++ t) n ≡ Good
-    unfolding recordsCheck
+    unfolding firstRefused
     checks-words zero h = refl
     checks-words (suc n) h = rw (checks-words n (omega arith)) (check-words n h)
 
@@ -115,6 +117,6 @@ pub nodes-written : (s : List ℕ) (l : List NodeKind) → nodes (written s l) (
 unfolding written
 nodes-written s l = nodes-words (drop (3 * length l) s) l
 
-pub sound-written : (m : ℕ) (s : List ℕ) (l : List NodeKind) → WellFormed (Within m) l → Sound m (written s l) (length l)
+pub sound-written : (m : Bounds) (s : List ℕ) (l : List NodeKind) → WellFormed (Within m) l → Sound m (written s l) (length l)
 unfolding written
 sound-written m s l f = sound-words (drop (3 * length l) s) m l f

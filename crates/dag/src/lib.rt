@@ -5,7 +5,7 @@ ghost use Prim.Native.Nat.{ℕ, _+_, _*_, _-_, _^_, _<_, _≤_};
 ghost use lib.Dec.{ltb};
 ghost use mathlib.Core.List.{_++_};
 ghost use lib.ListN.{length, getD, take, replicate};
-ghost use Rattle.field.specs.Field.{p};
+ghost use Rattle.field.specs.Fields.{goldilocks};
 ghost use Rattle.dag.specs.Keys as Keys;
 ghost use Rattle.dag.specs.Nodes as Nodes;
 ghost use Rattle.dag.specs.Refusals as Refusals;
@@ -121,7 +121,7 @@ pub fn is_key(k: u64) -> bool
 
 // Whether the words of a record with tag t are those of a record.
 fn formed(t: u64, a: u64, b: u64) -> bool
-    ensures { λ r. ⌜ r ≡ Check.formed p t a b ⌝ }
+    ensures { λ r. ⌜ r ≡ Check.formed (goldilocks .bounds) t a b ⌝ }
 {
     if t == 0 {
         if is_key(a) {
@@ -160,7 +160,7 @@ fn earlier(t: u64, a: u64, b: u64, i: usize) -> bool
 
 // The tests of one record at place i: 3, 4, 5.
 pub fn record_check(t: u64, a: u64, b: u64, i: usize) -> Checked
-    ensures { λ r. ⌜ r ≡ Check.recordCheck p t a b i ⌝ }
+    ensures { λ r. ⌜ r ≡ Check.recordCheck (goldilocks .bounds) t a b i ⌝ }
 {
     if 5 < t {
         return Checked::Refused(Refusal::UnknownTag(i));
@@ -187,7 +187,7 @@ pub fn is_refused(c: Checked) -> bool
 // The tests of the record at place i.
 fn check_at(list: &[u64], i: usize) -> Checked
     requires { ⌜ 3 * i + 2 < length (now list) ⌝ }
-    ensures { λ r. ⌜ r ≡ Check.checkAt p (now (list .entry)) i ⌝ }
+    ensures { λ r. ⌜ r ≡ Check.checkAt (goldilocks .bounds) (now (list .entry)) i ⌝ }
 {
     record_check(list[3 * i], list[3 * i + 1], list[3 * i + 2], i)
 }
@@ -195,7 +195,7 @@ fn check_at(list: &[u64], i: usize) -> Checked
 // The first bad record among the first n.
 fn records_check(list: &[u64], n: usize) -> Checked
     requires { ⌜ 3 * n ≤ length (now list) ⌝ }
-    ensures { λ r. ⌜ r ≡ Check.recordsCheck p (now (list .entry)) n ⌝ }
+    ensures { λ r. ⌜ r ≡ Check.recordsCheck (goldilocks .bounds) (now (list .entry)) n ⌝ }
 {
     let mut i = 0;
     while i < n {
@@ -210,7 +210,7 @@ fn records_check(list: &[u64], n: usize) -> Checked
 
 // The tests of a list of at least `least` records without a root: 1, 2, then the records.
 pub fn rootless_check(list: &[u64], n: usize, least: usize) -> Checked
-    ensures { λ r. ⌜ r ≡ Check.rootlessCheck p least (now (list .entry)) n ⌝ }
+    ensures { λ r. ⌜ r ≡ Check.rootlessCheck (goldilocks .bounds) least (now (list .entry)) n ⌝ }
 {
     if n < least {
         return Checked::Refused(Refusal::CountOutOfRange);
@@ -226,7 +226,7 @@ pub fn rootless_check(list: &[u64], n: usize, least: usize) -> Checked
 
 // The list check, with a root.
 pub fn list_check(list: &[u64], n: usize, root: usize) -> Checked
-    ensures { λ r. ⌜ r ≡ Check.listCheck p (now (list .entry)) n root ⌝ }
+    ensures { λ r. ⌜ r ≡ Check.listCheck (goldilocks .bounds) (now (list .entry)) n root ⌝ }
 {
     let checked = rootless_check(list, n, 1);
     if is_refused(checked) {
@@ -358,7 +358,7 @@ pub fn words_are(list: &[u64], i: usize, t: u64, a: u64, b: u64) -> bool
 
 // The greatest place of a record equal to x among the first n.
 pub fn lookup(list: &[u64], n: usize, x: NodeKind) -> Found
-    requires { ⌜ Store.Sound p (now list) n ⌝ }
+    requires { ⌜ Store.Records (now list) n ⌝ }
     ensures { λ r. ⌜ r ≡ Lookup.lookup (Nodes.nodes (now (list .entry)) n) x n ⌝ }
 {
     let t = tag_of(x);

@@ -4,7 +4,7 @@ use mathlib.Core.List.{List, []}
 use mathlib.Core.Logic.{_↔_}
 use mathlib.Core.Path.{_≡_, refl}
 use lib.ListN.{getD, length}
-use Rattle.field.specs.Field.{p}
+use Rattle.field.specs.Fields.{Field, modulus}
 use Rattle.dag.specs.Refusals.{unlessRefused}
 use Rattle.dag.specs.RefusalLaws.{zero-accepts}
 use Rattle.dag.specs.declared.Refusal.{Refusal}
@@ -29,46 +29,47 @@ use Rattle.ace.specs.Answers.{stepWords, buildWords, compactWords, normalizeWor
 abbrev pub outcome : List ℕ → ℕ
 outcome ws = getD ws 0 0
 
-module _ (s : List ℕ) (n : ℕ) where
-  pub step-accepts : (t a b : ℕ) → (outcome (stepWords (stepAnswer s n t a b)) ≡ 0) ↔ (stepWholeCheck s n t a b ≡ Good)
-  unfolding stepAnswer
-  step-accepts t a b = zero-accepts (λ w. outcome (stepWords w)) StepAnswer'.Refused _ (λ r. refl) refl (stepWholeCheck s n t a b)
+module _ (field : Field) where
+  module _ (s : List ℕ) (n : ℕ) where
+    pub step-accepts : (t a b : ℕ) → (outcome (stepWords (stepAnswer field s n t a b)) ≡ 0) ↔ (stepWholeCheck field s n t a b ≡ Good)
+    unfolding stepAnswer
+    step-accepts t a b = zero-accepts (λ w. outcome (stepWords w)) StepAnswer'.Refused _ (λ r. refl) refl (stepWholeCheck field s n t a b)
 
-  module _ (root resultWords : ℕ) where
-    pub build-accepts : (mapWords : ℕ) → (outcome (buildWords (buildAnswer s n root resultWords mapWords)) ≡ 0) ↔ (buildCheck s n root resultWords mapWords ≡ Good)
-    unfolding buildAnswer
-    build-accepts mapWords = zero-accepts (λ w. outcome (buildWords w)) BuildAnswer'.Refused _ (λ r. refl) refl (buildCheck s n root resultWords mapWords)
+    module _ (root resultWords : ℕ) where
+      pub build-accepts : (mapWords : ℕ) → (outcome (buildWords (buildAnswer field s n root resultWords mapWords)) ≡ 0) ↔ (buildCheck field s n root resultWords mapWords ≡ Good)
+      unfolding buildAnswer
+      build-accepts mapWords = zero-accepts (λ w. outcome (buildWords w)) BuildAnswer'.Refused _ (λ r. refl) refl (buildCheck field s n root resultWords mapWords)
 
-    pub compact-accepts : (outcome (compactWords (compactAnswer s n root resultWords)) ≡ 0) ↔ (compactCheck s n root resultWords ≡ Good)
-    unfolding compactAnswer
-    compact-accepts = zero-accepts (λ w. outcome (compactWords w)) Compacted'.Refused _ (λ r. refl) refl (compactCheck s n root resultWords)
+      pub compact-accepts : (outcome (compactWords (compactAnswer field s n root resultWords)) ≡ 0) ↔ (compactCheck field s n root resultWords ≡ Good)
+      unfolding compactAnswer
+      compact-accepts = zero-accepts (λ w. outcome (compactWords w)) Compacted'.Refused _ (λ r. refl) refl (compactCheck field s n root resultWords)
 
-    pub normalize-accepts : (workWords : ℕ) → (outcome (normalizeWords (normalizeAnswer s n root resultWords workWords)) ≡ 0) ↔ (normalizeCheck s n root resultWords workWords ≡ Good)
-    unfolding normalizeAnswer
-    normalize-accepts workWords =
-        zero-accepts (λ w. outcome (normalizeWords w)) NormalizeAnswer'.Refused _ (λ r. refl) refl (normalizeCheck s n root resultWords workWords)
+      pub normalize-accepts : (workWords : ℕ) → (outcome (normalizeWords (normalizeAnswer field s n root resultWords workWords)) ≡ 0) ↔ (normalizeCheck field s n root resultWords workWords ≡ Good)
+      unfolding normalizeAnswer
+      normalize-accepts workWords =
+          zero-accepts (λ w. outcome (normalizeWords w)) NormalizeAnswer'.Refused _ (λ r. refl) refl (normalizeCheck field s n root resultWords workWords)
 
-  pub evaluate-accepts : (root : ℕ) (a : List ℕ) (m : ℕ) → (outcome (evaluateWords (evaluateAnswer s n root a m)) ≡ 0) ↔ (evaluateCheck s n root a m ≡ Good)
-  unfolding evaluateAnswer
-  evaluate-accepts root a m = zero-accepts (λ w. outcome (evaluateWords w)) Evaluated'.Refused _ (λ r. refl) refl (evaluateCheck s n root a m)
+    pub evaluate-accepts : (root : ℕ) (a : List ℕ) (m : ℕ) → (outcome (evaluateWords (evaluateAnswer field s n root a m)) ≡ 0) ↔ (evaluateCheck field s n root a m ≡ Good)
+    unfolding evaluateAnswer
+    evaluate-accepts root a m = zero-accepts (λ w. outcome (evaluateWords w)) Evaluated'.Refused _ (λ r. refl) refl (evaluateCheck field s n root a m)
 
-  pub lower-accepts : (ls es : List ℕ) (period : ℕ) (result work places : List ℕ)
-      → (outcome (lowerWords (lowerAnswer s n ls es period result work places)) ≡ 0) ↔ (wholeCheck s n ls es period result work places ≡ Good)
-  unfolding lowerAnswer
-  lower-accepts ls es period result work places =
-      zero-accepts (λ w. outcome (lowerWords w)) LowerAnswer'.Refused _ (λ r. refl) refl (wholeCheck s n ls es period result work places)
+    pub lower-accepts : (ls es : List ℕ) (period : ℕ) (result work places : List ℕ)
+        → (outcome (lowerWords (lowerAnswer field s n ls es period result work places)) ≡ 0) ↔ (wholeCheck field s n ls es period result work places ≡ Good)
+    unfolding lowerAnswer
+    lower-accepts ls es period result work places =
+        zero-accepts (λ w. outcome (lowerWords w)) LowerAnswer'.Refused _ (λ r. refl) refl (wholeCheck field s n ls es period result work places)
 
-module _ (cs : List (List ℕ)) where
-  by-tests : (c : Checked) → answer p cs c ≡ unlessRefused c (λ r. answer p cs (Checked'.Refused r)) (answer p cs Good)
-  by-tests Good = refl
-  by-tests (Checked'.Refused r) = refl
+  module _ (cs : List (List ℕ)) where
+    by-tests : (c : Checked) → answer (modulus field) cs c ≡ unlessRefused c (λ r. answer (modulus field) cs (Checked'.Refused r)) (answer (modulus field) cs Good)
+    by-tests Good = refl
+    by-tests (Checked'.Refused r) = refl
 
-  prepared-accepts : (c : Checked) → (outcome (prepareWords (answer p cs c)) ≡ 0) ↔ (c ≡ Good)
-  unfolding answer
-  prepared-accepts c =
-      rw (by-tests c)
-      (zero-accepts (λ w. outcome (prepareWords w)) (λ r. answer p cs (Checked'.Refused r)) (answer p cs Good) (λ r. refl) refl c)
+    prepared-accepts : (c : Checked) → (outcome (prepareWords (answer (modulus field) cs c)) ≡ 0) ↔ (c ≡ Good)
+    unfolding answer
+    prepared-accepts c =
+        rw (by-tests c)
+        (zero-accepts (λ w. outcome (prepareWords w)) (λ r. answer (modulus field) cs (Checked'.Refused r)) (answer (modulus field) cs Good) (λ r. refl) refl c)
 
-pub prepare-accepts : (ls es : List ℕ) → (outcome (prepareWords (prepare p ls es)) ≡ 0) ↔ (prepareCheck p ls es ≡ Good)
-unfolding prepare
-prepare-accepts ls es = prepared-accepts (columns ls es) (prepareCheck p ls es)
+  pub prepare-accepts : (ls es : List ℕ) → (outcome (prepareWords (prepare (modulus field) ls es)) ≡ 0) ↔ (prepareCheck (modulus field) ls es ≡ Good)
+  unfolding prepare
+  prepare-accepts ls es = prepared-accepts (columns ls es) (prepareCheck (modulus field) ls es)

@@ -6,13 +6,13 @@ use mathlib.Core.Path.{_≡_, refl, sym, _∙_, ap}
 use native.Mathlib.Omega.{arith}
 use lib.Dec.{leb}
 use lib.ListN.{length, take, replicate}
-use Rattle.field.specs.Field.{p, quad, quad-laws, Below}
+use Rattle.field.specs.Fields.{Field, Low, elementLaws}
 use Rattle.field.specs.declared.QuadFelt.{QuadFelt}
 use Rattle.dag.specs.Nodes.{blank, nodes, at, wordsOf, filled}
 use Rattle.dag.specs.NodeLaws.{length-nodes}
-use Rattle.dag.specs.Refusals.{need, _then_, unlessRefused}
+use Rattle.dag.specs.Refusals.{firstRefused, need, _then_, unlessRefused}
 use Rattle.dag.specs.Check.{listCheck}
-use Rattle.dag.specs.CheckLaws.{then-good, need-good}
+use Rattle.dag.specs.CheckLaws.{first-good, then-good, need-good}
 use Rattle.dag.specs.PassLaws.{Rooted, rooted}
 use Rattle.dag.specs.StoreLaws.{sound-well-formed}
 use Rattle.dag.specs.WellFormed.{WellFormed}
@@ -29,8 +29,7 @@ use Rattle.builder.specs.Calls.{buildCheck, buildResult}
 use Rattle.dag.specs.WordLaws.{nodes-words, words-pass}
 use Rattle.compact.specs.Calls.{compacted, keptOf, compactCheck, compactResult}
 use Rattle.compact.specs.AnswerLaws as Compacted
-use Rattle.evaluate.specs.Entries.{firstRefused, entriesCheck, entryOf, isFound, hasEntry, inputsCheck}
-use Rattle.evaluate.specs.EntryLaws.{good-below}
+use Rattle.evaluate.specs.Entries.{entriesCheck, entryOf, isFound, hasEntry, inputsCheck}
 use Rattle.evaluate.specs.Calls.{entryWords, given, evaluateCheck, evaluateAnswer}
 use Rattle.evaluate.specs.CallLaws.{entries-pass}
 use Rattle.evaluate.specs.ValueStepLaws.{given-low}
@@ -66,7 +65,7 @@ module _ (find : ℕ → Found) where
   checked-inputs : (l : List NodeKind) → inputsCheck find l (length l) ≡ Checked'.Good → Inputs Assigned l
   unfolding inputsCheck
   checked-inputs l e i h =
-      assigned (at l i) (need-good (hasEntry find (at l i)) (Unassigned i) (good-below (λ i. need (hasEntry find (at l i)) (Unassigned i)) (length l) e i h))
+      assigned (at l i) (need-good (hasEntry find (at l i)) (Unassigned i) (first-good (λ i. need (hasEntry find (at l i)) (Unassigned i)) (length l) e i h))
 
   inputs-checked : (l : List NodeKind) → Inputs Assigned l → inputsCheck find l (length l) ≡ Checked'.Good
   unfolding inputsCheck firstRefused
@@ -76,135 +75,137 @@ module _ (find : ℕ → Found) where
       go zero f = refl
       go (suc n) f = rw (go n (λ i h. f i (omega arith)), has-entry (at l n) (f n (omega arith)))
 
--- t, count and root' in place of s, n and root: the list passes the list check, brings no new inputs, and its root has the same value
-pub record InPlaceOf (s : List ℕ) (n root : ℕ) (t : List ℕ) (count root' : ℕ) : Type 0 where
-  pub passes : listCheck p t count root' ≡ Checked'.Good
-  pub no-new : Inputs (KeyOf (nodes s n)) (nodes t count)
-  pub worth : (given : ℕ → QuadFelt) → ((k : ℕ) → Below (given k)) → value quad given (nodes t count) root' ≡ value quad given (nodes s n) root
+module _ (field : Field) where
+  -- t, count and root' in place of s, n and root: the list passes the list check, brings no new inputs, and its root has the same value
+  pub record InPlaceOf (s : List ℕ) (n root : ℕ) (t : List ℕ) (count root' : ℕ) : Type 0 where
+    pub passes : listCheck (field .bounds) t count root' ≡ Checked'.Good
+    pub no-new : Inputs (KeyOf (nodes s n)) (nodes t count)
+    pub worth : (given : ℕ → QuadFelt) → ((k : ℕ) → Low field (given k)) → value (field .elements) given (nodes t count) root' ≡ value (field .elements) given (nodes s n) root
 
--- so does every store that begins with t's records
-in-place-front : (s : List ℕ) (n root : ℕ) (t : List ℕ) (count root' : ℕ) → InPlaceOf s n root t count root' → (u : List ℕ) → take (3 * count) u ≡ take (3 * count) t
-    → InPlaceOf s n root u count root'
-in-place-front s n root t count root' h u front =
-    let same = same-front t u count (rooted p t count root' (h .passes) .list .sound .room) front in
-    let records = same-nodes t u count same in
-    record {
-      passes = sym (same-check t u count same root') ∙ h .passes;
-      no-new = rw (← records) (h .no-new);
-      worth = λ given low. rw (← records) (h .worth given low);
-    }
+  -- so does every store that begins with t's records
+  in-place-front : (s : List ℕ) (n root : ℕ) (t : List ℕ) (count root' : ℕ) → InPlaceOf s n root t count root' → (u : List ℕ) → take (3 * count) u ≡ take (3 * count) t
+      → InPlaceOf s n root u count root'
+  in-place-front s n root t count root' h u front =
+      let same = same-front t u count (rooted (field .bounds) t count root' (h .passes) .list .sound .room) front in
+      let records = same-nodes field t u count same in
+      record {
+        passes = sym (same-check field t u count same root') ∙ h .passes;
+        no-new = rw (← records) (h .no-new);
+        worth = λ given low. rw (← records) (h .worth given low);
+      }
 
 -- an answer that is a value was accepted
 accepts : (c : Checked) (w v : QuadFelt) → unlessRefused c Refused (Value w) ≡ Value v → c ≡ Checked'.Good
 accepts Checked'.Good w v e = refl
 accepts (Checked'.Refused r) w v e = let z : _≡_ {A = ℕ} 0 1 = cc in absurd (omega arith)
 
-module _ (s : List ℕ) (n root : ℕ) (t : List ℕ) (count root' : ℕ) (h : InPlaceOf s n root t count root') (a : List ℕ) (m : ℕ) where
-  module _ (e : evaluateCheck s n root a m ≡ Checked'.Good) where
-    find : ℕ → Found
-    find = entryOf entryWords a m
+module _ (field : Field) where
+  module _ (s : List ℕ) (n root : ℕ) (t : List ℕ) (count root' : ℕ) (h : InPlaceOf field s n root t count root') (a : List ℕ) (m : ℕ) where
+    module _ (e : evaluateCheck field s n root a m ≡ Checked'.Good) where
+      find : ℕ → Found
+      find = entryOf entryWords a m
 
-    tests : (entriesCheck p entryWords a m ≡ Checked'.Good) × (inputsCheck find (nodes s n) n ≡ Checked'.Good)
-    unfolding evaluateCheck find
-    tests =
-        then-good (entriesCheck p entryWords a m) (inputsCheck find (nodes s n) n)
-        (then-good (listCheck p s n root) (entriesCheck p entryWords a m then inputsCheck find (nodes s n) n) e .1)
+      tests : (entriesCheck (field .bounds) entryWords a m ≡ Checked'.Good) × (inputsCheck find (nodes s n) n ≡ Checked'.Good)
+      unfolding evaluateCheck find
+      tests =
+          then-good (entriesCheck (field .bounds) entryWords a m) (inputsCheck find (nodes s n) n)
+          (then-good (listCheck (field .bounds) s n root) (entriesCheck (field .bounds) entryWords a m then inputsCheck find (nodes s n) n) e .1)
 
-    inputs : inputsCheck find (nodes t count) count ≡ Checked'.Good
-    inputs =
-        rw (length-nodes t count) at
-        (inputs-checked find (nodes t count)
-        (inputs-through (Assigned find) (nodes s n) (nodes t count) (h .no-new) (checked-inputs find (nodes s n) (rw (length-nodes s n) (tests .1)))))
+      inputs : inputsCheck find (nodes t count) count ≡ Checked'.Good
+      inputs =
+          rw (length-nodes t count) at
+          (inputs-checked find (nodes t count)
+          (inputs-through (Assigned find) (nodes s n) (nodes t count) (h .no-new) (checked-inputs find (nodes s n) (rw (length-nodes s n) (tests .1)))))
 
-    accepted-too : evaluateCheck t count root' a m ≡ Checked'.Good
-    unfolding evaluateCheck find
-    accepted-too = rw (h .passes, tests .0, inputs)
+      accepted-too : evaluateCheck field t count root' a m ≡ Checked'.Good
+      unfolding evaluateCheck find
+      accepted-too = rw (h .passes, tests .0, inputs)
 
-    same-answer : evaluateAnswer t count root' a m ≡ evaluateAnswer s n root a m
+      same-answer : evaluateAnswer field t count root' a m ≡ evaluateAnswer field s n root a m
+      unfolding evaluateAnswer
+      same-answer = rw (accepted-too, e) (ap Value (h .worth (given a m) (given-low field a m (entries-pass (field .bounds) entryWords a m (omega arith) (tests .0) .1))))
+
+    evaluates-alike : (v : QuadFelt) → evaluateAnswer field s n root a m ≡ Value v → evaluateAnswer field t count root' a m ≡ Value v
     unfolding evaluateAnswer
-    same-answer = rw (accepted-too, e) (ap Value (h .worth (given a m) (given-low a m (entries-pass p entryWords a m (omega arith) (tests .0) .1))))
+    evaluates-alike v e = same-answer (accepts (evaluateCheck field s n root a m) (value (field .elements) (given a m) (nodes s n) root) v e) ∙ e
 
-  evaluates-alike : (v : QuadFelt) → evaluateAnswer s n root a m ≡ Value v → evaluateAnswer t count root' a m ≡ Value v
-  unfolding evaluateAnswer
-  evaluates-alike v e = same-answer (accepts (evaluateCheck s n root a m) (value quad (given a m) (nodes s n) root) v e) ∙ e
+  -- where Evaluate answers a value for the list, it answers the same for what stands in its place, from any store that begins with it
+  pub evaluates-front : (s : List ℕ) (n root : ℕ) (t : List ℕ) (count root' : ℕ) → InPlaceOf field s n root t count root' → (u : List ℕ) → take (3 * count) u ≡ take (3 * count) t
+      → (a : List ℕ) (m : ℕ) (v : QuadFelt) → evaluateAnswer field s n root a m ≡ Value v → evaluateAnswer field u count root' a m ≡ Value v
+  evaluates-front s n root t count root' h u front = evaluates-alike s n root u count root' (in-place-front field s n root t count root' h u front)
 
--- where Evaluate answers a value for the list, it answers the same for what stands in its place, from any store that begins with it
-pub evaluates-front : (s : List ℕ) (n root : ℕ) (t : List ℕ) (count root' : ℕ) → InPlaceOf s n root t count root' → (u : List ℕ) → take (3 * count) u ≡ take (3 * count) t
-    → (a : List ℕ) (m : ℕ) (v : QuadFelt) → evaluateAnswer s n root a m ≡ Value v → evaluateAnswer u count root' a m ≡ Value v
-evaluates-front s n root t count root' h u front = evaluates-alike s n root u count root' (in-place-front s n root t count root' h u front)
-
--- Normalise: its answer stands in place of the list
-pub normalized-in-place : (s : List ℕ) (n root : ℕ) (result : List ℕ) (workWords : ℕ) → normalizeCheck s n root (length result) workWords ≡ Checked'.Good
-    → InPlaceOf s n root (normalizeResult s n root result workWords) (countOf s n root) (rootOf s n root)
-unfolding normalized
-normalized-in-place s n root result workWords e =
-    record {
-      passes = answer-passes s n root result workWords e;
-      no-new = rw (answer-list s n root result workWords e) (normalize-inputs (KeyOf (nodes s n)) quad (nodes s n) (root ∷ []) (own-keys (nodes s n)));
-      worth = answer-value s n root result workWords e;
-    }
-
--- where Normalise accepts a list and Evaluate answers a value for it, Evaluate answers the same for the list answered, in any store that begins with it
-pub evaluate-same : (s : List ℕ) (n root : ℕ) (result : List ℕ) (workWords : ℕ) → normalizeCheck s n root (length result) workWords ≡ Checked'.Good
-    → (u : List ℕ) → take (3 * countOf s n root) u ≡ take (3 * countOf s n root) (normalizeResult s n root result workWords)
-    → (a : List ℕ) (m : ℕ) (v : QuadFelt) → evaluateAnswer s n root a m ≡ Value v → evaluateAnswer u (countOf s n root) (rootOf s n root) a m ≡ Value v
-evaluate-same s n root result workWords e =
-    evaluates-front s n root (normalizeResult s n root result workWords) (countOf s n root) (rootOf s n root) (normalized-in-place s n root result workWords e)
-
--- Compact: its answer stands in place of the list
-pub compacted-in-place : (s : List ℕ) (n root : ℕ) (result : List ℕ) → compactCheck s n root (length result) ≡ Checked'.Good
-    → InPlaceOf s n root (compactResult s n root result) (keptOf (compacted s n root) .count) (keptOf (compacted s n root) .root)
-unfolding compacted
-compacted-in-place s n root result e =
-    record {
-      passes = Compacted.answer-passes s n root result e;
-      no-new = rw (Compacted.answer-list s n root result e) (compact-inputs (KeyOf (nodes s n)) (nodes s n) (root ∷ []) (own-keys (nodes s n)));
-      worth = λ given low. Compacted.answer-value s n root result e quad given;
-    }
-
-pub compact-evaluates : (s : List ℕ) (n root : ℕ) (result : List ℕ) → compactCheck s n root (length result) ≡ Checked'.Good
-    → (u : List ℕ) → take (3 * keptOf (compacted s n root) .count) u ≡ take (3 * keptOf (compacted s n root) .count) (compactResult s n root result)
-    → (a : List ℕ) (m : ℕ) (v : QuadFelt) → evaluateAnswer s n root a m ≡ Value v
-    → evaluateAnswer u (keptOf (compacted s n root) .count) (keptOf (compacted s n root) .root) a m ≡ Value v
-compact-evaluates s n root result e =
-    evaluates-front s n root (compactResult s n root result) (keptOf (compacted s n root) .count) (keptOf (compacted s n root) .root) (compacted-in-place s n root result e)
-
--- Build: its answer stands in place of the list of requests
-module _ (s : List ℕ) (n root : ℕ) (result : List ℕ) (mapWords : ℕ) (e : buildCheck s n root (length result) mapWords ≡ Checked'.Good) where
-  abbrev built : Replay
-  built = replay quad (nodes s n) n
-
-  passed : Rooted p s n root
-  unfolding buildCheck
-  passed = rooted p s n root (then-good (listCheck p s n root) (need (leb (3 * n) (length result) && leb n mapWords) StoreTooShort) e .0)
-
-  well-formed : WellFormed Below (nodes s n)
-  well-formed = sound-well-formed p s n (passed .list .sound)
-
-  replayed : Replayed Below n built
-  replayed = replay-replayed quad quad-laws (nodes s n) well-formed n
-
-  behind : List ℕ
-  behind = replicate (length result - length (wordsOf (built .list))) blank
-
-  begins : buildResult s n root result mapWords ≡ wordsOf (built .list) ++ behind
-  unfolding buildResult filled behind
-  begins = rw e
-
-  holds : nodes (buildResult s n root result mapWords) (length (built .list)) ≡ built .list
-  holds = rw begins (nodes-words behind (built .list))
-
-  pub built-in-place : InPlaceOf s n root (buildResult s n root result mapWords) (length (built .list)) (placeOf built root)
-  built-in-place =
-      let same : n ≤ length (nodes s n) = omega (arith, length-nodes s n) in
+  -- Normalise: its answer stands in place of the list
+  pub normalized-in-place : (s : List ℕ) (n root : ℕ) (result : List ℕ) (workWords : ℕ) → normalizeCheck field s n root (length result) workWords ≡ Checked'.Good
+      → InPlaceOf field s n root (normalizeResult field s n root result workWords) (countOf field s n root) (rootOf field s n root)
+  unfolding normalized
+  normalized-in-place s n root result workWords e =
       record {
-        passes = rw begins
-            (words-pass behind p (built .list) (replayed .well-formed) (placeOf built root) (replayed .inside root (passed .inside))
-            (omega (arith, replay-short quad quad-laws (nodes s n) well-formed n, passed .list .most)));
-        no-new = rw holds (replay-inputs (KeyOf (nodes s n)) quad (nodes s n) (own-keys (nodes s n)) n same);
-        worth = λ given low. rw holds (replay-faithful quad quad-laws (nodes s n) well-formed given low n same root (passed .inside));
+        passes = answer-passes field s n root result workWords e;
+        no-new = rw (answer-list field s n root result workWords e) (normalize-inputs (KeyOf (nodes s n)) (field .elements) (nodes s n) (root ∷ []) (own-keys (nodes s n)));
+        worth = answer-value field s n root result workWords e;
       }
 
-  pub build-evaluates : (u : List ℕ) → take (3 * length (built .list)) u ≡ take (3 * length (built .list)) (buildResult s n root result mapWords)
-      → (a : List ℕ) (m : ℕ) (v : QuadFelt) → evaluateAnswer s n root a m ≡ Value v → evaluateAnswer u (length (built .list)) (placeOf built root) a m ≡ Value v
-  build-evaluates = evaluates-front s n root (buildResult s n root result mapWords) (length (built .list)) (placeOf built root) built-in-place
+  -- where Normalise accepts a list and Evaluate answers a value for it, Evaluate answers the same for the list answered, in any store that begins with it
+  pub evaluate-same : (s : List ℕ) (n root : ℕ) (result : List ℕ) (workWords : ℕ) → normalizeCheck field s n root (length result) workWords ≡ Checked'.Good
+      → (u : List ℕ) → take (3 * countOf field s n root) u ≡ take (3 * countOf field s n root) (normalizeResult field s n root result workWords)
+      → (a : List ℕ) (m : ℕ) (v : QuadFelt) → evaluateAnswer field s n root a m ≡ Value v → evaluateAnswer field u (countOf field s n root) (rootOf field s n root) a m ≡ Value v
+  evaluate-same s n root result workWords e =
+      evaluates-front s n root (normalizeResult field s n root result workWords) (countOf field s n root) (rootOf field s n root) (normalized-in-place s n root result workWords e)
+
+  -- Compact: its answer stands in place of the list
+  pub compacted-in-place : (s : List ℕ) (n root : ℕ) (result : List ℕ) → compactCheck field s n root (length result) ≡ Checked'.Good
+      → InPlaceOf field s n root (compactResult field s n root result) (keptOf (compacted s n root) .count) (keptOf (compacted s n root) .root)
+  unfolding compacted
+  compacted-in-place s n root result e =
+      record {
+        passes = Compacted.answer-passes field s n root result e;
+        no-new = rw (Compacted.answer-list field s n root result e) (compact-inputs (KeyOf (nodes s n)) (nodes s n) (root ∷ []) (own-keys (nodes s n)));
+        worth = λ given low. Compacted.answer-value field s n root result e (field .elements) given;
+      }
+
+  pub compact-evaluates : (s : List ℕ) (n root : ℕ) (result : List ℕ) → compactCheck field s n root (length result) ≡ Checked'.Good
+      → (u : List ℕ) → take (3 * keptOf (compacted s n root) .count) u ≡ take (3 * keptOf (compacted s n root) .count) (compactResult field s n root result)
+      → (a : List ℕ) (m : ℕ) (v : QuadFelt) → evaluateAnswer field s n root a m ≡ Value v
+      → evaluateAnswer field u (keptOf (compacted s n root) .count) (keptOf (compacted s n root) .root) a m ≡ Value v
+  compact-evaluates s n root result e =
+      evaluates-front s n root (compactResult field s n root result) (keptOf (compacted s n root) .count) (keptOf (compacted s n root) .root) (compacted-in-place s n root result e)
+
+  -- Build: its answer stands in place of the list of requests
+  module _ (s : List ℕ) (n root : ℕ) (result : List ℕ) (mapWords : ℕ) (e : buildCheck field s n root (length result) mapWords ≡ Checked'.Good) where
+    abbrev built : Replay
+    built = replay (field .elements) (nodes s n) n
+
+    passed : Rooted (field .bounds) s n root
+    unfolding buildCheck
+    passed = rooted (field .bounds) s n root (then-good (listCheck (field .bounds) s n root) (need (leb (3 * n) (length result) && leb n mapWords) StoreTooShort) e .0)
+
+    well-formed : WellFormed (Low field) (nodes s n)
+    well-formed = sound-well-formed (field .bounds) s n (passed .list .sound)
+
+    replayed : Replayed (Low field) n built
+    replayed = replay-replayed (field .elements) (elementLaws field) (nodes s n) well-formed n
+
+    behind : List ℕ
+    behind = replicate (length result - length (wordsOf (built .list))) blank
+
+    begins : buildResult field s n root result mapWords ≡ wordsOf (built .list) ++ behind
+    unfolding buildResult filled behind
+    begins = rw e
+
+    holds : nodes (buildResult field s n root result mapWords) (length (built .list)) ≡ built .list
+    holds = rw begins (nodes-words behind (built .list))
+
+    pub built-in-place : InPlaceOf field s n root (buildResult field s n root result mapWords) (length (built .list)) (placeOf built root)
+    built-in-place =
+        let same : n ≤ length (nodes s n) = omega (arith, length-nodes s n) in
+        record {
+          passes = rw begins
+              (words-pass behind (field .bounds) (built .list) (replayed .well-formed) (placeOf built root) (replayed .inside root (passed .inside))
+              (omega (arith, replay-short (field .elements) (elementLaws field) (nodes s n) well-formed n, passed .list .most)));
+          no-new = rw holds (replay-inputs (KeyOf (nodes s n)) (field .elements) (nodes s n) (own-keys (nodes s n)) n same);
+          worth = λ given low. rw holds (replay-faithful (field .elements) (elementLaws field) (nodes s n) well-formed given low n same root (passed .inside));
+        }
+
+    pub build-evaluates : (u : List ℕ) → take (3 * length (built .list)) u ≡ take (3 * length (built .list)) (buildResult field s n root result mapWords)
+        → (a : List ℕ) (m : ℕ) (v : QuadFelt) → evaluateAnswer field s n root a m ≡ Value v → evaluateAnswer field u (length (built .list)) (placeOf built root) a m ≡ Value v
+    build-evaluates = evaluates-front s n root (buildResult field s n root result mapWords) (length (built .list)) (placeOf built root) built-in-place

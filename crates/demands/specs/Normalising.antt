@@ -8,7 +8,7 @@ use native.Mathlib.Omega.{arith}
 use borrow.Author.Tests.{le-leb}
 use lib.ListN.{getD, length, take, replicate, length-append}
 use lib.Seq.{take-at}
-use Rattle.field.specs.Field.{p, quad, quad-laws, Below}
+use Rattle.field.specs.Fields.{Field, Low, elementLaws}
 use Rattle.field.specs.declared.QuadFelt.{QuadFelt}
 use Rattle.dag.specs.Nodes.{blank, nodes, wordsOf, filled}
 use Rattle.dag.specs.NodeLaws.{length-nodes}
@@ -37,30 +37,31 @@ use Rattle.normalize.specs.declared.NormalizeAnswer.the-variants.{Done, Refused
 use Rattle.demands.specs.Behind.{SameList, same-front, same-nodes, same-check}
 use Rattle.demands.specs.Repeated.{Repeated, rootedOf, normalize-repeats}
 
--- the count, the root and the rounds kept, answered where Normalise accepts
-abbrev pub countOf : List ℕ → ℕ → ℕ → ℕ
-countOf s n root = length (normalized s n root .list)
+module _ (field : Field) where
+  -- the count, the root and the rounds kept, answered where Normalise accepts
+  abbrev pub countOf : List ℕ → ℕ → ℕ → ℕ
+  countOf s n root = length (normalized field s n root .list)
 
-abbrev pub rootOf : List ℕ → ℕ → ℕ → ℕ
-rootOf s n root = getD (normalized s n root .roots) 0 0
+  abbrev pub rootOf : List ℕ → ℕ → ℕ → ℕ
+  rootOf s n root = getD (normalized field s n root .roots) 0 0
 
-abbrev pub roundsOf : List ℕ → ℕ → ℕ → ℕ
-roundsOf s n root = normalized s n root .rounds
+  abbrev pub roundsOf : List ℕ → ℕ → ℕ → ℕ
+  roundsOf s n root = normalized field s n root .rounds
 
--- in the first round no rewrite fired or its compacted list was no shorter
-abbrev pub FirstNotKept : List ℕ → ℕ → ℕ → Type 0
-FirstNotKept s n root =
-    (fired (nodes s n) (fanout (nodes s n) (root ∷ [])) n ≡ false) ⊎ (n ≤ length (rounded quad (nodes s n) (root ∷ []) .list))
+  -- in the first round no rewrite fired or its compacted list was no shorter
+  abbrev pub FirstNotKept : List ℕ → ℕ → ℕ → Type 0
+  FirstNotKept s n root =
+      (fired (nodes s n) (fanout (nodes s n) (root ∷ [])) n ≡ false) ⊎ (n ≤ length (rounded (field .elements) (nodes s n) (root ∷ []) .list))
 
--- whoever hears count, root and rounds kept was accepted, and heard these
-pub done-accepted : (s : List ℕ) (n root resultWords workWords count root' rounds : ℕ) → normalizeAnswer s n root resultWords workWords ≡ Done count root' rounds
-    → (normalizeCheck s n root resultWords workWords ≡ Good) × (countOf s n root ≡ count) × (rootOf s n root ≡ root') × (roundsOf s n root ≡ rounds)
-unfolding normalizeAnswer
-done-accepted s n root resultWords workWords count root' rounds e = go (normalizeCheck s n root resultWords workWords) (countOf s n root) (rootOf s n root) (roundsOf s n root) e
-  where
-    go : (c : Checked) (i j k : ℕ) → unlessRefused c Refused (Done i j k) ≡ Done count root' rounds → (c ≡ Good) × (i ≡ count) × (j ≡ root') × (k ≡ rounds)
-    go Good i j k e = (refl, cc, cc, cc)
-    go (Checked'.Refused r) i j k e = let z : _≡_ {A = ℕ} 0 1 = cc in absurd (omega arith)
+  -- whoever hears count, root and rounds kept was accepted, and heard these
+  pub done-accepted : (s : List ℕ) (n root resultWords workWords count root' rounds : ℕ) → normalizeAnswer field s n root resultWords workWords ≡ Done count root' rounds
+      → (normalizeCheck field s n root resultWords workWords ≡ Good) × (countOf s n root ≡ count) × (rootOf s n root ≡ root') × (roundsOf s n root ≡ rounds)
+  unfolding normalizeAnswer
+  done-accepted s n root resultWords workWords count root' rounds e = go (normalizeCheck field s n root resultWords workWords) (countOf s n root) (rootOf s n root) (roundsOf s n root) e
+    where
+      go : (c : Checked) (i j k : ℕ) → unlessRefused c Refused (Done i j k) ≡ Done count root' rounds → (c ≡ Good) × (i ≡ count) × (j ≡ root') × (k ≡ rounds)
+      go Good i j k e = (refl, cc, cc, cc)
+      go (Checked'.Refused r) i j k e = let z : _≡_ {A = ℕ} 0 1 = cc in absurd (omega arith)
 
 -- a list of one
 one : (l : List ℕ) → length l ≡ 1 → l ≡ getD l 0 0 ∷ []
@@ -76,145 +77,146 @@ first-in (x ∷ l) e = here
 same-words : (l m : List NodeKind) → length l ≡ length m → wordsOf l ≡ wordsOf m → l ≡ m
 same-words l m e f = sym (nodes-words [] l) ∙ (ap₂ (λ ws n. nodes (ws ++ []) n) f e ∙ nodes-words [] m)
 
-module _ (s : List ℕ) (n root : ℕ) (result : List ℕ) (workWords : ℕ) (accepted : normalizeCheck s n root (length result) workWords ≡ Good) where
-  abbrev list : List NodeKind
-  list = normalized s n root .list
+module _ (field : Field) where
+  module _ (s : List ℕ) (n root : ℕ) (result : List ℕ) (workWords : ℕ) (accepted : normalizeCheck field s n root (length result) workWords ≡ Good) where
+    abbrev list : List NodeKind
+    list = normalized field s n root .list
 
-  abbrev count : ℕ
-  count = countOf s n root
+    abbrev count : ℕ
+    count = countOf field s n root
 
-  abbrev root' : ℕ
-  root' = rootOf s n root
+    abbrev root' : ℕ
+    root' = rootOf field s n root
 
-  abbrev store : List ℕ
-  store = normalizeResult s n root result workWords
+    abbrev store : List ℕ
+    store = normalizeResult field s n root result workWords
 
-  tests : Passed s n root (length result) workWords
-  tests = passed s n root (length result) workWords accepted
+    tests : Passed field s n root (length result) workWords
+    tests = passed field s n root (length result) workWords accepted
 
-  well-formed : WellFormed Below (nodes s n)
-  well-formed = sound-well-formed p s n (tests .sound)
+    well-formed : WellFormed (Low field) (nodes s n)
+    well-formed = sound-well-formed (field .bounds) s n (tests .sound)
 
-  inside : AllBelow (length (nodes s n)) (root ∷ [])
-  inside = one-below (length (nodes s n)) root (omega (arith, length-nodes s n, tests .inside))
+    inside : AllBelow (length (nodes s n)) (root ∷ [])
+    inside = one-below (length (nodes s n)) root (omega (arith, length-nodes s n, tests .inside))
 
-  one-root : length (normalized s n root .roots) ≡ 1
-  unfolding normalized
-  one-root = as-many-roots quad quad-laws (nodes s n) well-formed (root ∷ []) inside
+    one-root : length (normalized field s n root .roots) ≡ 1
+    unfolding normalized
+    one-root = as-many-roots (field .elements) (elementLaws field) (nodes s n) well-formed (root ∷ []) inside
 
-  behind : List ℕ
-  behind = replicate (length result - length (wordsOf list)) blank
+    behind : List ℕ
+    behind = replicate (length result - length (wordsOf list)) blank
 
-  begins : store ≡ wordsOf list ++ behind
-  unfolding normalizeResult filled behind
-  begins = rw accepted
+    begins : store ≡ wordsOf list ++ behind
+    unfolding normalizeResult filled behind
+    begins = rw accepted
 
-  -- it answers count, root and rounds kept
-  pub answer-done : normalizeAnswer s n root (length result) workWords ≡ Done count root' (roundsOf s n root)
-  unfolding normalizeAnswer
-  answer-done = rw accepted
+    -- it answers count, root and rounds kept
+    pub answer-done : normalizeAnswer field s n root (length result) workWords ≡ Done count root' (roundsOf field s n root)
+    unfolding normalizeAnswer
+    answer-done = rw accepted
 
-  -- exactly those that the rounds give: as many as are kept before one isn't, and the list that this one started from
-  pub answer-exact : Repeated quad (nodes s n) (root ∷ []) (roundsOf s n root) (rootedOf (normalized s n root))
-  unfolding normalized
-  answer-exact = normalize-repeats quad (nodes s n) (root ∷ [])
+    -- exactly those that the rounds give: as many as are kept before one isn't, and the list that this one started from
+    pub answer-exact : Repeated (field .elements) (nodes s n) (root ∷ []) (roundsOf field s n root) (rootedOf (normalized field s n root))
+    unfolding normalized
+    answer-exact = normalize-repeats (field .elements) (nodes s n) (root ∷ [])
 
-  -- the result store holds the list answered
-  pub answer-list : nodes store count ≡ list
-  answer-list = rw begins (nodes-words behind list)
+    -- the result store holds the list answered
+    pub answer-list : nodes store count ≡ list
+    answer-list = rw begins (nodes-words behind list)
 
-  -- and blanks behind it
-  pub answer-words : store ≡ filled (length result) (wordsOf list)
-  unfolding normalizeResult
-  answer-words = rw accepted
+    -- and blanks behind it
+    pub answer-words : store ≡ filled (length result) (wordsOf list)
+    unfolding normalizeResult
+    answer-words = rw accepted
 
-  -- there are never more records than before
-  pub answer-count : count ≤ n
-  unfolding normalized
-  answer-count = omega (arith, never-more quad (nodes s n) (root ∷ []), length-nodes s n)
+    -- there are never more records than before
+    pub answer-count : count ≤ n
+    unfolding normalized
+    answer-count = omega (arith, never-more (field .elements) (nodes s n) (root ∷ []), length-nodes s n)
 
-  -- the rounds kept never outnumber the records lost
-  pub answer-rounds : roundsOf s n root + count ≤ n
-  unfolding normalized
-  answer-rounds = omega (arith, rounds-at-most-lost quad (nodes s n) (root ∷ []), length-nodes s n)
+    -- the rounds kept never outnumber the records lost
+    pub answer-rounds : roundsOf field s n root + count ≤ n
+    unfolding normalized
+    answer-rounds = omega (arith, rounds-at-most-lost (field .elements) (nodes s n) (root ∷ []), length-nodes s n)
 
-  answered : Answered Below (normalized s n root)
-  unfolding normalized
-  answered = answer-well-formed quad quad-laws (nodes s n) well-formed (root ∷ []) inside
+    answered : Answered (Low field) (normalized field s n root)
+    unfolding normalized
+    answered = answer-well-formed (field .elements) (elementLaws field) (nodes s n) well-formed (root ∷ []) inside
 
-  -- the answer passes the list check
-  pub answer-passes : listCheck p store count root' ≡ Good
-  answer-passes =
-      rw begins
-      (words-pass behind p list (answered .well-formed) root' (answered .inside root' (first-in (normalized s n root .roots) one-root))
-      (omega (arith, answer-count, tests .few)))
+    -- the answer passes the list check
+    pub answer-passes : listCheck (field .bounds) store count root' ≡ Good
+    answer-passes =
+        rw begins
+        (words-pass behind (field .bounds) list (answered .well-formed) root' (answered .inside root' (first-in (normalized field s n root .roots) one-root))
+        (omega (arith, answer-count, tests .few)))
 
-  -- whatever field element each key is given, the root answered has the value of the root given
-  pub answer-value : (given : ℕ → QuadFelt) → ((k : ℕ) → Below (given k)) → value quad given (nodes store count) root' ≡ value quad given (nodes s n) root
-  unfolding normalized
-  answer-value given low = rw answer-list (same-value-at quad quad-laws (nodes s n) well-formed (root ∷ []) inside given low 0 (omega arith))
+    -- whatever field element each key is given, the root answered has the value of the root given
+    pub answer-value : (given : ℕ → QuadFelt) → ((k : ℕ) → Low field (given k)) → value (field .elements) given (nodes store count) root' ≡ value (field .elements) given (nodes s n) root
+    unfolding normalized
+    answer-value given low = rw answer-list (same-value-at (field .elements) (elementLaws field) (nodes s n) well-formed (root ∷ []) inside given low 0 (omega arith))
 
-  -- the given records and root come back exactly when in the first round no rewrite fired or its compacted list was no shorter
-  pub answer-unchanged : ((list ≡ nodes s n) × (root' ≡ root)) ↔ FirstNotKept s n root
-  unfolding normalized
-  answer-unchanged =
-      let h = rw (length-nodes s n) at (given-back-exactly-when quad (nodes s n) (root ∷ [])) in (
-        λ u. h .0 (u .0, one (normalized s n root .roots) one-root ∙ ap (λ r. r ∷ []) (u .1)),
-        λ f. let b = h .1 f in (b .0, ap (λ r. getD r 0 0) (b .1)),
-      )
+    -- the given records and root come back exactly when in the first round no rewrite fired or its compacted list was no shorter
+    pub answer-unchanged : ((list ≡ nodes s n) × (root' ≡ root)) ↔ FirstNotKept field s n root
+    unfolding normalized
+    answer-unchanged =
+        let h = rw (length-nodes s n) at (given-back-exactly-when (field .elements) (nodes s n) (root ∷ [])) in (
+          λ u. h .0 (u .0, one (normalized field s n root .roots) one-root ∙ ap (λ r. r ∷ []) (u .1)),
+          λ f. let b = h .1 f in (b .0, ap (λ r. getD r 0 0) (b .1)),
+        )
 
-  start : take (3 * count) store ≡ wordsOf list
-  start = rw begins (take-at (wordsOf list) behind (3 * count) (length-words list))
+    start : take (3 * count) store ≡ wordsOf list
+    start = rw begins (take-at (wordsOf list) behind (3 * count) (length-words list))
 
-  -- the same in words: n records again, the first 3n words those that were given, and the root
-  pub answer-unchanged-words : ((count ≡ n) × (take (3 * n) store ≡ take (3 * n) s) × (root' ≡ root)) ↔ FirstNotKept s n root
-  answer-unchanged-words = (
-    λ (c, t, r). answer-unchanged .0 (same-words list (nodes s n) (c ∙ sym (length-nodes s n)) (sym start ∙ (ap (λ k. take (3 * k) store) c ∙ (t ∙ given))), r),
-    λ f. let (l, r) = answer-unchanged .1 f in
-        let c = ap length l ∙ length-nodes s n in
-        (c, ap (λ k. take (3 * k) store) (sym c) ∙ (start ∙ (ap wordsOf l ∙ sym given)), r),
-  )
-    where
-      given : take (3 * n) s ≡ wordsOf (nodes s n)
-      given = take-words p s n (tests .sound)
+    -- the same in words: n records again, the first 3n words those that were given, and the root
+    pub answer-unchanged-words : ((count ≡ n) × (take (3 * n) store ≡ take (3 * n) s) × (root' ≡ root)) ↔ FirstNotKept field s n root
+    answer-unchanged-words = (
+      λ (c, t, r). answer-unchanged .0 (same-words list (nodes s n) (c ∙ sym (length-nodes s n)) (sym start ∙ (ap (λ k. take (3 * k) store) c ∙ (t ∙ given))), r),
+      λ f. let (l, r) = answer-unchanged .1 f in
+          let c = ap length l ∙ length-nodes s n in
+          (c, ap (λ k. take (3 * k) store) (sym c) ∙ (start ∙ (ap wordsOf l ∙ sym given)), r),
+    )
+      where
+        given : take (3 * n) s ≡ wordsOf (nodes s n)
+        given = take-words (field .bounds) s n (tests .sound)
 
-  -- normalising what came back: the same records and root again, with 0 rounds kept
-  pub answer-again-list : normalized store count root' ≡ record { list = list; roots = normalized s n root .roots; rounds = 0 }
-  unfolding normalized
-  answer-again-list = ap₂ (normalize quad) answer-list (sym (one (normalized s n root .roots) one-root)) ∙ idempotent quad (nodes s n) (root ∷ [])
+    -- normalising what came back: the same records and root again, with 0 rounds kept
+    pub answer-again-list : normalized field store count root' ≡ record { list = list; roots = normalized field s n root .roots; rounds = 0 }
+    unfolding normalized
+    answer-again-list = ap₂ (normalize (field .elements)) answer-list (sym (one (normalized field s n root .roots) one-root)) ∙ idempotent (field .elements) (nodes s n) (root ∷ [])
 
-  room : 3 * count ≤ length store
-  room = rw begins (omega (arith, length-append (wordsOf list) behind, length-words list))
+    room : 3 * count ≤ length store
+    room = rw begins (omega (arith, length-append (wordsOf list) behind, length-words list))
 
-  -- the list answered, in any store that begins with it: the result store, a slice cut behind the list, a copy with other words behind
-  module _ (t : List ℕ) (front : take (3 * count) t ≡ take (3 * count) store) where
-    pub same-list : SameList store t count
-    same-list = same-front store t count room front
+    -- the list answered, in any store that begins with it: the result store, a slice cut behind the list, a copy with other words behind
+    module _ (t : List ℕ) (front : take (3 * count) t ≡ take (3 * count) store) where
+      pub same-list : SameList store t count
+      same-list = same-front store t count room front
 
-    -- it passes the list check
-    pub again-passes : listCheck p t count root' ≡ Good
-    again-passes = sym (same-check store t count same-list root') ∙ answer-passes
+      -- it passes the list check
+      pub again-passes : listCheck (field .bounds) t count root' ≡ Good
+      again-passes = sym (same-check field store t count same-list root') ∙ answer-passes
 
-    -- it is accepted wherever the stores are long enough for the count answered
-    module _ (again : List ℕ) (workAgain : ℕ) (result-room : 3 * count ≤ length again) (work-room : 6 * count ≤ workAgain) where
-      pub again-accepted : normalizeCheck t count root' (length again) workAgain ≡ Good
-      unfolding normalizeCheck
-      again-accepted = rw (again-passes, le-leb (3 * count) (length again) result-room, le-leb (6 * count) workAgain work-room)
+      -- it is accepted wherever the stores are long enough for the count answered
+      module _ (again : List ℕ) (workAgain : ℕ) (result-room : 3 * count ≤ length again) (work-room : 6 * count ≤ workAgain) where
+        pub again-accepted : normalizeCheck field t count root' (length again) workAgain ≡ Good
+        unfolding normalizeCheck
+        again-accepted = rw (again-passes, le-leb (3 * count) (length again) result-room, le-leb (6 * count) workAgain work-room)
 
-      again-list : normalized t count root' ≡ record { list = list; roots = normalized s n root .roots; rounds = 0 }
-      unfolding normalized
-      again-list = rw (← same-nodes store t count same-list) answer-again-list
+        again-list : normalized field t count root' ≡ record { list = list; roots = normalized field s n root .roots; rounds = 0 }
+        unfolding normalized
+        again-list = rw (← (same-nodes field) store t count same-list) answer-again-list
 
-      -- it answers the same count and root, and 0 rounds kept
-      pub answer-again : normalizeAnswer t count root' (length again) workAgain ≡ Done count root' 0
-      unfolding normalizeAnswer
-      answer-again = rw (again-accepted, again-list)
+        -- it answers the same count and root, and 0 rounds kept
+        pub answer-again : normalizeAnswer field t count root' (length again) workAgain ≡ Done count root' 0
+        unfolding normalizeAnswer
+        answer-again = rw (again-accepted, again-list)
 
-      -- and writes the same words, blanks behind them
-      pub answer-again-words : normalizeResult t count root' again workAgain ≡ filled (length again) (take (3 * count) store)
-      unfolding normalizeResult
-      answer-again-words = rw (again-accepted, again-list, start)
+        -- and writes the same words, blanks behind them
+        pub answer-again-words : normalizeResult field t count root' again workAgain ≡ filled (length again) (take (3 * count) store)
+        unfolding normalizeResult
+        answer-again-words = rw (again-accepted, again-list, start)
 
-      -- the whole store again, where the two are as long
-      pub answer-again-store : length again ≡ length result → normalizeResult t count root' again workAgain ≡ store
-      answer-again-store e = answer-again-words ∙ (ap₂ filled e start ∙ sym answer-words)
+        -- the whole store again, where the two are as long
+        pub answer-again-store : length again ≡ length result → normalizeResult field t count root' again workAgain ≡ store
+        answer-again-store e = answer-again-words ∙ (ap₂ filled e start ∙ sym answer-words)

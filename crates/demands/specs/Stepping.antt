@@ -9,7 +9,7 @@ use borrow.Author.Tests.{leb-true, ltb-true}
 use lib.Dec.{leb, ltb}
 use lib.ListN.{length, take, drop}
 use lib.Seq.{take-at, drop-at}
-use Rattle.field.specs.Field.{p, quad, quad-laws, Below}
+use Rattle.field.specs.Fields.{Field, Low, elementLaws}
 use Rattle.field.specs.declared.QuadFelt.{QuadFelt}
 use Rattle.dag.specs.Nodes.{mostRecords, nodes, decode, wordsOf}
 use Rattle.dag.specs.NodeLaws.{length-nodes}
@@ -34,87 +34,88 @@ use Rattle.builder.specs.CallLaws.{step-request}
 use Rattle.builder.specs.Contracts.{Request}
 use Rattle.builder.specs.declared.StepAnswer.the-variants.{Done, Refused}
 
--- whoever hears a place and a count was accepted, and heard these
-pub step-accepted : (s : List ℕ) (n t a b place count : ℕ) → stepAnswer s n t a b ≡ Done place count
-    → (stepWholeCheck s n t a b ≡ Good) × (stepped s n t a b .place ≡ place) × (length (stepped s n t a b .list) ≡ count)
-unfolding stepAnswer
-step-accepted s n t a b place count e = go (stepWholeCheck s n t a b) (stepped s n t a b .place) (length (stepped s n t a b .list)) e
-  where
-    go : (c : Checked) (i k : ℕ) → unlessRefused c Refused (Done i k) ≡ Done place count → (c ≡ Good) × (i ≡ place) × (k ≡ count)
-    go Good i k e = (refl, cc, cc)
-    go (Checked'.Refused r) i k e = let z : _≡_ {A = ℕ} 0 1 = cc in absurd (omega arith)
-
-module _ (s : List ℕ) (n t a b place count : ℕ) (done : stepAnswer s n t a b ≡ Done place count) where
-  abbrev store : List ℕ
-  store = stepStore s n t a b
-
-  abbrev list : List Rattle.dag.specs.declared.NodeKind.NodeKind
-  list = stepped s n t a b .list
-
-  heard : (stepWholeCheck s n t a b ≡ Good) × (stepped s n t a b .place ≡ place) × (length list ≡ count)
-  heard = step-accepted s n t a b place count done
-
-  tests : (stepCheck s n t a b ≡ Good) × (stepRoomCheck s n (stepped s n t a b) ≡ Good)
-  unfolding stepWholeCheck
-  tests = then-good (stepCheck s n t a b) (stepRoomCheck s n (stepped s n t a b)) (heard .0)
-
-  request : Request s n (decode t a b) × (n ≤ mostRecords)
-  request = step-request s n t a b (tests .0)
-
-  well-formed : WellFormed Below (nodes s n)
-  well-formed = sound-well-formed p s n (request .0 .sound)
-
-  fine : Fine Below (length (nodes s n)) (decode t a b)
-  fine = rw (length-nodes s n) (request .0 .fine)
-
-  grown : Grown Below (nodes s n) (stepped s n t a b)
-  unfolding stepped
-  grown = step-grown quad quad-laws (nodes s n) well-formed (decode t a b) fine
-
-  few : count ≤ mostRecords
-  unfolding stepRoomCheck hasRoom
-  few = go (or-true (leb (length list) n) (hasRoom s n) (need-good (leb (length list) n || hasRoom s n) NoRoom (tests .1)))
+module _ (field : Field) where
+  -- whoever hears a place and a count was accepted, and heard these
+  pub step-accepted : (s : List ℕ) (n t a b place count : ℕ) → stepAnswer field s n t a b ≡ Done place count
+      → (stepWholeCheck field s n t a b ≡ Good) × (stepped field s n t a b .place ≡ place) × (length (stepped field s n t a b .list) ≡ count)
+  unfolding stepAnswer
+  step-accepted s n t a b place count e = go (stepWholeCheck field s n t a b) (stepped field s n t a b .place) (length (stepped field s n t a b .list)) e
     where
-      go : (leb (length list) n ≡ true) ⊎ (hasRoom s n ≡ true) → count ≤ mostRecords
-      go (inl e) = omega (arith, leb-true (length list) n e, heard .2, request .1)
-      go (inr e) =
-          omega (arith, ltb-true n mostRecords (and-true (ltb n mostRecords) (leb (3 * (n + 1)) (length s)) e .0), heard .2, grown .by-one, length-nodes s n)
+      go : (c : Checked) (i k : ℕ) → unlessRefused c Refused (Done i k) ≡ Done place count → (c ≡ Good) × (i ≡ place) × (k ≡ count)
+      go Good i k e = (refl, cc, cc)
+      go (Checked'.Refused r) i k e = let z : _≡_ {A = ℕ} 0 1 = cc in absurd (omega arith)
 
-  stored : store ≡ written s list
-  unfolding stepStore
-  stored = rw (heard .0)
+  module _ (s : List ℕ) (n t a b place count : ℕ) (done : stepAnswer field s n t a b ≡ Done place count) where
+    abbrev store : List ℕ
+    store = stepStore field s n t a b
 
-  -- the store begins with the words of the step's list
-  pub begins : take (3 * count) store ≡ wordsOf list
-  unfolding written
-  begins = rw (stored, ← heard .2) (take-at (wordsOf list) (drop (3 * length list) s) (3 * length list) (length-words list))
+    abbrev list : List Rattle.dag.specs.declared.NodeKind.NodeKind
+    list = stepped field s n t a b .list
 
-  -- behind it every word stays
-  pub behind-stays : drop (3 * count) store ≡ drop (3 * count) s
-  unfolding written
-  behind-stays = rw (stored, ← heard .2) (drop-at (wordsOf list) (drop (3 * length list) s) (3 * length list) (length-words list))
+    heard : (stepWholeCheck field s n t a b ≡ Good) × (stepped field s n t a b .place ≡ place) × (length list ≡ count)
+    heard = step-accepted s n t a b place count done
 
-  -- the store's list is the step's list
-  pub step-list : nodes store count ≡ step quad (nodes s n) (decode t a b) .list
-  unfolding stepped
-  step-list = rw (stored, ← heard .2) (nodes-written s list)
+    tests : (stepCheck field s n t a b ≡ Good) × (stepRoomCheck s n (stepped field s n t a b) ≡ Good)
+    unfolding stepWholeCheck
+    tests = then-good (stepCheck field s n t a b) (stepRoomCheck s n (stepped field s n t a b)) (heard .0)
 
-  -- the store still passes the list check
-  pub step-passes : rootlessCheck p 0 store count ≡ Good
-  unfolding written
-  step-passes =
-      rw (stored, ← heard .2) (words-rootless (drop (3 * length list) s) p list (grown .well-formed) 0 (omega arith) (omega (arith, heard .2, few)))
+    request : Request field s n (decode t a b) × (n ≤ mostRecords)
+    request = step-request field s n t a b (tests .0)
 
-  -- the place is inside
-  pub step-inside : place < count
-  step-inside = omega (arith, grown .inside, heard .1, heard .2)
+    well-formed : WellFormed (Low field) (nodes s n)
+    well-formed = sound-well-formed (field .bounds) s n (request .0 .sound)
 
-  module _ (given : ℕ → QuadFelt) (low : (k : ℕ) → Below (given k)) where
-    -- its value is the operation on the operands' values
-    pub step-worth : value quad given (nodes store count) place ≡ valueOf quad given (value quad given (nodes s n)) (decode t a b)
+    fine : Fine (Low field) (length (nodes s n)) (decode t a b)
+    fine = rw (length-nodes s n) (request .0 .fine)
+
+    grown : Grown (Low field) (nodes s n) (stepped field s n t a b)
     unfolding stepped
-    step-worth = rw (step-list, ← heard .1) (step-value quad quad-laws given low (nodes s n) well-formed (decode t a b) fine)
+    grown = step-grown (field .elements) (elementLaws field) (nodes s n) well-formed (decode t a b) fine
 
-    -- earlier values stay
-    pub step-earlier : (i : ℕ) → i < n → value quad given (nodes store count) i ≡ value quad given (nodes s n) i
-    step-earlier i h = rw step-list (step-keeps quad quad-laws given low (nodes s n) well-formed (decode t a b) fine i (omega (arith, length-nodes s n)))
+    few : count ≤ mostRecords
+    unfolding stepRoomCheck hasRoom
+    few = go (or-true (leb (length list) n) (hasRoom s n) (need-good (leb (length list) n || hasRoom s n) NoRoom (tests .1)))
+      where
+        go : (leb (length list) n ≡ true) ⊎ (hasRoom s n ≡ true) → count ≤ mostRecords
+        go (inl e) = omega (arith, leb-true (length list) n e, heard .2, request .1)
+        go (inr e) =
+            omega (arith, ltb-true n mostRecords (and-true (ltb n mostRecords) (leb (3 * (n + 1)) (length s)) e .0), heard .2, grown .by-one, length-nodes s n)
+
+    stored : store ≡ written s list
+    unfolding stepStore
+    stored = rw (heard .0)
+
+    -- the store begins with the words of the step's list
+    pub begins : take (3 * count) store ≡ wordsOf list
+    unfolding written
+    begins = rw (stored, ← heard .2) (take-at (wordsOf list) (drop (3 * length list) s) (3 * length list) (length-words list))
+
+    -- behind it every word stays
+    pub behind-stays : drop (3 * count) store ≡ drop (3 * count) s
+    unfolding written
+    behind-stays = rw (stored, ← heard .2) (drop-at (wordsOf list) (drop (3 * length list) s) (3 * length list) (length-words list))
+
+    -- the store's list is the step's list
+    pub step-list : nodes store count ≡ step (field .elements) (nodes s n) (decode t a b) .list
+    unfolding stepped
+    step-list = rw (stored, ← heard .2) (nodes-written s list)
+
+    -- the store still passes the list check
+    pub step-passes : rootlessCheck (field .bounds) 0 store count ≡ Good
+    unfolding written
+    step-passes =
+        rw (stored, ← heard .2) (words-rootless (drop (3 * length list) s) (field .bounds) list (grown .well-formed) 0 (omega arith) (omega (arith, heard .2, few)))
+
+    -- the place is inside
+    pub step-inside : place < count
+    step-inside = omega (arith, grown .inside, heard .1, heard .2)
+
+    module _ (given : ℕ → QuadFelt) (low : (k : ℕ) → Low field (given k)) where
+      -- its value is the operation on the operands' values
+      pub step-worth : value (field .elements) given (nodes store count) place ≡ valueOf (field .elements) given (value (field .elements) given (nodes s n)) (decode t a b)
+      unfolding stepped
+      step-worth = rw (step-list, ← heard .1) (step-value (field .elements) (elementLaws field) given low (nodes s n) well-formed (decode t a b) fine)
+
+      -- earlier values stay
+      pub step-earlier : (i : ℕ) → i < n → value (field .elements) given (nodes store count) i ≡ value (field .elements) given (nodes s n) i
+      step-earlier i h = rw step-list (step-keeps (field .elements) (elementLaws field) given low (nodes s n) well-formed (decode t a b) fine i (omega (arith, length-nodes s n)))

@@ -2,7 +2,8 @@
 use Prim.Native.Nat.{ℕ, _+_, _*_}
 use mathlib.Core.List.{List}
 use lib.ListN.{getD}
-use Rattle.field.specs.Field.{p, quad, new}
+use Rattle.field.specs.Fields.{Field}
+use Rattle.field.specs.Field.{new}
 use Rattle.field.specs.declared.QuadFelt.{QuadFelt}
 use Rattle.dag.specs.Nodes.{nodes}
 use Rattle.dag.specs.Refusals.{_then_, unlessRefused}
@@ -28,14 +29,15 @@ elementOf a Missing = new 0 0
 unfoldable pub given : List ℕ → ℕ → ℕ → QuadFelt
 given a m key = elementOf a (entryOf entryWords a m key)
 
--- Evaluate's tests: the list check, the entries, then the inputs
-unfoldable pub evaluateCheck : List ℕ → ℕ → ℕ → List ℕ → ℕ → Checked
-evaluateCheck s n root a m =
-    listCheck p s n root
-    then entriesCheck p entryWords a m
-    then inputsCheck (entryOf entryWords a m) (nodes s n) n
+module _ (field : Field) where
+  -- Evaluate's tests: the list check, the entries, then the inputs
+  unfoldable pub evaluateCheck : List ℕ → ℕ → ℕ → List ℕ → ℕ → Checked
+  evaluateCheck s n root a m =
+      listCheck (field .bounds) s n root
+      then entriesCheck (field .bounds) entryWords a m
+      then inputsCheck (entryOf entryWords a m) (nodes s n) n
 
--- the root's value
-unfoldable pub evaluateAnswer : List ℕ → ℕ → ℕ → List ℕ → ℕ → Evaluated
-evaluateAnswer s n root a m =
-    unlessRefused (evaluateCheck s n root a m) Refused (Value (value quad (given a m) (nodes s n) root))
+  -- the root's value
+  unfoldable pub evaluateAnswer : List ℕ → ℕ → ℕ → List ℕ → ℕ → Evaluated
+  evaluateAnswer s n root a m =
+      unlessRefused (evaluateCheck s n root a m) Refused (Value (value (field .elements) (given a m) (nodes s n) root))

@@ -4,7 +4,9 @@ use mathlib.Core.Bool.{Bool, true, false}
 use mathlib.Core.List.{List}
 use mathlib.Core.Path.{_≡_}
 use lib.ListN.{getD, length}
-use Rattle.field.specs.Field.{p, quad, Below, new}
+use Rattle.dag.specs.Refusals.{firstRefused}
+use Rattle.field.specs.Fields.{Field, Low}
+use Rattle.field.specs.Field.{new}
 use Rattle.field.specs.declared.QuadFelt.{QuadFelt}
 use Rattle.dag.specs.Nodes.{recordAt, nodes}
 use Rattle.dag.specs.Check.{listCheck}
@@ -14,7 +16,7 @@ use Rattle.dag.specs.declared.NodeKind.{NodeKind}
 use Rattle.dag.specs.declared.Checked.the-variants.{Good}
 use Rattle.index.specs.Index.{half, Usable}
 use Rattle.meaning.specs.Values.{value, valueOf}
-use Rattle.evaluate.specs.Entries.{Lent, firstRefused, entryCheck, entriesCheck, entryOf, hasEntry}
+use Rattle.evaluate.specs.Entries.{Lent, entryCheck, entriesCheck, entryOf, hasEntry}
 use Rattle.evaluate.specs.Calls.{entryWords, given}
 use Rattle.evaluate.specs.declared.Assigned.{Assigned}
 use Rattle.evaluate.specs.declared.Assigned.the-variants.{Element, Absent}
@@ -24,37 +26,39 @@ abbrev pub assigned : Bool → QuadFelt → Assigned
 assigned true v = Element v
 assigned false v = Absent
 
--- the value of a record on the values v of earlier places; none for an input whose key has no entry
-unfoldable pub recordAnswer : List ℕ → ℕ → (ℕ → QuadFelt) → NodeKind → Assigned
-recordAnswer a m v x = assigned (hasEntry (entryOf entryWords a m) x) (valueOf quad (given a m) v x)
+module _ (field : Field) where
+  -- the value of a record on the values v of earlier places; none for an input whose key has no entry
+  unfoldable pub recordAnswer : List ℕ → ℕ → (ℕ → QuadFelt) → NodeKind → Assigned
+  recordAnswer a m v x = assigned (hasEntry (entryOf entryWords a m) x) (valueOf (field .elements) (given a m) v x)
 
 -- the element with its coordinates at place i of two arrays
 unfoldable pub elementAt : List ℕ → List ℕ → ℕ → QuadFelt
 elementAt c0 c1 i = new (getD c0 i 0) (getD c1 i 0)
 
--- the record at place i may stand there, and the values before it are in two arrays
-pub record Valued (s : List ℕ) (i : ℕ) (c0 c1 : List ℕ) : Type 0 where
-  pub room : 3 * i + 2 < length s
-  pub fine : Fine Below i (recordAt s i)
-  pub first : i ≤ length c0
-  pub second : i ≤ length c1
-  pub low : (j : ℕ) → j < i → Below (elementAt c0 c1 j)
+module _ (field : Field) where
+  -- the record at place i may stand there, and the values before it are in two arrays
+  pub record Valued (s : List ℕ) (i : ℕ) (c0 c1 : List ℕ) : Type 0 where
+    pub room : 3 * i + 2 < length s
+    pub fine : Fine (Low field) i (recordAt s i)
+    pub first : i ≤ length c0
+    pub second : i ≤ length c1
+    pub low : (j : ℕ) → j < i → Low field (elementAt c0 c1 j)
 
--- n records and m entries that pass their tests, and k places for values
-pub record Ready (s : List ℕ) (n : ℕ) (a : List ℕ) (m k : ℕ) : Type 0 where
-  pub sound : Sound p s n
-  pub lent : Lent entryWords a m
-  pub good : firstRefused (entryCheck p entryWords a) m ≡ Good
-  pub fits : n ≤ k
+  -- n records and m entries that pass their tests, and k places for values
+  pub record Ready (s : List ℕ) (n : ℕ) (a : List ℕ) (m k : ℕ) : Type 0 where
+    pub sound : Sound (field .bounds) s n
+    pub lent : Lent entryWords a m
+    pub good : firstRefused (entryCheck (field .bounds) entryWords a) m ≡ Good
+    pub fits : n ≤ k
 
--- the values of the first i records stand in two arrays
-abbrev pub Filled : List ℕ → ℕ → List ℕ → ℕ → List ℕ → List ℕ → ℕ → Type 0
-Filled s n a m c0 c1 i = (j : ℕ) → j < i → elementAt c0 c1 j ≡ value quad (given a m) (nodes s n) j
+  -- the values of the first i records stand in two arrays
+  abbrev pub Filled : List ℕ → ℕ → List ℕ → ℕ → List ℕ → List ℕ → ℕ → Type 0
+  Filled s n a m c0 c1 i = (j : ℕ) → j < i → elementAt c0 c1 j ≡ value (field .elements) (given a m) (nodes s n) j
 
--- the list and the entries pass their tests
-pub record Tested (s : List ℕ) (n root : ℕ) (a : List ℕ) (m : ℕ) : Type 0 where
-  pub list : listCheck p s n root ≡ Good
-  pub entries : entriesCheck p entryWords a m ≡ Good
+  -- the list and the entries pass their tests
+  pub record Tested (s : List ℕ) (n root : ℕ) (a : List ℕ) (m : ℕ) : Type 0 where
+    pub list : listCheck (field .bounds) s n root ≡ Good
+    pub entries : entriesCheck (field .bounds) entryWords a m ≡ Good
 
 -- room for the values of n records, and empty links for m entries
 pub record Stores (n m : ℕ) (c0 c1 links : List ℕ) : Type 0 where

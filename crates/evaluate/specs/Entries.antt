@@ -4,9 +4,11 @@ use mathlib.Core.Bool.{Bool, true, false, cond, _&&_}
 use mathlib.Core.List.{List}
 use lib.Dec.{leb, ltb, eqb}
 use lib.ListN.{getD, length}
+use Rattle.field.specs.Fields.{Bounds, bound}
 use Rattle.dag.specs.Keys.{isKey}
+use Rattle.dag.specs.Lookup.{greatest}
 use Rattle.dag.specs.Nodes.{at}
-use Rattle.dag.specs.Refusals.{need, _then_}
+use Rattle.dag.specs.Refusals.{need, _then_, firstRefused}
 use Rattle.dag.specs.declared.NodeKind.{NodeKind}
 use Rattle.dag.specs.declared.NodeKind.the-variants.{Input, Constant, Add, Sub, Mul, Neg}
 use Rattle.dag.specs.declared.Found.{Found}
@@ -24,26 +26,21 @@ pub record Lent (width : ℕ) (e : List ℕ) (n : ℕ) : Type 0 where
   pub wide : 0 < width
   pub room : width * n ≤ length e
 
--- the first refusal of a test at the places below n
-unfoldable pub firstRefused : (ℕ → Checked) → ℕ → Checked
-firstRefused test zero = Good
-firstRefused test (suc n) = firstRefused test n then test n
-
 -- the key number of entry i
 abbrev pub keyAt : ℕ → List ℕ → ℕ → ℕ
 keyAt width e i = getD e (width * i) 0
 
--- k words from a place on are below m
-unfoldable pub wordsBelow : ℕ → List ℕ → ℕ → ℕ → Bool
+-- k words from a place on are coordinates in lowest form: the first is c0
+unfoldable pub wordsBelow : Bounds → List ℕ → ℕ → ℕ → Bool
 wordsBelow m e from zero = true
-wordsBelow m e from (suc k) = wordsBelow m e from k && ltb (getD e (from + k) 0) m
+wordsBelow m e from (suc k) = wordsBelow m e from k && ltb (getD e (from + k) 0) (bound m k)
 
--- 4: a number no key has, or a coordinate not below m
-unfoldable pub entryCheck : ℕ → ℕ → List ℕ → ℕ → Checked
+-- 4: a number no key has, or a coordinate not in lowest form
+unfoldable pub entryCheck : Bounds → ℕ → List ℕ → ℕ → Checked
 entryCheck m width e i = need (isKey (keyAt width e i) && wordsBelow m e (width * i + 1) (width - 1)) (Malformed i)
 
 -- the tests of n entries: 11, 2, then the first bad entry
-unfoldable pub entriesCheck : ℕ → ℕ → List ℕ → ℕ → Checked
+unfoldable pub entriesCheck : Bounds → ℕ → List ℕ → ℕ → Checked
 entriesCheck m width e n =
     need (leb n mostEntries) TooManyEntries
     then need (leb (width * n) (length e)) StoreTooShort
@@ -51,8 +48,7 @@ entriesCheck m width e n =
 
 -- the last entry of a key among the first n
 unfoldable pub entryOf : ℕ → List ℕ → ℕ → ℕ → Found
-entryOf width e zero key = Missing
-entryOf width e (suc n) key = cond (eqb (keyAt width e n) key) (At n) (entryOf width e n key)
+entryOf width e n key = greatest (λ i. eqb (keyAt width e i) key) n
 
 -- something was found
 abbrev pub isFound : Found → Bool

@@ -10,63 +10,43 @@ use native.Mathlib.Omega.{arith}
 use borrow.Author.Tests.{lt-ltb, ltb-true, eq-eqb, ne-eqb, eqb-true, eqb-false}
 use lib.Dec.{ltb, eqb}
 use lib.ListN.{getD, length}
+use Rattle.dag.specs.Lookup.{greatest}
+use Rattle.field.specs.Fields.{Bounds, bound}
 use Rattle.dag.specs.Keys.{isKey}
 use Rattle.dag.specs.Nodes.{nodes, at, recordAt}
 use Rattle.dag.specs.NodeLaws.{at-nodes}
 use Rattle.dag.specs.declared.NodeKind.{NodeKind}
 use Rattle.dag.specs.CaseLaws.{and-true, below-suc, below-suc-elim}
-use Rattle.dag.specs.Refusals.{need, _then_, isRefused}
-use Rattle.dag.specs.CheckLaws.{then-good, refused-then}
+use Rattle.dag.specs.Refusals.{firstRefused, need, _then_, isRefused}
+use Rattle.dag.specs.CheckLaws.{first-next, first-bad}
 use Rattle.dag.specs.declared.Found.{Found}
 use Rattle.dag.specs.declared.Found.the-variants.{At, Missing}
 use Rattle.dag.specs.declared.Refusal.the-variants.{Malformed, Unassigned}
 use Rattle.dag.specs.declared.Checked.{Checked}
 use Rattle.dag.specs.declared.Checked.the-variants.{Good, Refused}
-use Rattle.evaluate.specs.Entries.{Lent, firstRefused, keyAt, wordsBelow, entryCheck, entryOf, isFound, hasEntry, inputsCheck}
+use Rattle.evaluate.specs.Entries.{Lent, keyAt, wordsBelow, entryCheck, entryOf, isFound, hasEntry, inputsCheck}
 
--- a test at the places below n, one by one
-module _ (test : ℕ → Checked) where
-  pub refused-next : (i : ℕ) → firstRefused test i ≡ Good → test i ≡ Good → firstRefused test (i + 1) ≡ Good
-  unfolding firstRefused
-  refused-next i e f = rw (add-one i, e) f
-
-  pub refused-here : (i n : ℕ) → firstRefused test i ≡ Good → isRefused (test i) ≡ true → i < n → test i ≡ firstRefused test n
-  unfolding firstRefused
-  refused-here i zero good bad h = absurd (omega arith)
-  refused-here i (suc n) good bad h = go (λ k. refused-here i n good bad k) (below-suc i n h)
-    where
-      go : (i < n → test i ≡ firstRefused test n) → (i < n) ⊎ (i ≡ n) → test i ≡ firstRefused test n then test n
-      go before (inl k) = refused-then (test i) (test n) bad ∙ ap (λ c. c then test n) (before k)
-      go before (inr e) = rw (← e, good)
-
-  pub good-below : (n : ℕ) → firstRefused test n ≡ Good → (i : ℕ) → i < n → test i ≡ Good
-  unfolding firstRefused
-  good-below zero e i h = absurd (omega arith)
-  good-below (suc n) e i h =
-      let both = then-good (firstRefused test n) (test n) e in
-      below-suc-elim (λ i. test i ≡ Good) n (good-below n (both .0)) (both .1) i h
-
--- words below m, one by one
-module _ (m : ℕ) (e : List ℕ) (from : ℕ) where
+-- words in lowest form, one by one
+module _ (m : Bounds) (e : List ℕ) (from : ℕ) where
   pub words-none : wordsBelow m e from (from - from) ≡ true
   unfolding wordsBelow
   words-none = let z : from - from ≡ 0 = omega arith in rw z
 
-  pub words-next : (i : ℕ) → from ≤ i → wordsBelow m e from (i - from) ≡ true → getD e i 0 < m → wordsBelow m e from (i + 1 - from) ≡ true
+  pub words-next : (i : ℕ) → from ≤ i → wordsBelow m e from (i - from) ≡ true → getD e i 0 < bound m (i - from) → wordsBelow m e from (i + 1 - from) ≡ true
   unfolding wordsBelow
   words-next i h w b =
       let next : i + 1 - from ≡ suc (i - from) = omega arith in
       let here : from + (i - from) ≡ i = omega arith in
-      rw (next, w, here) (lt-ltb (getD e i 0) m b)
+      rw (next, w, here) (lt-ltb (getD e i 0) (bound m (i - from)) b)
 
-  pub word-below : (k j : ℕ) → j < k → wordsBelow m e from k ≡ true → getD e (from + j) 0 < m
+  pub word-below : (k j : ℕ) → j < k → wordsBelow m e from k ≡ true → getD e (from + j) 0 < bound m j
   unfolding wordsBelow
   word-below zero j h w = absurd (omega arith)
   word-below (suc k) j h w =
-      let both = and-true (wordsBelow m e from k) (ltb (getD e (from + k) 0) m) w in
-      below-suc-elim (λ j. getD e (from + j) 0 < m) k (λ j q. word-below k j q (both .0)) (ltb-true (getD e (from + k) 0) m (both .1)) j h
+      let both = and-true (wordsBelow m e from k) (ltb (getD e (from + k) 0) (bound m k)) w in
+      below-suc-elim (λ j. getD e (from + j) 0 < bound m j) k (λ j q. word-below k j q (both .0)) (ltb-true (getD e (from + k) 0) (bound m k) (both .1)) j h
 
-  pub words-fail : (i to : ℕ) → from ≤ i → i < to → m ≤ getD e i 0 → false ≡ wordsBelow m e from (to - from)
+  pub words-fail : (i to : ℕ) → from ≤ i → i < to → bound m (i - from) ≤ getD e i 0 → false ≡ wordsBelow m e from (to - from)
   words-fail i to h k bad = go (wordsBelow m e from (to - from)) refl
     where
       go : (b : Bool) → wordsBelow m e from (to - from) ≡ b → false ≡ b
@@ -76,7 +56,7 @@ module _ (m : ℕ) (e : List ℕ) (from : ℕ) where
           absurd (let q = rw here at (word-below (to - from) (i - from) (omega arith) w) in omega arith)
 
 -- the test of one entry
-module _ (m width : ℕ) (e : List ℕ) (i : ℕ) where
+module _ (m : Bounds) (width : ℕ) (e : List ℕ) (i : ℕ) where
   pub bad-key : isKey (keyAt width e i) ≡ false → Refused (Malformed i) ≡ entryCheck m width e i
   unfolding entryCheck
   bad-key k = rw k
@@ -107,7 +87,7 @@ module _ (width : ℕ) (e : List ℕ) (n : ℕ) (lent : Lent width e n) where
 -- the search for a key's last entry, one entry a turn
 module _ (width : ℕ) (e : List ℕ) (key : ℕ) where
   entry-step : (i : ℕ) → 0 < i → entryOf width e i key ≡ cond (eqb (keyAt width e (i - 1)) key) (At (i - 1)) (entryOf width e (i - 1) key)
-  unfolding entryOf
+  unfolding entryOf greatest
   entry-step zero h = absurd (omega arith)
   entry-step (suc i) h = rw (sub-one (suc i))
 
@@ -119,14 +99,14 @@ module _ (width : ℕ) (e : List ℕ) (key : ℕ) where
     entry-miss q = inv ∙ (entry-step i h ∙ rw (ne-eqb (keyAt width e (i - 1)) key q))
 
   pub entry-none : (n i : ℕ) → i ≤ 0 → entryOf width e n key ≡ entryOf width e i key → Missing ≡ entryOf width e n key
-  unfolding entryOf
+  unfolding entryOf greatest
   entry-none n zero h inv = sym inv
   entry-none n (suc i) h inv = absurd (omega arith)
 
 -- what is found is an entry
 module _ (width : ℕ) (e : List ℕ) (key : ℕ) where
   pub entry-inside : (n i : ℕ) → entryOf width e n key ≡ At i → i < n
-  unfolding entryOf
+  unfolding entryOf greatest
   entry-inside zero i q = let z : _≡_ {A = ℕ} 0 1 = cc in absurd (omega arith)
   entry-inside (suc n) i q = go (eqb (keyAt width e n) key) q (entry-inside n i)
     where
@@ -146,7 +126,7 @@ Says width e n key (At i) = Last width e n key i
 Says width e n key Missing = (j : ℕ) → j < n → keyAt width e j ≡ key → ⊥
 
 pub entry-says : (width : ℕ) (e : List ℕ) (n key : ℕ) → Says width e n key (entryOf width e n key)
-unfolding entryOf
+unfolding entryOf greatest
 entry-says width e zero key = λ j h q. absurd (omega arith)
 entry-says width e (suc n) key = go (eqb (keyAt width e n) key) refl (entryOf width e n key) (entry-says width e n key)
   where
@@ -180,8 +160,8 @@ module _ (find : ℕ → Found) (s : List ℕ) (n i : ℕ) (x : NodeKind) (h : i
   pub no-entry : hasEntry find x ≡ false → Refused (Unassigned i) ≡ inputsCheck find (nodes s n) n
   unfolding inputsCheck
   no-entry q =
-      sym (refused q) ∙ refused-here (λ i. need (hasEntry find (at (nodes s n) i)) (Unassigned i)) i n before (rw (refused q)) h
+      sym (refused q) ∙ first-bad (λ i. need (hasEntry find (at (nodes s n) i)) (Unassigned i)) i n before (rw (refused q)) h
 
   pub an-entry : hasEntry find x ≡ true → inputsCheck find (nodes s n) (i + 1) ≡ Good
   unfolding inputsCheck
-  an-entry q = refused-next (λ i. need (hasEntry find (at (nodes s n) i)) (Unassigned i)) i before (rw (← here, q))
+  an-entry q = first-next (λ i. need (hasEntry find (at (nodes s n) i)) (Unassigned i)) i before (rw (← here, q))

@@ -11,7 +11,8 @@ use lib.Dec.{eqb}
 use lib.ListN.{getD, length}
 use Rattle.dag.specs.declared.Found.{Found}
 use Rattle.dag.specs.declared.Found.the-variants.{At, Missing}
-use Rattle.index.specs.Index.{greatest, half, noted, Usable}
+use Rattle.dag.specs.Lookup.{greatest}
+use Rattle.index.specs.Index.{half, noted, Usable}
 use Rattle.index.specs.IndexLaws.{indexed-none, indexed-noted, length-noted}
 use Rattle.index.specs.NodeIndexLaws.{node-inside}
 use Rattle.index.specs.WalkLaws.{Walking, walk-begin, walk-on, walk-down, walk-hit, walk-none}
@@ -36,12 +37,6 @@ keyed-next width e n links k after d room is ea =
       indexed = rw (same, ea) new;
     }
 
--- a key's last entry is the greatest place of its key
-entry-greatest : (width : ℕ) (e : List ℕ) (n key : ℕ) → entryOf width e n key ≡ greatest (λ i. eqb (keyAt width e i) key) n
-unfolding entryOf greatest
-entry-greatest width e zero key = refl
-entry-greatest width e (suc n) key = rw (entry-greatest width e n key)
-
 -- the walk for a key
 module _ (width : ℕ) (e : List ℕ) (n : ℕ) (links : List ℕ) (key : ℕ) where
   here : ℕ → Bool
@@ -65,8 +60,8 @@ module _ (width : ℕ) (e : List ℕ) (n : ℕ) (links : List ℕ) (key : ℕ) w
   only i h q = ap (keyBucket (half links)) (eqb-true (keyAt width e i) key q)
 
   whole : greatest here n ≡ entryOf width e n key
-  unfolding here
-  whole = sym (entry-greatest width e n key)
+  unfolding here entryOf
+  whole = refl
 
   module _ (d : Keyed width e n links) where
     inside : start < half links
@@ -94,8 +89,8 @@ module _ (width : ℕ) (e : List ℕ) (n : ℕ) (links : List ℕ) (key : ℕ) w
 
   -- the plain search from here on
   pub find-plain : (link : ℕ) → Standing link → {r : Found} → r ≡ entryOf width e link key → r ≡ entryOf width e n key
-  unfolding here
-  find-plain link w q = q ∙ (entry-greatest width e link key ∙ (sym (w .walking .same) ∙ whole))
+  unfolding here entryOf
+  find-plain link w q = q ∙ (sym (w .walking .same) ∙ whole)
 
 -- the first entries of those lent
 pub lent-first : (width : ℕ) (e : List ℕ) (n k : ℕ) → k ≤ n → Lent width e n → Lent width e k

@@ -7,6 +7,8 @@ use field::QuadFelt;
 ghost use mathlib.Core.Path.{_≡_};
 ghost use Prim.Native.Nat.{_+_, _*_, _-_, _^_, _<_, _≤_};
 ghost use lib.ListN.{length, set};
+ghost use Rattle.dag.specs.Refusals as Refusals;
+ghost use Rattle.field.specs.Fields.{goldilocks};
 ghost use Rattle.field.specs.Field.{p};
 ghost use Rattle.dag.specs.Nodes as Nodes;
 ghost use Rattle.dag.specs.Refusals.{_then_};
@@ -53,7 +55,7 @@ fn key_at(entries: &[u64], width: usize, i: usize) -> u64
 // Whether the words from place `from` up to place `to` are below p.
 fn words_below(entries: &[u64], from: usize, to: usize) -> bool
     requires { ⌜ (from ≤ to) × (to ≤ length (now entries)) ⌝ }
-    ensures { λ r. ⌜ r ≡ Entries.wordsBelow p (now (entries .entry)) from (to - from) ⌝ }
+    ensures { λ r. ⌜ r ≡ Entries.wordsBelow (goldilocks .bounds) (now (entries .entry)) from (to - from) ⌝ }
 {
     let mut i = from;
     while i < to {
@@ -68,7 +70,7 @@ fn words_below(entries: &[u64], from: usize, to: usize) -> bool
 // The test of entry i: a number that a key has, coordinates below p.
 fn entry_check(entries: &[u64], width: usize, i: usize) -> Checked
     requires { ⌜ (0 < width) × (width * i + width ≤ length (now entries)) ⌝ }
-    ensures { λ r. ⌜ r ≡ Entries.entryCheck p width (now (entries .entry)) i ⌝ }
+    ensures { λ r. ⌜ r ≡ Entries.entryCheck (goldilocks .bounds) width (now (entries .entry)) i ⌝ }
 {
     let at = width * i;
     if !dag::is_key(key_at(entries, width, i)) {
@@ -83,7 +85,7 @@ fn entry_check(entries: &[u64], width: usize, i: usize) -> Checked
 // The first bad entry among the first m.
 fn first_bad_entry(entries: &[u64], width: usize, m: usize) -> Checked
     requires { ⌜ Lent width (now entries) m ⌝ }
-    ensures { λ r. ⌜ r ≡ Entries.firstRefused (Entries.entryCheck p width (now (entries .entry))) m ⌝ }
+    ensures { λ r. ⌜ r ≡ Refusals.firstRefused (Entries.entryCheck (goldilocks .bounds) width (now (entries .entry))) m ⌝ }
 {
     let mut i = 0;
     while i < m {
@@ -99,7 +101,7 @@ fn first_bad_entry(entries: &[u64], width: usize, m: usize) -> Checked
 // The tests of m entries: 11, 2, then the first bad entry.
 pub fn entries_check(entries: &[u64], width: usize, m: usize) -> Checked
     requires { ⌜ (0 < width) × (width ≤ 3) ⌝ }
-    ensures { λ r. ⌜ r ≡ Entries.entriesCheck p width (now (entries .entry)) m ⌝ }
+    ensures { λ r. ⌜ r ≡ Entries.entriesCheck (goldilocks .bounds) width (now (entries .entry)) m ⌝ }
 {
     if MOST_ENTRIES < m {
         return Checked::Refused(Refusal::TooManyEntries);
@@ -219,9 +221,9 @@ fn value_of(
     c0: &[u64],
     c1: &[u64],
 ) -> Assigned
-    requires { ⌜ Contracts.Valued (now list) i (now c0) (now c1) ⌝ }
+    requires { ⌜ Contracts.Valued goldilocks (now list) i (now c0) (now c1) ⌝ }
     requires { ⌜ Lent Calls.entryWords (now assignment) m × KeyIndex.Keyed Calls.entryWords (now assignment) m (now links) ⌝ }
-    ensures { λ r. ⌜ r ≡ Contracts.recordAnswer (now (assignment .entry)) m (Contracts.elementAt (now (c0 .entry)) (now (c1 .entry))) (Nodes.recordAt (now (list .entry)) i) ⌝ }
+    ensures { λ r. ⌜ r ≡ Contracts.recordAnswer goldilocks (now (assignment .entry)) m (Contracts.elementAt (now (c0 .entry)) (now (c1 .entry))) (Nodes.recordAt (now (list .entry)) i) ⌝ }
 {
     let x = dag::node_at(list, i);
     match x {
@@ -259,10 +261,10 @@ fn fill_values(
     c0: &mut [u64],
     c1: &mut [u64],
 ) -> Checked
-    requires { ⌜ Contracts.Ready (now list) n (now assignment) m (length (now c0)) × (n ≤ length (now c1)) ⌝ }
+    requires { ⌜ Contracts.Ready goldilocks (now list) n (now assignment) m (length (now c0)) × (n ≤ length (now c1)) ⌝ }
     requires { ⌜ KeyIndex.Keyed Calls.entryWords (now assignment) m (now links) ⌝ }
     ensures { λ r. ⌜ r ≡ Entries.inputsCheck (Entries.entryOf Calls.entryWords (now (assignment .entry)) m) (Nodes.nodes (now (list .entry)) n) n ⌝ }
-    ensures { λ r. ⌜ (r ≡ Checked.Good → Contracts.Filled (now (list .entry)) n (now (assignment .entry)) m (now (c0 .exit)) (now (c1 .exit)) n) ⌝ }
+    ensures { λ r. ⌜ (r ≡ Checked.Good → Contracts.Filled goldilocks (now (list .entry)) n (now (assignment .entry)) m (now (c0 .exit)) (now (c1 .exit)) n) ⌝ }
 {
     let mut i = 0;
     while i < n {
@@ -287,9 +289,9 @@ fn evaluate_in(
     c1: &mut [u64],
     links: &mut [u64],
 ) -> Evaluated
-    requires { ⌜ Contracts.Tested (now list) n root (now assignment) m ⌝ }
+    requires { ⌜ Contracts.Tested goldilocks (now list) n root (now assignment) m ⌝ }
     requires { ⌜ Contracts.Stores n m (now c0) (now c1) (now links) ⌝ }
-    ensures { λ r. ⌜ r ≡ Calls.evaluateAnswer (now (list .entry)) n root (now (assignment .entry)) m ⌝ }
+    ensures { λ r. ⌜ r ≡ Calls.evaluateAnswer goldilocks (now (list .entry)) n root (now (assignment .entry)) m ⌝ }
 {
     index_keys(assignment, ENTRY_WORDS, m, links);
     let filled = fill_values(list, n, assignment, m, links, c0, c1);
@@ -301,8 +303,8 @@ fn evaluate_in(
 
 // Evaluate in small stores.
 fn evaluate_small(list: &[u64], n: usize, root: usize, assignment: &[u64], m: usize) -> Evaluated
-    requires { ⌜ Contracts.Tested (now list) n root (now assignment) m × (n ≤ 64) × (m ≤ 64) ⌝ }
-    ensures { λ r. ⌜ r ≡ Calls.evaluateAnswer (now (list .entry)) n root (now (assignment .entry)) m ⌝ }
+    requires { ⌜ Contracts.Tested goldilocks (now list) n root (now assignment) m × (n ≤ 64) × (m ≤ 64) ⌝ }
+    ensures { λ r. ⌜ r ≡ Calls.evaluateAnswer goldilocks (now (list .entry)) n root (now (assignment .entry)) m ⌝ }
 {
     let mut c0 = [0u64; 64];
     let mut c1 = [0u64; 64];
@@ -312,8 +314,8 @@ fn evaluate_small(list: &[u64], n: usize, root: usize, assignment: &[u64], m: us
 
 // Evaluate in middle stores.
 fn evaluate_middle(list: &[u64], n: usize, root: usize, assignment: &[u64], m: usize) -> Evaluated
-    requires { ⌜ Contracts.Tested (now list) n root (now assignment) m × (n ≤ 512) × (m ≤ 512) ⌝ }
-    ensures { λ r. ⌜ r ≡ Calls.evaluateAnswer (now (list .entry)) n root (now (assignment .entry)) m ⌝ }
+    requires { ⌜ Contracts.Tested goldilocks (now list) n root (now assignment) m × (n ≤ 512) × (m ≤ 512) ⌝ }
+    ensures { λ r. ⌜ r ≡ Calls.evaluateAnswer goldilocks (now (list .entry)) n root (now (assignment .entry)) m ⌝ }
 {
     let mut c0 = [0u64; 512];
     let mut c1 = [0u64; 512];
@@ -323,8 +325,8 @@ fn evaluate_middle(list: &[u64], n: usize, root: usize, assignment: &[u64], m: u
 
 // Evaluate in large stores.
 fn evaluate_large(list: &[u64], n: usize, root: usize, assignment: &[u64], m: usize) -> Evaluated
-    requires { ⌜ Contracts.Tested (now list) n root (now assignment) m × (n ≤ 4096) × (m ≤ 4096) ⌝ }
-    ensures { λ r. ⌜ r ≡ Calls.evaluateAnswer (now (list .entry)) n root (now (assignment .entry)) m ⌝ }
+    requires { ⌜ Contracts.Tested goldilocks (now list) n root (now assignment) m × (n ≤ 4096) × (m ≤ 4096) ⌝ }
+    ensures { λ r. ⌜ r ≡ Calls.evaluateAnswer goldilocks (now (list .entry)) n root (now (assignment .entry)) m ⌝ }
 {
     let mut c0 = [0u64; 4096];
     let mut c1 = [0u64; 4096];
@@ -334,8 +336,8 @@ fn evaluate_large(list: &[u64], n: usize, root: usize, assignment: &[u64], m: us
 
 // Evaluate behind the tests of its words, in stores of a fitting size.
 fn evaluate_sized(list: &[u64], n: usize, root: usize, assignment: &[u64], m: usize) -> Evaluated
-    requires { ⌜ Contracts.Tested (now list) n root (now assignment) m ⌝ }
-    ensures { λ r. ⌜ r ≡ Calls.evaluateAnswer (now (list .entry)) n root (now (assignment .entry)) m ⌝ }
+    requires { ⌜ Contracts.Tested goldilocks (now list) n root (now assignment) m ⌝ }
+    ensures { λ r. ⌜ r ≡ Calls.evaluateAnswer goldilocks (now (list .entry)) n root (now (assignment .entry)) m ⌝ }
 {
     let most = larger(n, m);
     if most <= SMALL {
@@ -349,7 +351,7 @@ fn evaluate_sized(list: &[u64], n: usize, root: usize, assignment: &[u64], m: us
 
 // Evaluate's tests of its words: the list, then the entries.
 fn words_check(list: &[u64], n: usize, root: usize, assignment: &[u64], m: usize) -> Checked
-    ensures { λ r. ⌜ r ≡ (listCheck p (now (list .entry)) n root then Entries.entriesCheck p Calls.entryWords (now (assignment .entry)) m) ⌝ }
+    ensures { λ r. ⌜ r ≡ (listCheck (goldilocks .bounds) (now (list .entry)) n root then Entries.entriesCheck (goldilocks .bounds) Calls.entryWords (now (assignment .entry)) m) ⌝ }
 {
     let listed = dag::list_check(list, n, root);
     if dag::is_refused(listed) {
@@ -360,7 +362,7 @@ fn words_check(list: &[u64], n: usize, root: usize, assignment: &[u64], m: usize
 
 // Evaluate: the root's value under an assignment.
 pub fn evaluate(list: &[u64], n: usize, root: usize, assignment: &[u64], m: usize) -> Evaluated
-    ensures { λ r. ⌜ r ≡ Calls.evaluateAnswer (now (list .entry)) n root (now (assignment .entry)) m ⌝ }
+    ensures { λ r. ⌜ r ≡ Calls.evaluateAnswer goldilocks (now (list .entry)) n root (now (assignment .entry)) m ⌝ }
 {
     let checked = words_check(list, n, root, assignment, m);
     match checked {

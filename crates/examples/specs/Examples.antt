@@ -3,19 +3,21 @@ use Prim.Native.Nat.{ℕ, zero, suc, _-_}
 use mathlib.Core.List.{List, [], _∷_, _++_, map}
 use mathlib.Core.Path.{_≡_, refl}
 use lib.ListN.{length, replicate}
+use Rattle.field.specs.Fields.{goldilocks}
+use Rattle.dag.specs.Refusals.{firstRefused}
 use Rattle.field.specs.Field.{p, felt, quad, same, new}
 use Rattle.field.specs.declared.QuadFelt.{QuadFelt}
 use Rattle.dag.specs.declared.NodeKind.{NodeKind}
 use Rattle.dag.specs.declared.NodeKind.the-variants.{Input, Constant, Add, Sub, Mul, Neg}
 use Rattle.dag.specs.Nodes.{blank, at, sameNode, operands, rename, recordAt, nodes, decode, words, wordsOf, filled}
-use Rattle.dag.specs.Lookup.{lookup}
+use Rattle.dag.specs.Lookup.{greatest, lookup}
 use Rattle.builder.specs.Steps.{isConstant, isAdd, isSub, isMul, isNeg, element, isThe, lowFirst, addRule, subRule, mulOutcome, negOutcome, follow, addWithin, subWithin, addOutcome, subOutcome, outcome, interned, intern, enter, step, Built, placeOf, recorded}
 use Rattle.compact.specs.Reach.{marked, sweep, marks}
 use Rattle.compact.specs.Compact.{rank, kept, compact, Rooted}
 use Rattle.plan.specs.Plan.{count, mentions, fanout, sharedFactor, commonFactor, orElse, ontoBefore, existingRotation, eitherRotation, planOf}
 use Rattle.normalize.specs.Rounds.{planned, round, fired, rounded, isKept, roundsFrom, normalize, Normal}
 use Rattle.columns.specs.Columns.{logWithin, logLength, count as occurrences, isSparse, standalone, placesFrom, withNew, valuesFrom, values, weight, heaviest, dominant, isScaled, scalings, combinationCost, offset, equalEntries, gain, sameEntries, isAmong, saving, savings, threshold, goesOver, form, formNumber}
-use Rattle.columns.specs.Prepare.{upTo, firstOf, total, columns, prepareCheck}
+use Rattle.columns.specs.Prepare.{upTo, total, columns, prepareCheck}
 use Rattle.dag.specs.Keys.{isKey}
 use Rattle.dag.specs.Check.{formed, earlier, recordCheck, checkAt, recordsCheck, rootlessCheck, listCheck}
 use Rattle.periodic.specs.Builder.{turns, done}
@@ -185,14 +187,14 @@ K-copies = record {
 abbrev L : Example
 L = record {
   Answer = LowerAnswer;
-  computed = lowerAnswer (0 ∷ 0 ∷ 0 ∷ []) 1 [] [] 3 (7 ∷ 7 ∷ 7 ∷ 7 ∷ []) (replicate 12288 7) [];
+  computed = lowerAnswer goldilocks (0 ∷ 0 ∷ 0 ∷ []) 1 [] [] 3 (7 ∷ 7 ∷ 7 ∷ 7 ∷ []) (replicate 12288 7) [];
   stated = Done 1;
 }
 
 abbrev L-copied : Example
 L-copied = record {
   Answer = List ℕ;
-  computed = lowerResult (0 ∷ 0 ∷ 0 ∷ []) 1 [] [] 3 (7 ∷ 7 ∷ 7 ∷ 7 ∷ []) (replicate 12288 7) [];
+  computed = lowerResult goldilocks (0 ∷ 0 ∷ 0 ∷ []) 1 [] [] 3 (7 ∷ 7 ∷ 7 ∷ 7 ∷ []) (replicate 12288 7) [];
   stated = 0 ∷ 0 ∷ 0 ∷ blank ∷ [];
 }
 
@@ -216,5 +218,5 @@ pub examples : List Example
 examples = A ∷ A-refused ∷ B ∷ C-normalized ∷ C-compacted ∷ D ∷ E ∷ F ∷ G ∷ H ∷ I ∷ J ∷ K-three ∷ K-four-below ∷ K-four-with ∷ K-copies ∷ L ∷ L-copied ∷ []
 
 pub all-examples : All examples
-unfolding examples felt quad same at sameNode operands rename lookup isConstant isAdd isSub isMul isNeg element isThe lowFirst addRule subRule mulOutcome negOutcome follow addWithin subWithin addOutcome subOutcome outcome interned intern enter step placeOf recorded marked sweep marks rank kept compact count mentions fanout sharedFactor commonFactor orElse ontoBefore existingRotation eitherRotation planOf planned round fired rounded isKept roundsFrom normalize unit logWithin logLength occurrences isSparse standalone placesFrom withNew valuesFrom values weight heaviest dominant isScaled scalings combinationCost offset equalEntries gain sameEntries isAmong saving savings goesOver form upTo lowerCheck rootlessCheck recordsCheck checkAt recordCheck formed earlier isKey prepareCheck firstOf total columns periodGood lowered buildPeriodicNodes turns done recordAt nodes decode words wordsOf filled choices listCheck roomCheck wholeCheck lowerAnswer lowerResult normalized ascii digits decimal ended line number wordsAt wordsOfFirst fileWords isCount formCheck heldCheck fileCheck kind firstLine recordLine recordLines listed refusedLine listing
+unfolding examples felt quad same at sameNode operands rename isConstant isAdd isSub isMul isNeg element isThe lowFirst addRule subRule mulOutcome negOutcome follow addWithin subWithin addOutcome subOutcome outcome interned intern enter step placeOf recorded marked sweep marks rank kept compact count mentions fanout sharedFactor commonFactor orElse ontoBefore existingRotation eitherRotation planOf planned round fired rounded isKept roundsFrom normalize unit logWithin logLength occurrences isSparse standalone placesFrom withNew valuesFrom values weight heaviest dominant isScaled scalings combinationCost offset equalEntries gain sameEntries isAmong saving savings goesOver form upTo lowerCheck rootlessCheck checkAt recordCheck formed earlier isKey prepareCheck firstRefused total columns periodGood lowered buildPeriodicNodes turns done recordAt nodes decode words wordsOf filled choices listCheck roomCheck wholeCheck lowerAnswer lowerResult normalized ascii digits decimal ended line number wordsAt wordsOfFirst fileWords isCount formCheck heldCheck fileCheck kind firstLine recordLine recordLines listed refusedLine listing greatest
 all-examples = (refl, (refl, (refl, (refl, (refl, (refl, (refl, (refl, (refl, (refl, (refl, (refl, (three-sparse, (four-below, (four-with, (copies-sparse, (refl, (refl, tt))))))))))))))))))

@@ -1,3 +1,4 @@
 pub mod Table
 pub mod Field
 pub mod Generators
+pub mod Fields

@@ -125,12 +125,23 @@ fn compare(s: &[u8]) -> Tally
     Tally { vectors, matched }
 }
 
-fn main() {
-    let mut buffer = [0u8; 65536];
-    let n = io::read_full(0, &mut buffer);
-    let t = compare(&buffer[..n]);
+// Prints how many vectors match.
+fn report(s: &[u8], t: Tally)
+    requires { ⌜ (t .vectors ≡ length (now s) / 104) × (t .matched ≡ Vectors.matched (now s) (length (now s) / 104)) ⌝ }
+{
     io::print_decimal(STDOUT_FILENO, t.matched);
     io::write_all(STDOUT_FILENO, b" of ");
     io::print_decimal(STDOUT_FILENO, t.vectors);
     io::write_all(STDOUT_FILENO, b" vectors match\n");
+}
+
+// Compares the vectors of a text.
+fn run(s: &[u8]) {
+    report(s, compare(s));
+}
+
+fn main() {
+    let mut buffer = [0u8; 65536];
+    let n = io::read_full(0, &mut buffer);
+    run(&buffer[..n]);
 }

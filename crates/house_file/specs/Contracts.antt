@@ -3,7 +3,7 @@ use Prim.Native.Nat.{ℕ, _*_, _≤_}
 use mathlib.Core.List.{List}
 use mathlib.Core.Path.{_≡_}
 use lib.ListN.{length}
-use Rattle.field.specs.Field.{p}
+use Rattle.field.specs.Fields.{goldilocks}
 use Rattle.dag.specs.Nodes.{nodes, filled}
 use Rattle.dag.specs.Store.{Sound}
 use Rattle.dag.specs.declared.Checked.the-variants.{Good}
@@ -20,19 +20,19 @@ pub record Formed (file : List ℕ) : Type 0 where
 -- what a file that has passed its tests is known to be
 pub record Passed (file : List ℕ) (room : ℕ) : Type 0 where
   pub form : Formed file
-  pub sound : Sound p (wordsOfFirst file (fileCount file)) (fileCount file)
+  pub sound : Sound (goldilocks .bounds) (wordsOfFirst file (fileCount file)) (fileCount file)
   pub fits : 3 * fileCount file ≤ room
   pub held-is : heldCheck file ≡ Good
 
 -- what writing n records asks
 pub record Ready (file : List ℕ) (n : ℕ) (list : List ℕ) : Type 0 where
   pub whole : recordPlace n ≤ length file
-  pub sound : Sound p (wordsOfFirst file n) n
+  pub sound : Sound (goldilocks .bounds) (wordsOfFirst file n) n
   pub fits : 3 * n ≤ length list
 
 -- the first i of n records written
 pub record Put (file : List ℕ) (n i : ℕ) (list : List ℕ) : Type 0 where
-  pub sound : Sound p list i
+  pub sound : Sound (goldilocks .bounds) list i
   pub nodes-are : nodes list i ≡ nodes (wordsOfFirst file n) i
 
 -- a file read

@@ -4,7 +4,7 @@ use mathlib.Core.Bool.{Bool, _&&_}
 use mathlib.Core.List.{List, [], _∷_, _++_}
 use lib.Dec.{leb, eqb}
 use lib.ListN.{getD, length}
-use Rattle.field.specs.Field.{p}
+use Rattle.field.specs.Fields.{goldilocks}
 use Rattle.dag.specs.Nodes.{filled}
 use Rattle.dag.specs.Refusals.{need, _then_, unlessRefused}
 use Rattle.dag.specs.Check.{listCheck}
@@ -65,7 +65,7 @@ formCheck file =
 
 -- the list check of what it holds
 unfoldable pub heldCheck : List ℕ → Checked
-heldCheck file = listCheck p (fileWords file) (fileCount file) (fileRoot file)
+heldCheck file = listCheck (goldilocks .bounds) (fileWords file) (fileCount file) (fileRoot file)
 
 unfoldable pub fileCheck : List ℕ → Checked
 fileCheck file = formCheck file then heldCheck file

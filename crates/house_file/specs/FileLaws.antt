@@ -10,13 +10,14 @@ use borrow.Author.Tests.{leb-true, eqb-true, le-leb, lt-ltb, le-ltb}
 use lib.Dec.{leb, eqb, ltb}
 use lib.ListN.{getD, length, take, replicate, length-append, List·getD-append}
 use lib.Seq.{getD-append-add, getD-at, take-all}
+use Rattle.field.specs.Fields.{Within, goldilocks}
 use Rattle.field.specs.Field.{p}
 use Rattle.dag.specs.Nodes.{blank, decode, recordAt, nodes, at, wordsOf, filled, mostRecords}
 use Rattle.dag.specs.NodeLaws.{at-nodes}
 use Rattle.dag.specs.CaseLaws.{and-true, below-suc-elim}
-use Rattle.dag.specs.Refusals.{need, _then_, isRefused, unlessRefused}
+use Rattle.dag.specs.Refusals.{firstRefused, need, _then_, isRefused, unlessRefused}
 use Rattle.dag.specs.Check.{recordCheck, checkAt, recordsCheck, rootlessCheck, listCheck}
-use Rattle.dag.specs.CheckLaws.{Within, then-good, need-good, refused-then}
+use Rattle.dag.specs.CheckLaws.{then-good, need-good, refused-then}
 use Rattle.dag.specs.PassLaws.{rooted}
 use Rattle.dag.specs.Store.{Sound, put}
 use Rattle.dag.specs.StoreLaws.{sound-well-formed, take-words, nodes-put, sound-put}
@@ -90,7 +91,7 @@ module _ (file : List ℕ) where
       i h
 
   module _ (n i : ℕ) (h : i < n) where
-    pub check-words : checkAt p (wordsOfFirst file n) i ≡ recordCheck p (wordsAt file i .tag) (wordsAt file i .first) (wordsAt file i .second) i
+    pub check-words : checkAt (goldilocks .bounds) (wordsOfFirst file n) i ≡ recordCheck (goldilocks .bounds) (wordsAt file i .tag) (wordsAt file i .first) (wordsAt file i .second) i
     unfolding checkAt
     check-words = let b = stands n i h in rw (b .tag-is, b .first-is, b .second-is)
 
@@ -99,13 +100,13 @@ module _ (file : List ℕ) where
     record-words = let b = stands n i h in rw (b .tag-is, b .first-is, b .second-is)
 
 -- a record's words read and tested
-pub checked : (file : List ℕ) (n i : ℕ) → i < n → (w : Words) → w ≡ wordsAt file i → {r : Checked} → r ≡ recordCheck p (w .tag) (w .first) (w .second) i → r ≡ checkAt p (wordsOfFirst file n) i
-checked file n i h w e f = f ∙ (ap (λ v. recordCheck p (v .tag) (v .first) (v .second) i) e ∙ sym (check-words file n i h))
+pub checked : (file : List ℕ) (n i : ℕ) → i < n → (w : Words) → w ≡ wordsAt file i → {r : Checked} → r ≡ recordCheck (goldilocks .bounds) (w .tag) (w .first) (w .second) i → r ≡ checkAt (goldilocks .bounds) (wordsOfFirst file n) i
+checked file n i h w e f = f ∙ (ap (λ v. recordCheck (goldilocks .bounds) (v .tag) (v .first) (v .second) i) e ∙ sym (check-words file n i h))
 
 -- the list check of a file of good form: its records, then the root
 module _ (file : List ℕ) (f : Formed file) (n : ℕ) (e : n ≡ fileCount file) where
   records : Checked
-  records = recordsCheck p (wordsOfFirst file n) n
+  records = recordsCheck (goldilocks .bounds) (wordsOfFirst file n) n
 
   held : records then need (ltb (fileRoot file) n) RootOutside ≡ heldCheck file
   unfolding records heldCheck fileWords listCheck rootlessCheck
@@ -115,11 +116,11 @@ module _ (file : List ℕ) (f : Formed file) (n : ℕ) (e : n ≡ fileCount file
       let len = length-words file (fileCount file) in
       rw e (simp (le-leb 1 (fileCount file) a, le-leb (fileCount file) mostRecords (omega arith), le-leb (3 * fileCount file) (length (wordsOfFirst file (fileCount file))) (omega arith)))
 
-  pub held-bad : isRefused (recordsCheck p (wordsOfFirst file n) n) ≡ true → recordsCheck p (wordsOfFirst file n) n ≡ heldCheck file
+  pub held-bad : isRefused (recordsCheck (goldilocks .bounds) (wordsOfFirst file n) n) ≡ true → recordsCheck (goldilocks .bounds) (wordsOfFirst file n) n ≡ heldCheck file
   unfolding records
   held-bad bad = refused-then records (need (ltb (fileRoot file) n) RootOutside) bad ∙ held
 
-  module _ (good : recordsCheck p (wordsOfFirst file n) n ≡ Good) (root : ℕ) (er : root ≡ fileRoot file) where
+  module _ (good : recordsCheck (goldilocks .bounds) (wordsOfFirst file n) n ≡ Good) (root : ℕ) (er : root ≡ fileRoot file) where
     rest : need (ltb root n) RootOutside ≡ heldCheck file
     unfolding records
     rest = rw (er, ← held, good)
@@ -137,7 +138,7 @@ passed file room e =
     let two = then-good (need (leb (3 * fileCount file) room) StoreTooShort) (heldCheck file) (one .1) in
     record {
       form = formed file (one .0);
-      sound = rooted p (wordsOfFirst file (fileCount file)) (fileCount file) (fileRoot file) (two .1) .list .sound;
+      sound = rooted (goldilocks .bounds) (wordsOfFirst file (fileCount file)) (fileCount file) (fileRoot file) (two .1) .list .sound;
       fits = leb-true (3 * fileCount file) room (need-good (leb (3 * fileCount file) room) StoreTooShort (two .0));
       held-is = two .1;
     }
@@ -177,19 +178,19 @@ pub ready : (file list : List ℕ) (n : ℕ) → Passed file (length list) → n
 ready file list n h e = let w = h .form .whole in let f = h .fits in record { whole = omega arith; sound = rw e (h .sound); fits = omega arith }
 
 pub put-none : (file : List ℕ) (n : ℕ) (list : List ℕ) → Put file n 0 list
-unfolding recordsCheck nodes
+unfolding nodes firstRefused
 put-none file n list = record { sound = record { room = omega arith; good = refl }; nodes-are = refl }
 
-pub put-more : (file : List ℕ) (n i : ℕ) (list : List ℕ) (w : Words) (x : NodeKind) (after : List ℕ) → Sound p (wordsOfFirst file n) n → Put file n i list → i < n → 3 * n ≤ length list
+pub put-more : (file : List ℕ) (n i : ℕ) (list : List ℕ) (w : Words) (x : NodeKind) (after : List ℕ) → Sound (goldilocks .bounds) (wordsOfFirst file n) n → Put file n i list → i < n → 3 * n ≤ length list
     → w ≡ wordsAt file i → x ≡ decode (w .tag) (w .first) (w .second) → after ≡ put list i x → Put file n (i + 1) after
 unfolding nodes WellFormed
 put-more file n i list w x after sound h k fits e d f =
     let s = wordsOfFirst file n in
     let same : x ≡ recordAt s i = d ∙ (ap (λ v. decode (v .tag) (v .first) (v .second)) e ∙ sym (record-words file n i k)) in
-    let fine : Fine (Within p) i x = rw (same, ← at-nodes s n i k) (sound-well-formed p s n sound i) in
+    let fine : Fine (Within (goldilocks .bounds)) i x = rw (same, ← at-nodes s n i k) (sound-well-formed (goldilocks .bounds) s n sound i) in
     rw (add-one i, f)
     (record {
-      sound = sound-put list i x (omega arith) p (h .sound) fine;
+      sound = sound-put list i x (omega arith) (goldilocks .bounds) (h .sound) fine;
       nodes-are = nodes-put list i x (omega arith) ∙ ap₂ (λ l y. l ++ (y ∷ [])) (h .nodes-are) same;
     })
 
@@ -204,9 +205,9 @@ done file list mid after n root ok h len e en er =
   where
     start : take (3 * n) mid ≡ wordsOfFirst file n
     start =
-        take-words p mid n (h .sound)
+        take-words (goldilocks .bounds) mid n (h .sound)
         ∙ (ap wordsOf (h .nodes-are)
-        ∙ (sym (take-words p (wordsOfFirst file n) n (ready file list n ok en .sound))
+        ∙ (sym (take-words (goldilocks .bounds) (wordsOfFirst file n) n (ready file list n ok en .sound))
         ∙ take-all (3 * n) (wordsOfFirst file n) (omega (arith, length-words file n))))
 
     rest : length mid - 3 * n ≡ length list - length (wordsOfFirst file n)

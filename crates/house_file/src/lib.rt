@@ -4,7 +4,7 @@ use dag::Refusal;
 ghost use mathlib.Core.Path.{_≡_};
 ghost use Prim.Native.Nat.{_+_, _*_, _<_, _≤_};
 ghost use lib.ListN.{length};
-ghost use Rattle.field.specs.Field.{p};
+ghost use Rattle.field.specs.Fields.{goldilocks};
 ghost use Rattle.dag.specs.Check as Check;
 ghost use Rattle.house_file.specs.File as File;
 ghost use Rattle.house_file.specs.Contracts as Contracts;
@@ -108,7 +108,7 @@ fn form_check(file: &[u8]) -> Checked
 // The first bad record of a file.
 fn records_check(file: &[u8], n: usize) -> Checked
     requires { ⌜ File.recordPlace n ≤ length (now file) ⌝ }
-    ensures { λ r. ⌜ r ≡ Check.recordsCheck p (File.wordsOfFirst (now (file .entry)) n) n ⌝ }
+    ensures { λ r. ⌜ r ≡ Check.recordsCheck (goldilocks .bounds) (File.wordsOfFirst (now (file .entry)) n) n ⌝ }
 {
     let mut i = 0;
     while i < n {

@@ -1,19 +1,12 @@
 -- An index of places by bucket, in one store: its first half holds each bucket's greatest place, its second half, for each place, the next lower place of the same bucket. A link is a place plus 1, or 0 for none.
 use Prim.Native.Nat.{ℕ, zero, suc, _+_, _*_, _/_, _%_, _^_, _<_, _≤_}
-use mathlib.Core.Bool.{Bool, cond}
+use mathlib.Core.Bool.{cond}
 use mathlib.Core.List.{List}
 use mathlib.Core.Path.{_≡_}
 use lib.Dec.{eqb}
 use lib.ListN.{getD, length, set}
 use Rattle.dag.specs.Nodes.{tag, first, second, at}
 use Rattle.dag.specs.declared.NodeKind.{NodeKind}
-use Rattle.dag.specs.declared.Found.{Found}
-use Rattle.dag.specs.declared.Found.the-variants.{At, Missing}
-
--- the greatest place below n at which a test holds
-unfoldable pub greatest : (ℕ → Bool) → ℕ → Found
-greatest hit zero = Missing
-greatest hit (suc n) = cond (hit n) (At n) (greatest hit n)
 
 -- the link to the greatest place below n whose bucket is k
 unfoldable pub latest : (ℕ → ℕ) → ℕ → ℕ → ℕ

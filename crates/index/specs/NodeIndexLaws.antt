@@ -1,4 +1,5 @@
 -- The index of a list's records.
+use Rattle.field.specs.Fields.{Bounds}
 use Prim.Native.Nat.{ℕ, zero, suc, _+_, _*_, _-_, _/_, _^_, _<_, _≤_}
 use mathlib.Core.Bool.{Bool, true, false, _&&_}
 use mathlib.Core.List.{List, [], _∷_, _++_}
@@ -14,13 +15,13 @@ use Rattle.dag.specs.BlankLaws.{all-zero}
 use Rattle.dag.specs.CaseLaws.{and-true, below-suc}
 use Rattle.dag.specs.Nodes.{tag, first, second, at, nodes, recordAt}
 use Rattle.dag.specs.NodeLaws.{at-left, at-last, at-nodes, length-nodes, length-snoc}
-use Rattle.dag.specs.Lookup.{lookup}
+use Rattle.dag.specs.Lookup.{greatest, lookup}
 use Rattle.dag.specs.Store.{Sound, wordsAre, lookupWords}
 use Rattle.dag.specs.StoreLaws.{lookup-words, tag-word, first-word, second-word, sound-less}
 use Rattle.dag.specs.declared.NodeKind.{NodeKind}
 use Rattle.dag.specs.declared.Found.{Found}
 use Rattle.dag.specs.declared.Found.the-variants.{At, Missing}
-use Rattle.index.specs.Index.{greatest, half, Indexed, noted, hash, bucketOf, nodeBucket, Usable, NodeIndex}
+use Rattle.index.specs.Index.{half, Indexed, noted, hash, bucketOf, nodeBucket, Usable, NodeIndex}
 use Rattle.index.specs.IndexLaws.{indexed-agree, indexed-none, indexed-noted, length-noted}
 use Rattle.index.specs.WalkLaws.{Walking, walk-begin, walk-on, walk-down, walk-hit, walk-none}
 
@@ -44,12 +45,6 @@ product-fits h b few small =
 
 pub node-inside : (b t u v : ℕ) → 0 < b → bucketOf b (hash t u v) < b
 node-inside b t u v h = bucket-below b (hash t u v) h (hash-below t u v)
-
--- the lookup by words is the greatest place at which they are
-lookup-greatest : (s : List ℕ) (t a b n : ℕ) → lookupWords s t a b n ≡ greatest (λ i. wordsAre s i t a b) n
-unfolding lookupWords greatest
-lookup-greatest s t a b zero = refl
-lookup-greatest s t a b (suc n) = rw (lookup-greatest s t a b n)
 
 -- an empty index
 pub index-none : (links : List ℕ) → Usable links → (after : List ℕ) → after ≡ take 0 links ++ replicate (length links - 0) 0 → NodeIndex [] after
@@ -79,7 +74,7 @@ pub noted-as : (links : List ℕ) (n t a b k : ℕ) {h : ℕ} {after : List ℕ}
 noted-as links n t a b k e ek eh = e ∙ ap (noted links n) (ek ∙ ap (bucketOf (half links)) eh)
 
 -- the record at place i of a store, behind those before it
-pub index-next : (m : ℕ) (s : List ℕ) (n i : ℕ) (links after : List ℕ) → Sound m s n → i < n → n ≤ half links → NodeIndex (nodes s i) links
+pub index-next : (m : Bounds) (s : List ℕ) (n i : ℕ) (links after : List ℕ) → Sound m s n → i < n → n ≤ half links → NodeIndex (nodes s i) links
     → after ≡ noted links i (bucketOf (half links) (hash (getD s (3 * i) 0) (getD s (3 * i + 1) 0) (getD s (3 * i + 2) 0)))
     → NodeIndex (nodes s (i + 1)) after
 unfolding nodes
@@ -90,7 +85,7 @@ index-next m s n i links after sound h room d e =
     rw (add-one i, is) (index-more (nodes s i) links (recordAt s i) d in-list)
 
 -- the first of n records that pass
-pub sound-first : (m : ℕ) (s : List ℕ) (n k : ℕ) → k ≤ n → Sound m s n → Sound m s k
+pub sound-first : (m : Bounds) (s : List ℕ) (n k : ℕ) → k ≤ n → Sound m s n → Sound m s k
 sound-first m s zero k h d = let e : k ≡ 0 = omega arith in rw e d
 sound-first m s (suc n) k h d = go (below-suc k (suc n) (omega arith)) (λ j. sound-first m s n k j (sound-less m s n d))
   where
@@ -116,7 +111,7 @@ module _ (s : List ℕ) (n : ℕ) (links : List ℕ) (t a b : ℕ) where
   pub standing-below : (link : ℕ) → Standing link → link ≤ n
   standing-below link w = w .walking .below
 
-  module _ (m : ℕ) (sound : Sound m s n) (d : NodeIndex (nodes s n) links) where
+  module _ (m : Bounds) (sound : Sound m s n) (d : NodeIndex (nodes s n) links) where
     only : (i : ℕ) → i < n → here i ≡ true → bucket i ≡ start
     unfolding here bucket start wordsAre
     only i h e =
@@ -148,7 +143,7 @@ module _ (s : List ℕ) (n : ℕ) (links : List ℕ) (t a b : ℕ) where
     module _ (x : NodeKind) (et : t ≡ tag x) (ea : a ≡ first x) (eb : b ≡ second x) where
       whole : greatest here n ≡ lookup (nodes s n) x n
       unfolding here
-      whole = sym (lookup-greatest s t a b n) ∙ (rw (et, ea, eb) (lookup-words m s n sound x n (omega arith)))
+      whole = rw (et, ea, eb) (lookup-words m s n sound x n (omega arith))
 
       pub find-hit : (link : ℕ) → Standing link → 0 < link → wordsAre s (link - 1) t a b ≡ true → At (link - 1) ≡ lookup (nodes s n) x n
       unfolding here
@@ -163,4 +158,4 @@ module _ (s : List ℕ) (n : ℕ) (links : List ℕ) (t a b : ℕ) where
       find-plain link w e =
           e
           ∙ (sym (lookup-words m s link (sound-first m s n link (w .walking .below) sound) x link (omega arith))
-          ∙ (sym (rw (et, ea, eb)) ∙ (lookup-greatest s t a b link ∙ (sym (w .walking .same) ∙ whole))))
+          ∙ (sym (rw (et, ea, eb)) ∙ (sym (w .walking .same) ∙ whole)))

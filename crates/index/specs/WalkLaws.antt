@@ -9,7 +9,8 @@ use borrow.Author.Tests.{eqb-false}
 use lib.Dec.{eqb}
 use lib.ListN.{getD}
 use Rattle.dag.specs.declared.Found.the-variants.{At, Missing}
-use Rattle.index.specs.Index.{greatest, latest, Indexed}
+use Rattle.dag.specs.Lookup.{greatest}
+use Rattle.index.specs.Index.{latest, Indexed}
 use Rattle.index.specs.IndexLaws.{latest-le, latest-in}
 
 -- places of other buckets don't matter

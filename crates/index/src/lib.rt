@@ -5,7 +5,6 @@ ghost use mathlib.Core.Path.{_≡_};
 ghost use mathlib.Core.List.{[]};
 ghost use Prim.Native.Nat.{ℕ, _+_, _*_, _/_, _^_, _<_, _≤_};
 ghost use lib.ListN.{length, getD};
-ghost use Rattle.field.specs.Field.{p};
 ghost use Rattle.dag.specs.Nodes as Nodes;
 ghost use Rattle.dag.specs.Store as Store;
 ghost use Rattle.dag.specs.Lookup as Lookup;
@@ -60,7 +59,7 @@ pub fn note(links: &mut [u64], n: usize, t: u64, a: u64, b: u64)
 
 // Indexes the first n records of a list.
 pub fn index_list(list: &[u64], n: usize, links: &mut [u64])
-    requires { ⌜ Store.Sound p (now list) n × Index.Usable (now links) × (n ≤ Index.half (now links)) ⌝ }
+    requires { ⌜ Store.Records (now list) n × Index.Usable (now links) × (n ≤ Index.half (now links)) ⌝ }
     ensures { λ _. ⌜ Index.NodeIndex (Nodes.nodes (now (list .entry)) n) (now (links .exit)) ⌝ }
 {
     clear(links);
@@ -73,7 +72,7 @@ pub fn index_list(list: &[u64], n: usize, links: &mut [u64])
 
 // The greatest place of a record equal to x among the first n, along its bucket; behind many others of the bucket by the plain search.
 pub fn find(list: &[u64], n: usize, links: &[u64], x: NodeKind) -> Found
-    requires { ⌜ Store.Sound p (now list) n × Index.NodeIndex (Nodes.nodes (now list) n) (now links) ⌝ }
+    requires { ⌜ Store.Records (now list) n × Index.NodeIndex (Nodes.nodes (now list) n) (now links) ⌝ }
     ensures { λ r. ⌜ r ≡ Lookup.lookup (Nodes.nodes (now (list .entry)) n) x n ⌝ }
 {
     let t = dag::tag_of(x);

@@ -6,6 +6,7 @@ use native.Mathlib.Omega.{arith}
 use borrow.Author.Tests.{le-leb}
 use lib.ListN.{length, getD, take, replicate}
 use lib.Seq.{take-at}
+use Rattle.field.specs.Fields.{goldilocks}
 use Rattle.field.specs.Field.{quad, quad-laws}
 use Rattle.dag.specs.Nodes.{blank, nodes, wordsOf, filled}
 use Rattle.dag.specs.NodeLaws.{length-nodes}
@@ -41,40 +42,40 @@ single (x ∷ y ∷ l) e = absurd (omega arith)
 -- Normalise's answer, and what it tells of its tests
 module _ (s : List ℕ) (n root : ℕ) (result : List ℕ) (workWords : ℕ) where
   answer : NormalizeAnswer
-  answer = normalizeAnswer s n root (length result) workWords
+  answer = normalizeAnswer goldilocks s n root (length result) workWords
 
   check : Checked
-  check = normalizeCheck s n root (length result) workWords
+  check = normalizeCheck goldilocks s n root (length result) workWords
 
-  pub words-refused : (r : Refusal) → normalizeAnswer s n root (length result) workWords ≡ NormalizeAnswer'.Refused r → refusedLine r ≡ wordsListing s n root (length result) workWords
+  pub words-refused : (r : Refusal) → normalizeAnswer goldilocks s n root (length result) workWords ≡ NormalizeAnswer'.Refused r → refusedLine r ≡ wordsListing s n root (length result) workWords
   unfolding check normalizeAnswer wordsListing
   words-refused r e = go check e
     where
       go : (c : Checked)
-          → unlessRefused c NormalizeAnswer'.Refused (NormalizeAnswer'.Done (length (normalized s n root .list)) (getD (normalized s n root .roots) 0 0) (normalized s n root .rounds)) ≡ NormalizeAnswer'.Refused r
-          → refusedLine r ≡ unlessRefused c refusedLine (listed (normalized s n root))
+          → unlessRefused c NormalizeAnswer'.Refused (NormalizeAnswer'.Done (length (normalized goldilocks s n root .list)) (getD (normalized goldilocks s n root .roots) 0 0) (normalized goldilocks s n root .rounds)) ≡ NormalizeAnswer'.Refused r
+          → refusedLine r ≡ unlessRefused c refusedLine (listed (normalized goldilocks s n root))
       go Good e = let z : _≡_ {A = ℕ} 0 1 = cc in absurd (omega arith)
       go (Refused q) e = ap refusedLine (let z : r ≡ q = cc in z)
 
   record Accepted (count place rounds : ℕ) : Type 0 where
-    good : normalizeCheck s n root (length result) workWords ≡ Good
-    count-is : count ≡ length (normalized s n root .list)
-    place-is : place ≡ getD (normalized s n root .roots) 0 0
-    rounds-are : rounds ≡ normalized s n root .rounds
+    good : normalizeCheck goldilocks s n root (length result) workWords ≡ Good
+    count-is : count ≡ length (normalized goldilocks s n root .list)
+    place-is : place ≡ getD (normalized goldilocks s n root .roots) 0 0
+    rounds-are : rounds ≡ normalized goldilocks s n root .rounds
 
-  module _ (count place rounds : ℕ) (e : normalizeAnswer s n root (length result) workWords ≡ NormalizeAnswer'.Done count place rounds) where
+  module _ (count place rounds : ℕ) (e : normalizeAnswer goldilocks s n root (length result) workWords ≡ NormalizeAnswer'.Done count place rounds) where
     accepted : Accepted count place rounds
     unfolding normalizeAnswer
-    accepted = go (normalizeCheck s n root (length result) workWords) refl e
+    accepted = go (normalizeCheck goldilocks s n root (length result) workWords) refl e
       where
-        go : (c : Checked) → normalizeCheck s n root (length result) workWords ≡ c
-            → unlessRefused c NormalizeAnswer'.Refused (NormalizeAnswer'.Done (length (normalized s n root .list)) (getD (normalized s n root .roots) 0 0) (normalized s n root .rounds)) ≡ NormalizeAnswer'.Done count place rounds
+        go : (c : Checked) → normalizeCheck goldilocks s n root (length result) workWords ≡ c
+            → unlessRefused c NormalizeAnswer'.Refused (NormalizeAnswer'.Done (length (normalized goldilocks s n root .list)) (getD (normalized goldilocks s n root .roots) 0 0) (normalized goldilocks s n root .rounds)) ≡ NormalizeAnswer'.Done count place rounds
             → Accepted count place rounds
         go Good g d = record { good = g; count-is = cc; place-is = cc; rounds-are = cc }
         go (Refused q) g d = let z : _≡_ {A = ℕ} 0 1 = cc in absurd (omega arith)
 
-    ok : Passed s n root (length result) workWords
-    ok = passed s n root (length result) workWords (accepted .good)
+    ok : Passed goldilocks s n root (length result) workWords
+    ok = passed goldilocks s n root (length result) workWords (accepted .good)
 
     fewer : count ≤ n
     unfolding normalized
@@ -84,16 +85,16 @@ module _ (s : List ℕ) (n root : ℕ) (result : List ℕ) (workWords : ℕ) whe
     pub may-list : (words room : ℕ) → words ≡ length result → longest n ≤ room → (3 * count ≤ words) × (count ≤ 4096) × (longest count ≤ room)
     may-list words room f h = let c = fewer in let k = ok .few in let q = ok .result-room in (omega arith, omega arith, omega arith)
 
-    roots-are : place ∷ [] ≡ normalized s n root .roots
+    roots-are : place ∷ [] ≡ normalized goldilocks s n root .roots
     unfolding normalized
     roots-are =
         let inside = one-below (length (nodes s n)) root (let i = ok .inside in omega (arith, length-nodes s n)) in
-        ap (λ k. k ∷ []) (accepted .place-is) ∙ sym (single (normalized s n root .roots) (as-many-roots quad quad-laws (nodes s n) (list-fine s n (ok .sound)) (root ∷ []) inside))
+        ap (λ k. k ∷ []) (accepted .place-is) ∙ sym (single (normalized goldilocks s n root .roots) (as-many-roots quad quad-laws (nodes s n) (list-fine goldilocks s n (ok .sound)) (root ∷ []) inside))
 
-    pub words-listed : (after : List ℕ) → after ≡ normalizeResult s n root result workWords → answerText after count place rounds ≡ wordsListing s n root (length result) workWords
+    pub words-listed : (after : List ℕ) → after ≡ normalizeResult goldilocks s n root result workWords → answerText after count place rounds ≡ wordsListing s n root (length result) workWords
     unfolding answerText wordsListing normalizeResult filled
     words-listed after f =
-        let l = normalized s n root .list in
+        let l = normalized goldilocks s n root .list in
         let held : after ≡ wordsOf l ++ replicate (length result - length (wordsOf l)) blank = f ∙ rw (accepted .good) in
         let list-is : nodes after count ≡ l = ap₂ nodes held (accepted .count-is) ∙ nodes-words (replicate (length result - length (wordsOf l)) blank) l in
         ap listed (λ i. record { list = list-is i; roots = roots-are i; rounds = accepted .rounds-are i }) ∙ rw (accepted .good)

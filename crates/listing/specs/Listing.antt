@@ -2,6 +2,7 @@
 use Prim.Native.Nat.{ℕ, zero, suc, _+_, _*_}
 use mathlib.Core.List.{List, [], _∷_, _++_, map}
 use lib.ListN.{length}
+use Rattle.field.specs.Fields.{goldilocks}
 use Rattle.dag.specs.Nodes.{at, first, second}
 use Rattle.dag.specs.Refusals.{number, place, unlessRefused}
 use Rattle.dag.specs.declared.NodeKind.{NodeKind}
@@ -46,11 +47,11 @@ refusedLine r = line (ascii "refused" ∷ decimal (number r) ∷ decimal (place 
 -- what Normalise answers to the list that a store holds
 unfoldable pub wordsListing : List ℕ → ℕ → ℕ → ℕ → ℕ → List ℕ
 wordsListing s n root resultWords workWords =
-    unlessRefused (normalizeCheck s n root resultWords workWords) refusedLine (listed (normalized s n root))
+    unlessRefused (normalizeCheck goldilocks s n root resultWords workWords) refusedLine (listed (normalized goldilocks s n root))
 
 -- a whole file
 unfoldable pub listing : List ℕ → List ℕ
-listing file = unlessRefused (fileCheck file) refusedLine (listed (normalized (fileWords file) (fileCount file) (fileRoot file)))
+listing file = unlessRefused (fileCheck file) refusedLine (listed (normalized goldilocks (fileWords file) (fileCount file) (fileRoot file)))
 
 -- the most bytes of a listing of n records: 81 in its first line, 53 in each other
 abbrev pub longest : ℕ → ℕ

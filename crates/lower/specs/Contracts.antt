@@ -5,7 +5,7 @@ use mathlib.Core.Path.{_≡_}
 use mathlib.Core.Bool.{Bool, cond, _&&_}
 use lib.ListN.{length, take}
 use lib.Dec.{leb}
-use Rattle.field.specs.Field.{p}
+use Rattle.field.specs.Fields.{Field, modulus}
 use Rattle.dag.specs.Nodes.{mostRecords, nodes, wordsOf, filled}
 use Rattle.dag.specs.Refusals.{unlessRefused}
 use Rattle.dag.specs.PassLaws.{Listed}
@@ -26,23 +26,24 @@ use Rattle.lower.specs.declared.LowerAnswer.the-variants as LowerAnswer'
 pub record Formed (c : List ℕ) (f : Form) : Type 0 where
   pub few : f ≡ Sparse → Few c
 
--- columns that passed, none longer than 2^log
-pub record Covered (ls es : List ℕ) (log : ℕ) : Type 0 where
-  pub tested : Tested p ls es
-  pub covers : (j : ℕ) → j < length ls → logLength (column (columns ls es) j) ≤ log
+module _ (field : Field) where
+  -- columns that passed, none longer than 2^log
+  pub record Covered (ls es : List ℕ) (log : ℕ) : Type 0 where
+    pub tested : Tested (modulus field) ls es
+    pub covers : (j : ℕ) → j < length ls → logLength (column (columns ls es) j) ≤ log
 
--- what the tests give
-pub record Passed (s : List ℕ) (n : ℕ) (ls es : List ℕ) (period placeWords : ℕ) : Type 0 where
-  pub list : Listed p s 0 n
-  pub tested : Tested p ls es
-  pub place-room : length ls ≤ placeWords
-  pub covered : Covered ls es (logWithin 32 period)
+  -- what the tests give
+  pub record Passed (s : List ℕ) (n : ℕ) (ls es : List ℕ) (period placeWords : ℕ) : Type 0 where
+    pub list : Listed (field .bounds) s 0 n
+    pub tested : Tested (modulus field) ls es
+    pub place-room : length ls ≤ placeWords
+    pub covered : Covered ls es (logWithin (field .mostLog) period)
 
--- a store to build in, with the first n records of the list s and their index
-pub record Stored (s : List ℕ) (n : ℕ) (t : List ℕ) : Type 0 where
-  pub long : length t ≡ storeWords
-  pub same : Same s t n
-  pub indexed : NodeIndex (nodes s n) (links t)
+  -- a store to build in, with the first n records of the list s and their index
+  pub record Stored (s : List ℕ) (n : ℕ) (t : List ℕ) : Type 0 where
+    pub long : length t ≡ storeWords
+    pub same : Same field s t n
+    pub indexed : NodeIndex (nodes s n) (links t)
 
 -- a list of count records has room
 abbrev pub hasRoom : ℕ → List ℕ → Bool
@@ -54,8 +55,9 @@ pub record HandedOver (work : List ℕ) (count : ℕ) (ns result places : List �
   pub result-is : after ≡ cond (hasRoom count result) (filled (length result) (take (3 * count) work)) result
   pub places-are : listed ≡ cond (hasRoom count result) (filled (length places) ns) places
 
--- the answer and the stores, past the first tests
-pub record Finished (s : List ℕ) (n : ℕ) (ls es : List ℕ) (period : ℕ) (result places : List ℕ) (r : LowerAnswer) (after listed : List ℕ) : Type 0 where
-  pub answer : r ≡ unlessRefused (roomCheck (lowered s n ls es period) (length result)) LowerAnswer'.Refused (LowerAnswer'.Done (length (lowered s n ls es period .list)))
-  pub result-is : after ≡ unlessRefused (roomCheck (lowered s n ls es period) (length result)) (λ q. result) (filled (length result) (wordsOf (lowered s n ls es period .list)))
-  pub places-are : listed ≡ unlessRefused (roomCheck (lowered s n ls es period) (length result)) (λ q. places) (filled (length places) (lowered s n ls es period .answer))
+module _ (field : Field) where
+  -- the answer and the stores, past the first tests
+  pub record Finished (s : List ℕ) (n : ℕ) (ls es : List ℕ) (period : ℕ) (result places : List ℕ) (r : LowerAnswer) (after listed : List ℕ) : Type 0 where
+    pub answer : r ≡ unlessRefused (roomCheck (lowered field s n ls es period) (length result)) LowerAnswer'.Refused (LowerAnswer'.Done (length (lowered field s n ls es period .list)))
+    pub result-is : after ≡ unlessRefused (roomCheck (lowered field s n ls es period) (length result)) (λ q. result) (filled (length result) (wordsOf (lowered field s n ls es period .list)))
+    pub places-are : listed ≡ unlessRefused (roomCheck (lowered field s n ls es period) (length result)) (λ q. places) (filled (length places) (lowered field s n ls es period .answer))

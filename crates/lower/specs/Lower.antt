@@ -4,8 +4,7 @@ use mathlib.Core.Bool.{Bool, cond, _&&_, _||_}
 use mathlib.Core.List.{List, [], _∷_}
 use lib.Dec.{leb, eqb}
 use lib.ListN.{length, replicate}
-use Rattle.field.specs.Field.{p, felt, quad}
-use Rattle.field.specs.Generators.{generator, half}
+use Rattle.field.specs.Fields.{Field, modulus}
 use Rattle.dag.specs.Nodes.{blank, mostRecords, nodes, wordsOf, filled}
 use Rattle.dag.specs.Refusals.{need, _then_, unlessRefused}
 use Rattle.dag.specs.Check.{rootlessCheck}
@@ -26,39 +25,40 @@ longestFrom m (n ∷ ls) = longestFrom (cond (leb m n) n m) ls
 unfoldable pub longest : List ℕ → ℕ
 longest ls = longestFrom 0 ls
 
--- without columns the shared period isn't read
-unfoldable pub periodGood : List ℕ → ℕ → Bool
-periodGood ls period = eqb (length ls) 0 || (isPower 32 period && leb (longest ls) period)
-
--- the tests before anything is built: the list, n may be 0; Prepare's; the work and place stores, 2; the shared period, 15
-unfoldable pub lowerCheck : List ℕ → ℕ → List ℕ → List ℕ → ℕ → ℕ → ℕ → Checked
-lowerCheck s n ls es period workWords placeWords =
-    rootlessCheck p 0 s n
-    then prepareCheck p ls es
-    then need (leb (3 * mostRecords) workWords && leb (length ls) placeWords) StoreTooShort
-    then need (periodGood ls period) SharedPeriod
-
--- the list with the columns' nodes, and the place of each
-unfoldable pub lowered : List ℕ → ℕ → List ℕ → List ℕ → ℕ → Run (List ℕ)
-lowered s n ls es period = buildPeriodicNodes quad p felt generator half (columns ls es) (logWithin 32 period) .run (nodes s n)
-
 -- 7 if over 4,096 records result, or the result store is short for them
 unfoldable pub roomCheck : Run (List ℕ) → ℕ → Checked
 roomCheck r resultWords = need (leb (length (r .list)) mostRecords && leb (3 * length (r .list)) resultWords) NoRoom
 
-module _ (s : List ℕ) (n : ℕ) (ls es : List ℕ) (period : ℕ) (result work places : List ℕ) where
-  unfoldable pub wholeCheck : Checked
-  wholeCheck = lowerCheck s n ls es period (length work) (length places) then roomCheck (lowered s n ls es period) (length result)
+module _ (field : Field) where
+  -- without columns the shared period isn't read
+  unfoldable pub periodGood : List ℕ → ℕ → Bool
+  periodGood ls period = eqb (length ls) 0 || (isPower (field .mostLog) period && leb (longest ls) period)
 
-  unfoldable pub lowerAnswer : LowerAnswer
-  lowerAnswer = unlessRefused wholeCheck LowerAnswer'.Refused (LowerAnswer'.Done (length (lowered s n ls es period .list)))
+  -- the tests before anything is built: the list, n may be 0; Prepare's; the work and place stores, 2; the shared period, 15
+  unfoldable pub lowerCheck : List ℕ → ℕ → List ℕ → List ℕ → ℕ → ℕ → ℕ → Checked
+  lowerCheck s n ls es period workWords placeWords =
+      rootlessCheck (field .bounds) 0 s n
+      then prepareCheck (modulus field) ls es
+      then need (leb (3 * mostRecords) workWords && leb (length ls) placeWords) StoreTooShort
+      then need (periodGood ls period) SharedPeriod
 
-  unfoldable pub lowerResult : List ℕ
-  lowerResult = unlessRefused wholeCheck (λ r. result) (filled (length result) (wordsOf (lowered s n ls es period .list)))
+  -- the list with the columns' nodes, and the place of each
+  unfoldable pub lowered : List ℕ → ℕ → List ℕ → List ℕ → ℕ → Run (List ℕ)
+  lowered s n ls es period = buildPeriodicNodes field (columns ls es) (logWithin (field .mostLog) period) .run (nodes s n)
 
-  unfoldable pub lowerPlaces : List ℕ
-  lowerPlaces = unlessRefused wholeCheck (λ r. places) (filled (length places) (lowered s n ls es period .answer))
+  module _ (s : List ℕ) (n : ℕ) (ls es : List ℕ) (period : ℕ) (result work places : List ℕ) where
+    unfoldable pub wholeCheck : Checked
+    wholeCheck = lowerCheck s n ls es period (length work) (length places) then roomCheck (lowered s n ls es period) (length result)
 
-  -- blank also where 7 is answered
-  unfoldable pub lowerWork : List ℕ
-  lowerWork = unlessRefused (lowerCheck s n ls es period (length work) (length places)) (λ r. work) (replicate (length work) blank)
+    unfoldable pub lowerAnswer : LowerAnswer
+    lowerAnswer = unlessRefused wholeCheck LowerAnswer'.Refused (LowerAnswer'.Done (length (lowered s n ls es period .list)))
+
+    unfoldable pub lowerResult : List ℕ
+    lowerResult = unlessRefused wholeCheck (λ r. result) (filled (length result) (wordsOf (lowered s n ls es period .list)))
+
+    unfoldable pub lowerPlaces : List ℕ
+    lowerPlaces = unlessRefused wholeCheck (λ r. places) (filled (length places) (lowered s n ls es period .answer))
+
+    -- blank also where 7 is answered
+    unfoldable pub lowerWork : List ℕ
+    lowerWork = unlessRefused (lowerCheck s n ls es period (length work) (length places)) (λ r. work) (replicate (length work) blank)

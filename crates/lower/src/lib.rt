@@ -8,8 +8,8 @@ ghost use mathlib.Core.Bool.{cond};
 ghost use lib.Dec.{leb};
 ghost use Prim.Native.Nat.{_+_, _*_, _-_, _<_, _≤_};
 ghost use lib.ListN.{length, take, replicate};
-ghost use Rattle.field.specs.Field.{p, felt, quad};
-ghost use Rattle.field.specs.Generators.{generator, half};
+ghost use Rattle.field.specs.Fields.{goldilocks};
+ghost use Rattle.field.specs.Field.{p};
 ghost use Rattle.dag.specs.Nodes.{mostRecords, blank, filled};
 ghost use Rattle.dag.specs.Store.{Sound};
 ghost use Rattle.columns.specs.Prepare as Prepare;
@@ -30,8 +30,8 @@ pub enum LowerAnswer {
 
 // The value of a column in this form, whose point is ZK squared k times.
 fn column_value(list: &mut [u64], n: usize, col: &[u64], form: Form, k: usize) -> Entered
-    requires { ⌜ PeriodicContracts.Ready (now list) n × ColumnContracts.Column p (now col) × Contracts.Formed (now col) form ⌝ }
-    ensures { λ r. ⌜ PeriodicContracts.Entering (now (list .entry)) n (Periodic.columnValue quad p felt generator half (now (col .entry)) form k) (now (list .exit)) r ⌝ }
+    requires { ⌜ PeriodicContracts.Ready goldilocks (now list) n × ColumnContracts.Column p (now col) × Contracts.Formed (now col) form ⌝ }
+    ensures { λ r. ⌜ PeriodicContracts.Entering goldilocks (now (list .entry)) n (Periodic.columnValue goldilocks (now (col .entry)) form k) (now (list .exit)) r ⌝ }
 {
     match form {
         Form::Sparse => periodic::sparse_value(list, n, col, k),
@@ -51,8 +51,8 @@ fn column_node(
     log: usize,
     j: usize,
 ) -> Entered
-    requires { ⌜ PeriodicContracts.Ready (now list) n × ColumnContracts.Weighed p (now lengths) (now entries) (now gains) (now each) × Contracts.Covered (now lengths) (now entries) log × (j < length (now lengths)) ⌝ }
-    ensures { λ r. ⌜ PeriodicContracts.Entering (now (list .entry)) n (Periodic.columnNode quad p felt generator half (Prepare.columns (now (lengths .entry)) (now (entries .entry))) log j) (now (list .exit)) r ⌝ }
+    requires { ⌜ PeriodicContracts.Ready goldilocks (now list) n × ColumnContracts.Weighed p (now lengths) (now entries) (now gains) (now each) × Contracts.Covered goldilocks (now lengths) (now entries) log × (j < length (now lengths)) ⌝ }
+    ensures { λ r. ⌜ PeriodicContracts.Entering goldilocks (now (list .entry)) n (Periodic.columnNode goldilocks (Prepare.columns (now (lengths .entry)) (now (entries .entry))) log j) (now (list .exit)) r ⌝ }
 {
     let col = columns::column(lengths, entries, j);
     let form = columns::column_form(lengths, entries, gains, each, j);
@@ -68,8 +68,8 @@ fn build_periodic_nodes(
     log: usize,
     places: &mut [u64],
 ) -> usize
-    requires { ⌜ PeriodicContracts.Ready (now list) n × Contracts.Covered (now lengths) (now entries) log × (length (now lengths) ≤ length (now places)) ⌝ }
-    ensures { λ r. ⌜ PeriodicContracts.Listing (now (list .entry)) n (Periodic.buildPeriodicNodes quad p felt generator half (Prepare.columns (now (lengths .entry)) (now (entries .entry))) log) (now (list .exit)) r (now (places .exit)) (length (now (lengths .entry))) ⌝ }
+    requires { ⌜ PeriodicContracts.Ready goldilocks (now list) n × Contracts.Covered goldilocks (now lengths) (now entries) log × (length (now lengths) ≤ length (now places)) ⌝ }
+    ensures { λ r. ⌜ PeriodicContracts.Listing goldilocks (now (list .entry)) n (Periodic.buildPeriodicNodes goldilocks (Prepare.columns (now (lengths .entry)) (now (entries .entry))) log) (now (list .exit)) r (now (places .exit)) (length (now (lengths .entry))) ⌝ }
 {
     let gains = columns::gains(lengths, entries);
     let each = columns::savings_each(lengths, entries, &gains);
@@ -106,7 +106,7 @@ fn longest(lengths: &[u64]) -> u64
 
 // Whether columns of these lengths can share this period.
 fn period_good(lengths: &[u64], period: u64) -> bool
-    ensures { λ r. ⌜ r ≡ Lower.periodGood (now (lengths .entry)) period ⌝ }
+    ensures { λ r. ⌜ r ≡ Lower.periodGood goldilocks (now (lengths .entry)) period ⌝ }
 {
     if lengths.len() == 0 {
         return true;
@@ -127,7 +127,7 @@ fn lower_check(
     work_words: usize,
     place_words: usize,
 ) -> Checked
-    ensures { λ r. ⌜ r ≡ Lower.lowerCheck (now (list .entry)) n (now (lengths .entry)) (now (entries .entry)) period «work_words» «place_words» ⌝ }
+    ensures { λ r. ⌜ r ≡ Lower.lowerCheck goldilocks (now (list .entry)) n (now (lengths .entry)) (now (entries .entry)) period «work_words» «place_words» ⌝ }
 {
     let checked = dag::rootless_check(list, n, 0);
     if dag::is_refused(checked) {
@@ -160,8 +160,8 @@ fn fill_from(from: &[u64], m: usize, to: &mut [u64])
 
 // Writes the first n records of a list and their index to a store.
 fn store_list(list: &[u64], n: usize, store: &mut [u64])
-    requires { ⌜ Sound p (now list) n × (n ≤ mostRecords) × (length (now store) ≡ PeriodicContracts.storeWords) ⌝ }
-    ensures { λ _. ⌜ Contracts.Stored (now (list .entry)) n (now (store .exit)) ⌝ }
+    requires { ⌜ Sound (goldilocks .bounds) (now list) n × (n ≤ mostRecords) × (length (now store) ≡ PeriodicContracts.storeWords) ⌝ }
+    ensures { λ _. ⌜ Contracts.Stored goldilocks (now (list .entry)) n (now (store .exit)) ⌝ }
 {
     dag::copy_words(list, 3 * n, store);
     index::index_list(list, n, &mut store[periodic::RECORD_WORDS..]);
@@ -200,8 +200,8 @@ fn lower_with(
     store: &mut [u64],
     places: &mut [u64],
 ) -> LowerAnswer
-    requires { ⌜ Contracts.Passed (now list) n (now lengths) (now entries) period (length (now places)) × (length (now store) ≡ PeriodicContracts.storeWords) ⌝ }
-    ensures { λ r. ⌜ Contracts.Finished (now (list .entry)) n (now (lengths .entry)) (now (entries .entry)) period (now (result .entry)) (now (places .entry)) r (now (result .exit)) (now (places .exit)) ⌝ }
+    requires { ⌜ Contracts.Passed goldilocks (now list) n (now lengths) (now entries) period (length (now places)) × (length (now store) ≡ PeriodicContracts.storeWords) ⌝ }
+    ensures { λ r. ⌜ Contracts.Finished goldilocks (now (list .entry)) n (now (lengths .entry)) (now (entries .entry)) period (now (result .entry)) (now (places .entry)) r (now (result .exit)) (now (places .exit)) ⌝ }
 {
     store_list(list, n, store);
     let mut nodes = [0u64; 16];
@@ -221,8 +221,8 @@ fn lower_ready(
     work: &mut [u64],
     places: &mut [u64],
 ) -> LowerAnswer
-    requires { ⌜ Contracts.Passed (now list) n (now lengths) (now entries) period (length (now places)) ⌝ }
-    ensures { λ r. ⌜ Contracts.Finished (now (list .entry)) n (now (lengths .entry)) (now (entries .entry)) period (now (result .entry)) (now (places .entry)) r (now (result .exit)) (now (places .exit)) × (now (work .exit) ≡ replicate (length (now (work .entry))) blank) ⌝ }
+    requires { ⌜ Contracts.Passed goldilocks (now list) n (now lengths) (now entries) period (length (now places)) ⌝ }
+    ensures { λ r. ⌜ Contracts.Finished goldilocks (now (list .entry)) n (now (lengths .entry)) (now (entries .entry)) period (now (result .entry)) (now (places .entry)) r (now (result .exit)) (now (places .exit)) × (now (work .exit) ≡ replicate (length (now (work .entry))) blank) ⌝ }
 {
     dag::blank_from(work, 0);
     let mut store = [0u64; 5 * dag::MOST_RECORDS];
@@ -249,10 +249,10 @@ pub fn lower(
     work: &mut [u64],
     places: &mut [u64],
 ) -> LowerAnswer
-    ensures answer { λ r. ⌜ r ≡ Lower.lowerAnswer (now (list .entry)) n (now (lengths .entry)) (now (entries .entry)) period (now (result .entry)) (now (work .entry)) (now (places .entry)) ⌝ }
-    ensures result { λ _. ⌜ now (result .exit) ≡ Lower.lowerResult (now (list .entry)) n (now (lengths .entry)) (now (entries .entry)) period (now (result .entry)) (now (work .entry)) (now (places .entry)) ⌝ }
-    ensures work { λ _. ⌜ now (work .exit) ≡ Lower.lowerWork (now (list .entry)) n (now (lengths .entry)) (now (entries .entry)) period (now (result .entry)) (now (work .entry)) (now (places .entry)) ⌝ }
-    ensures places { λ _. ⌜ now (places .exit) ≡ Lower.lowerPlaces (now (list .entry)) n (now (lengths .entry)) (now (entries .entry)) period (now (result .entry)) (now (work .entry)) (now (places .entry)) ⌝ }
+    ensures answer { λ r. ⌜ r ≡ Lower.lowerAnswer goldilocks (now (list .entry)) n (now (lengths .entry)) (now (entries .entry)) period (now (result .entry)) (now (work .entry)) (now (places .entry)) ⌝ }
+    ensures result { λ _. ⌜ now (result .exit) ≡ Lower.lowerResult goldilocks (now (list .entry)) n (now (lengths .entry)) (now (entries .entry)) period (now (result .entry)) (now (work .entry)) (now (places .entry)) ⌝ }
+    ensures work { λ _. ⌜ now (work .exit) ≡ Lower.lowerWork goldilocks (now (list .entry)) n (now (lengths .entry)) (now (entries .entry)) period (now (result .entry)) (now (work .entry)) (now (places .entry)) ⌝ }
+    ensures places { λ _. ⌜ now (places .exit) ≡ Lower.lowerPlaces goldilocks (now (list .entry)) n (now (lengths .entry)) (now (entries .entry)) period (now (result .entry)) (now (work .entry)) (now (places .entry)) ⌝ }
 {
     let checked = lower_check(list, n, lengths, entries, period, work.len(), places.len());
     match checked {

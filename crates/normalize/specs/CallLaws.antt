@@ -9,7 +9,7 @@ use native.Mathlib.Omega.{arith}
 use borrow.Author.Tests.{leb-true}
 use lib.Dec.{leb}
 use lib.ListN.{length, getD, take, replicate}
-use Rattle.field.specs.Field.{p, quad, quad-laws}
+use Rattle.field.specs.Fields.{Field, elementLaws}
 use Rattle.dag.specs.Nodes.{mostRecords, blank, nodes, wordsOf, filled}
 use Rattle.dag.specs.NodeLaws.{length-nodes}
 use Rattle.dag.specs.CaseLaws.{and-true}
@@ -38,151 +38,152 @@ use Rattle.normalize.specs.declared.NormalEnd.{NormalEnd}
 use Rattle.normalize.specs.declared.NormalizeAnswer.{NormalizeAnswer}
 use Rattle.normalize.specs.declared.NormalizeAnswer.the-variants as NormalizeAnswer'
 
--- a round that is kept
-rounds-kept : (fuel : ℕ) (l : List NodeKind) (roots : List ℕ) (k : ℕ) → isKept quad l roots ≡ true
-    → roundsFrom quad (suc fuel) l roots k ≡ roundsFrom quad fuel (rounded quad l roots .list) (rounded quad l roots .roots) (suc k)
-unfolding roundsFrom
-rounds-kept fuel l roots k e = rw (e, roundsFrom)
+module _ (field : Field) where
+  -- a round that is kept
+  rounds-kept : (fuel : ℕ) (l : List NodeKind) (roots : List ℕ) (k : ℕ) → isKept (field .elements) l roots ≡ true
+      → roundsFrom (field .elements) (suc fuel) l roots k ≡ roundsFrom (field .elements) fuel (rounded (field .elements) l roots .list) (rounded (field .elements) l roots .roots) (suc k)
+  unfolding roundsFrom
+  rounds-kept fuel l roots k e = rw (e, roundsFrom)
 
-first-kept : (c : ℕ) (l : List NodeKind) (roots : List ℕ) (k : ℕ) → 0 < c → isKept quad l roots ≡ true
-    → roundsFrom quad c l roots k ≡ roundsFrom quad (pred c) (rounded quad l roots .list) (rounded quad l roots .roots) (suc k)
-first-kept zero l roots k h e = absurd (omega arith)
-first-kept (suc f) l roots k h e = rounds-kept f l roots k e
+  first-kept : (c : ℕ) (l : List NodeKind) (roots : List ℕ) (k : ℕ) → 0 < c → isKept (field .elements) l roots ≡ true
+      → roundsFrom (field .elements) c l roots k ≡ roundsFrom (field .elements) (pred c) (rounded (field .elements) l roots .list) (rounded (field .elements) l roots .roots) (suc k)
+  first-kept zero l roots k h e = absurd (omega arith)
+  first-kept (suc f) l roots k h e = rounds-kept f l roots k e
 
--- fuel past the list's length doesn't matter
-fuel-enough : (f g : ℕ) (l : List NodeKind) (roots : List ℕ) (k : ℕ) → length l ≤ f → length l ≤ g → roundsFrom quad f l roots k ≡ roundsFrom quad g l roots k
-fuel-enough zero g l roots k h j = given-back quad zero l roots k (empty l roots h) ∙ sym (given-back quad g l roots k (empty l roots h))
-  where
-    empty : (l : List NodeKind) (roots : List ℕ) → length l ≤ 0 → isKept quad l roots ≡ false
-    empty l roots h = go (isKept quad l roots) refl
-      where
-        go : (t : Bool) → isKept quad l roots ≡ t → isKept quad l roots ≡ false
-        go true e = absurd (let s = kept-shorter quad l roots e in omega arith)
-        go false e = e
-fuel-enough (suc f) g l roots k h j = go (isKept quad l roots) refl g j (λ d q. fuel-enough f d (rounded quad l roots .list) (rounded quad l roots .roots) (suc k) q)
-  where
-    go : (t : Bool) → isKept quad l roots ≡ t → (g : ℕ) → length l ≤ g
-        → ((d : ℕ) → length (rounded quad l roots .list) ≤ f → length (rounded quad l roots .list) ≤ d
-        → roundsFrom quad f (rounded quad l roots .list) (rounded quad l roots .roots) (suc k) ≡ roundsFrom quad d (rounded quad l roots .list) (rounded quad l roots .roots) (suc k))
-        → roundsFrom quad (suc f) l roots k ≡ roundsFrom quad g l roots k
-    go false e g j again = given-back quad (suc f) l roots k e ∙ sym (given-back quad g l roots k e)
-    go true e zero j again = absurd (let s = kept-shorter quad l roots e in omega arith)
-    go true e (suc d) j again =
-        let s = kept-shorter quad l roots e in
-        rounds-kept f l roots k e ∙ (again d (omega arith) (omega arith) ∙ sym (rounds-kept d l roots k e))
+  -- fuel past the list's length doesn't matter
+  fuel-enough : (f g : ℕ) (l : List NodeKind) (roots : List ℕ) (k : ℕ) → length l ≤ f → length l ≤ g → roundsFrom (field .elements) f l roots k ≡ roundsFrom (field .elements) g l roots k
+  fuel-enough zero g l roots k h j = given-back (field .elements) zero l roots k (empty l roots h) ∙ sym (given-back (field .elements) g l roots k (empty l roots h))
+    where
+      empty : (l : List NodeKind) (roots : List ℕ) → length l ≤ 0 → isKept (field .elements) l roots ≡ false
+      empty l roots h = go (isKept (field .elements) l roots) refl
+        where
+          go : (t : Bool) → isKept (field .elements) l roots ≡ t → isKept (field .elements) l roots ≡ false
+          go true e = absurd (let s = kept-shorter (field .elements) l roots e in omega arith)
+          go false e = e
+  fuel-enough (suc f) g l roots k h j = go (isKept (field .elements) l roots) refl g j (λ d q. fuel-enough f d (rounded (field .elements) l roots .list) (rounded (field .elements) l roots .roots) (suc k) q)
+    where
+      go : (t : Bool) → isKept (field .elements) l roots ≡ t → (g : ℕ) → length l ≤ g
+          → ((d : ℕ) → length (rounded (field .elements) l roots .list) ≤ f → length (rounded (field .elements) l roots .list) ≤ d
+          → roundsFrom (field .elements) f (rounded (field .elements) l roots .list) (rounded (field .elements) l roots .roots) (suc k) ≡ roundsFrom (field .elements) d (rounded (field .elements) l roots .list) (rounded (field .elements) l roots .roots) (suc k))
+          → roundsFrom (field .elements) (suc f) l roots k ≡ roundsFrom (field .elements) g l roots k
+      go false e g j again = given-back (field .elements) (suc f) l roots k e ∙ sym (given-back (field .elements) g l roots k e)
+      go true e zero j again = absurd (let s = kept-shorter (field .elements) l roots e in omega arith)
+      go true e (suc d) j again =
+          let s = kept-shorter (field .elements) l roots e in
+          rounds-kept f l roots k e ∙ (again d (omega arith) (omega arith) ∙ sym (rounds-kept d l roots k e))
 
-pub running-begins : {s : List ℕ} {n root k : ℕ} → Ready s n root k → Running s n root s n root 0
-unfolding normalized normalize
-running-begins {s} {n} {root} h =
-    record {
-      sound = h .sound;
-      inside = h .inside;
-      lost = omega arith;
-      rounds = ap (λ f. roundsFrom quad f (nodes s n) (root ∷ []) 0) (length-nodes s n);
-    }
-
--- the rounds so far, and one round more
-module _ {s : List ℕ} {n root : ℕ} {result : List ℕ} {count r k : ℕ} (h : Running s n root result count r k) where
-  pub running-ready : (words : ℕ) → n ≤ mostRecords → 6 * n ≤ words → Ready result count r words
-  running-ready words few room = let a = h .lost in record { sound = h .sound; few = omega arith; inside = h .inside; room = omega arith }
-
-  module _ {after : List ℕ} {q : RoundKept} (o : Once result count r after q) where
-    module _ (e : q .kept ≡ true) where
-      kept : isKept quad (nodes result count) (r ∷ []) ≡ true
-      kept = sym (o .kept-is) ∙ e
-
-      new-count : q .count ≡ length (rounded quad (nodes result count) (r ∷ []) .list)
-      new-count = sym (length-nodes after (q .count)) ∙ ap length (o .list-is e)
-
-      pub fewer : q .count < count
-      fewer = let a = kept-shorter quad (nodes result count) (r ∷ []) kept in let b = new-count in let d = length-nodes result count in omega arith
-
-      pub running-on : Running s n root after (q .count) (q .root) (k + 1)
-      running-on =
-          let b = new-count in
-          let f = fewer in
-          let a = h .lost in
-          let d = length-nodes result count in
-          let i = h .inside in
-          let l = rounded quad (nodes result count) (r ∷ []) in
-          let below = rounded-inside quad quad-laws (nodes result count) (list-fine result count (h .sound)) (r ∷ []) (one-below (length (nodes result count)) r (omega arith)) in
-          record {
-            sound = o .sound e;
-            inside = rw new-count (below (q .root) (rw (← o .roots-are e) here));
-            lost = omega arith;
-            rounds =
-                h .rounds
-                ∙ (first-kept count (nodes result count) (r ∷ []) k (omega arith) kept
-                ∙ (fuel-enough (pred count) (q .count) (l .list) (l .roots) (suc k) (omega arith) (omega arith)
-                ∙ rw (← o .list-is e, ← o .roots-are e, add-one k)));
-          }
-
-    -- the rounds end
-    pub ended : q .kept ≡ false → Ended s n root after (record { count = count; root = r; rounds = k })
-    ended e =
-        let z = h .rounds ∙ given-back quad count (nodes result count) (r ∷ []) k (sym (o .kept-is) ∙ e) in
-        let same = o .stays e in
-        record {
-          sound = rw same (h .sound);
-          few = let a = h .lost in omega arith;
-          list-is = ap (λ t. nodes t count) same ∙ sym (ap (λ m. m .list) z);
-          root-is = sym (ap (λ m. getD (m .roots) 0 0) z);
-          rounds-are = sym (ap (λ m. m .rounds) z);
-        }
-
-pub passed : (s : List ℕ) (n root resultWords workWords : ℕ) → normalizeCheck s n root resultWords workWords ≡ Good → Passed s n root resultWords workWords
-unfolding normalizeCheck
-passed s n root resultWords workWords e =
-    let both = then-good (listCheck p s n root) (need (leb (3 * n) resultWords && leb (6 * n) workWords) StoreTooShort) e in
-    let list = rooted p s n root (both .0) in
-    let stores = and-true (leb (3 * n) resultWords) (leb (6 * n) workWords) (need-good (leb (3 * n) resultWords && leb (6 * n) workWords) StoreTooShort (both .1)) in
-    record {
-      sound = list .list .sound;
-      few = list .list .most;
-      inside = list .inside;
-      result-room = leb-true (3 * n) resultWords (stores .0);
-      work-room = leb-true (6 * n) workWords (stores .1);
-    }
-
--- the whole list copied to the result store, which is then ready for the rounds
-module _ {s : List ℕ} {n root resultWords workWords : ℕ} (h : Passed s n root resultWords workWords) (d : List ℕ) {t : List ℕ} (e : t ≡ copied s d (3 * n)) where
-  is-written : t ≡ written d (nodes s n)
-  unfolding copied written
-  is-written = e ∙ rw (take-words p s n (h .sound), length-nodes s n)
-
-  pub copied-ready : Ready t n root workWords
-  copied-ready =
-      let sound : Sound p t n = rw is-written (rw (length-nodes s n) at (sound-written p d (nodes s n) (list-fine s n (h .sound)))) in
-      record { sound = sound; few = h .few; inside = h .inside; room = h .work-room }
-
-  copied-normalized : normalized t n root ≡ normalized s n root
-  unfolding normalized
-  copied-normalized = ap (λ l. normalize quad l (root ∷ [])) (ap₂ nodes is-written (sym (length-nodes s n)) ∙ nodes-written d (nodes s n))
-
-  pub finished : {result work mid : List ℕ} {r : NormalEnd} → Ended t n root mid r → length mid ≡ length result
-      → (last : List ℕ) {after blanked : List ℕ} → after ≡ take (3 * r .count) mid ++ replicate (length mid - 3 * r .count) blank → length last ≡ length work → blanked ≡ replicate (length last - 0) blank
-      → Finished s n root result work (NormalizeAnswer'.Done (r .count) (r .root) (r .rounds)) after blanked
-  finished {result} {work} {mid} {r} o k last ea ew eb =
-      let g = copied-normalized in
-      let list-is = o .list-is ∙ ap (λ a. a .list) g in
-      let c : r .count ≡ length (normalized s n root .list) = sym (length-nodes mid (r .count)) ∙ ap length list-is in
+  pub running-begins : {s : List ℕ} {n root k : ℕ} → Ready field s n root k → Running field s n root s n root 0
+  unfolding normalized normalize
+  running-begins {s} {n} {root} h =
       record {
-        answer = λ i. NormalizeAnswer'.Done (c i) ((o .root-is ∙ ap (λ a. getD (a .roots) 0 0) g) i) ((o .rounds-are ∙ ap (λ a. a .rounds) g) i);
-        list-is = ea ∙ (filled-list p mid (r .count) (length result) (o .sound) k ∙ ap (λ l. filled (length result) (wordsOf l)) list-is);
-        work-is = eb ∙ rw (sub-zero (length last), ew);
+        sound = h .sound;
+        inside = h .inside;
+        lost = omega arith;
+        rounds = ap (λ f. roundsFrom (field .elements) f (nodes s n) (root ∷ []) 0) (length-nodes s n);
       }
 
-pub record Called (s : List ℕ) (n root : ℕ) (result work : List ℕ) (a : NormalizeAnswer) (after blanked : List ℕ) : Type 0 where
-  pub answer : a ≡ normalizeAnswer s n root (length result) (length work)
-  pub list-is : after ≡ normalizeResult s n root result (length work)
-  pub work-is : blanked ≡ normalizeWork s n root (length result) work
+  -- the rounds so far, and one round more
+  module _ {s : List ℕ} {n root : ℕ} {result : List ℕ} {count r k : ℕ} (h : Running field s n root result count r k) where
+    pub running-ready : (words : ℕ) → n ≤ mostRecords → 6 * n ≤ words → Ready field result count r words
+    running-ready words few room = let a = h .lost in record { sound = h .sound; few = omega arith; inside = h .inside; room = omega arith }
 
-pub normalize-refused : (s : List ℕ) (n root : ℕ) (result work : List ℕ) (r : Refusal) → normalizeCheck s n root (length result) (length work) ≡ Refused r
-    → Called s n root result work (NormalizeAnswer'.Refused r) result work
-unfolding normalizeAnswer normalizeResult normalizeWork
-normalize-refused s n root result work r e = record { answer = rw e; list-is = rw e; work-is = rw e }
+    module _ {after : List ℕ} {q : RoundKept} (o : Once field result count r after q) where
+      module _ (e : q .kept ≡ true) where
+        kept : isKept (field .elements) (nodes result count) (r ∷ []) ≡ true
+        kept = sym (o .kept-is) ∙ e
 
-pub normalize-done : (s : List ℕ) (n root : ℕ) (result work : List ℕ) (a : NormalizeAnswer) (after blanked : List ℕ) → normalizeCheck s n root (length result) (length work) ≡ Good
-    → Finished s n root result work a after blanked → Called s n root result work a after blanked
-unfolding normalizeAnswer normalizeResult normalizeWork
-normalize-done s n root result work a after blanked e h = record { answer = rw e (h .answer); list-is = rw e (h .list-is); work-is = rw e (h .work-is) }
+        new-count : q .count ≡ length (rounded (field .elements) (nodes result count) (r ∷ []) .list)
+        new-count = sym (length-nodes after (q .count)) ∙ ap length (o .list-is e)
+
+        pub fewer : q .count < count
+        fewer = let a = kept-shorter (field .elements) (nodes result count) (r ∷ []) kept in let b = new-count in let d = length-nodes result count in omega arith
+
+        pub running-on : Running field s n root after (q .count) (q .root) (k + 1)
+        running-on =
+            let b = new-count in
+            let f = fewer in
+            let a = h .lost in
+            let d = length-nodes result count in
+            let i = h .inside in
+            let l = rounded (field .elements) (nodes result count) (r ∷ []) in
+            let below = rounded-inside (field .elements) (elementLaws field) (nodes result count) (list-fine field result count (h .sound)) (r ∷ []) (one-below (length (nodes result count)) r (omega arith)) in
+            record {
+              sound = o .sound e;
+              inside = rw new-count (below (q .root) (rw (← o .roots-are e) here));
+              lost = omega arith;
+              rounds =
+                  h .rounds
+                  ∙ (first-kept count (nodes result count) (r ∷ []) k (omega arith) kept
+                  ∙ (fuel-enough (pred count) (q .count) (l .list) (l .roots) (suc k) (omega arith) (omega arith)
+                  ∙ rw (← o .list-is e, ← o .roots-are e, add-one k)));
+            }
+
+      -- the rounds end
+      pub ended : q .kept ≡ false → Ended field s n root after (record { count = count; root = r; rounds = k })
+      ended e =
+          let z = h .rounds ∙ given-back (field .elements) count (nodes result count) (r ∷ []) k (sym (o .kept-is) ∙ e) in
+          let same = o .stays e in
+          record {
+            sound = rw same (h .sound);
+            few = let a = h .lost in omega arith;
+            list-is = ap (λ t. nodes t count) same ∙ sym (ap (λ m. m .list) z);
+            root-is = sym (ap (λ m. getD (m .roots) 0 0) z);
+            rounds-are = sym (ap (λ m. m .rounds) z);
+          }
+
+  pub passed : (s : List ℕ) (n root resultWords workWords : ℕ) → normalizeCheck field s n root resultWords workWords ≡ Good → Passed field s n root resultWords workWords
+  unfolding normalizeCheck
+  passed s n root resultWords workWords e =
+      let both = then-good (listCheck (field .bounds) s n root) (need (leb (3 * n) resultWords && leb (6 * n) workWords) StoreTooShort) e in
+      let list = rooted (field .bounds) s n root (both .0) in
+      let stores = and-true (leb (3 * n) resultWords) (leb (6 * n) workWords) (need-good (leb (3 * n) resultWords && leb (6 * n) workWords) StoreTooShort (both .1)) in
+      record {
+        sound = list .list .sound;
+        few = list .list .most;
+        inside = list .inside;
+        result-room = leb-true (3 * n) resultWords (stores .0);
+        work-room = leb-true (6 * n) workWords (stores .1);
+      }
+
+  -- the whole list copied to the result store, which is then ready for the rounds
+  module _ {s : List ℕ} {n root resultWords workWords : ℕ} (h : Passed field s n root resultWords workWords) (d : List ℕ) {t : List ℕ} (e : t ≡ copied s d (3 * n)) where
+    is-written : t ≡ written d (nodes s n)
+    unfolding copied written
+    is-written = e ∙ rw (take-words (field .bounds) s n (h .sound), length-nodes s n)
+
+    pub copied-ready : Ready field t n root workWords
+    copied-ready =
+        let sound : Sound (field .bounds) t n = rw is-written (rw (length-nodes s n) at (sound-written (field .bounds) d (nodes s n) (list-fine field s n (h .sound)))) in
+        record { sound = sound; few = h .few; inside = h .inside; room = h .work-room }
+
+    copied-normalized : normalized field t n root ≡ normalized field s n root
+    unfolding normalized
+    copied-normalized = ap (λ l. normalize (field .elements) l (root ∷ [])) (ap₂ nodes is-written (sym (length-nodes s n)) ∙ nodes-written d (nodes s n))
+
+    pub finished : {result work mid : List ℕ} {r : NormalEnd} → Ended field t n root mid r → length mid ≡ length result
+        → (last : List ℕ) {after blanked : List ℕ} → after ≡ take (3 * r .count) mid ++ replicate (length mid - 3 * r .count) blank → length last ≡ length work → blanked ≡ replicate (length last - 0) blank
+        → Finished field s n root result work (NormalizeAnswer'.Done (r .count) (r .root) (r .rounds)) after blanked
+    finished {result} {work} {mid} {r} o k last ea ew eb =
+        let g = copied-normalized in
+        let list-is = o .list-is ∙ ap (λ a. a .list) g in
+        let c : r .count ≡ length (normalized field s n root .list) = sym (length-nodes mid (r .count)) ∙ ap length list-is in
+        record {
+          answer = λ i. NormalizeAnswer'.Done (c i) ((o .root-is ∙ ap (λ a. getD (a .roots) 0 0) g) i) ((o .rounds-are ∙ ap (λ a. a .rounds) g) i);
+          list-is = ea ∙ (filled-list (field .bounds) mid (r .count) (length result) (o .sound) k ∙ ap (λ l. filled (length result) (wordsOf l)) list-is);
+          work-is = eb ∙ rw (sub-zero (length last), ew);
+        }
+
+  pub record Called (s : List ℕ) (n root : ℕ) (result work : List ℕ) (a : NormalizeAnswer) (after blanked : List ℕ) : Type 0 where
+    pub answer : a ≡ normalizeAnswer field s n root (length result) (length work)
+    pub list-is : after ≡ normalizeResult field s n root result (length work)
+    pub work-is : blanked ≡ normalizeWork field s n root (length result) work
+
+  pub normalize-refused : (s : List ℕ) (n root : ℕ) (result work : List ℕ) (r : Refusal) → normalizeCheck field s n root (length result) (length work) ≡ Refused r
+      → Called s n root result work (NormalizeAnswer'.Refused r) result work
+  unfolding normalizeAnswer normalizeResult normalizeWork
+  normalize-refused s n root result work r e = record { answer = rw e; list-is = rw e; work-is = rw e }
+
+  pub normalize-done : (s : List ℕ) (n root : ℕ) (result work : List ℕ) (a : NormalizeAnswer) (after blanked : List ℕ) → normalizeCheck field s n root (length result) (length work) ≡ Good
+      → Finished field s n root result work a after blanked → Called s n root result work a after blanked
+  unfolding normalizeAnswer normalizeResult normalizeWork
+  normalize-done s n root result work a after blanked e h = record { answer = rw e (h .answer); list-is = rw e (h .list-is); work-is = rw e (h .work-is) }

@@ -4,7 +4,7 @@ use mathlib.Core.Bool.{Bool, true, false}
 use mathlib.Core.List.{List, [], _∷_}
 use mathlib.Core.Path.{_≡_}
 use lib.ListN.{getD, length, replicate}
-use Rattle.field.specs.Field.{p, Below, quad}
+use Rattle.field.specs.Fields.{Field, Low}
 use Rattle.dag.specs.Store.{Sound}
 use Rattle.dag.specs.WellFormed.{Fine}
 use Rattle.dag.specs.Nodes.{mostRecords, nodes, blank, wordsOf, filled}
@@ -22,14 +22,15 @@ use Rattle.normalize.specs.declared.NormalEnd.{NormalEnd}
 use Rattle.normalize.specs.declared.NormalizeAnswer.{NormalizeAnswer}
 use Rattle.normalize.specs.declared.NormalizeAnswer.the-variants as NormalizeAnswer'
 
--- a record and its plan at place i, with earlier results inside a list of `count` records that has room for two more
-pub record Entering (work : List ℕ) (count : ℕ) (map : List ℕ) (i : ℕ) (x : NodeKind) (plan : Plan) : Type 0 where
-  pub sound : Sound p work count
-  pub places : (j : ℕ) → j < i → read map j < count
-  pub fits : i ≤ length map
-  pub fine : Fine Below i x
-  pub plan-fine : PlanFine i plan
-  pub room : 3 * count + 5 < length work
+module _ (field : Field) where
+  -- a record and its plan at place i, with earlier results inside a list of `count` records that has room for two more
+  pub record Entering (work : List ℕ) (count : ℕ) (map : List ℕ) (i : ℕ) (x : NodeKind) (plan : Plan) : Type 0 where
+    pub sound : Sound (field .bounds) work count
+    pub places : (j : ℕ) → j < i → read map j < count
+    pub fits : i ≤ length map
+    pub fine : Fine (Low field) i x
+    pub plan-fine : PlanFine i plan
+    pub room : 3 * count + 5 < length work
 
 -- the list's index, with room for two records more
 pub record Linked (work : List ℕ) (count : ℕ) (links : List ℕ) : Type 0 where
@@ -40,35 +41,36 @@ pub record Linked (work : List ℕ) (count : ℕ) (links : List ℕ) : Type 0 wh
 abbrev pub held : List ℕ → ℕ → List ℕ → Replay
 held work count map = record { list = nodes work count; map = map }
 
--- the store holds the list that the plan gives
-pub record Planned (work : List ℕ) (count : ℕ) (b : Built) (after : List ℕ) (e : Entered) : Type 0 where
-  pub kept : length after ≡ length work
-  pub sound : Sound p after (e .count)
-  pub list-is : nodes after (e .count) ≡ b .list
-  pub place-is : e .place ≡ b .place
-  pub inside : e .place < e .count
-  pub longer : count ≤ e .count
-  pub by-two : e .count ≤ count + 2
+module _ (field : Field) where
+  -- the store holds the list that the plan gives
+  pub record Planned (work : List ℕ) (count : ℕ) (b : Built) (after : List ℕ) (e : Entered) : Type 0 where
+    pub kept : length after ≡ length work
+    pub sound : Sound (field .bounds) after (e .count)
+    pub list-is : nodes after (e .count) ≡ b .list
+    pub place-is : e .place ≡ b .place
+    pub inside : e .place < e .count
+    pub longer : count ≤ e .count
+    pub by-two : e .count ≤ count + 2
 
--- what a round asks of its stores
-pub record Rounding (s : List ℕ) (n : ℕ) (fan work map : List ℕ) : Type 0 where
-  pub sound : Sound p s n
-  pub few : n ≤ mostRecords
-  pub fan-fits : n ≤ length fan
-  pub work-fits : 6 * n ≤ length work
-  pub map-fits : n ≤ length map
+  -- what a round asks of its stores
+  pub record Rounding (s : List ℕ) (n : ℕ) (fan work map : List ℕ) : Type 0 where
+    pub sound : Sound (field .bounds) s n
+    pub few : n ≤ mostRecords
+    pub fan-fits : n ≤ length fan
+    pub work-fits : 6 * n ≤ length work
+    pub map-fits : n ≤ length map
 
--- what it leaves there
-pub record RoundHeld (s : List ℕ) (n : ℕ) (fan : List ℕ) (i : ℕ) (work map : List ℕ) (count : ℕ) (t : Bool) : Type 0 where
-  pub holds : Holds (round quad (nodes s n) (read fan) i) i work map count
-  pub fired-is : t ≡ fired (nodes s n) (read fan) i
+  -- what it leaves there
+  pub record RoundHeld (s : List ℕ) (n : ℕ) (fan : List ℕ) (i : ℕ) (work map : List ℕ) (count : ℕ) (t : Bool) : Type 0 where
+    pub holds : Holds field (round (field .elements) (nodes s n) (read fan) i) i work map count
+    pub fired-is : t ≡ fired (nodes s n) (read fan) i
 
--- what one round asks: a list with its root, and a work store of twice its length
-pub record Ready (s : List ℕ) (n root workWords : ℕ) : Type 0 where
-  pub sound : Sound p s n
-  pub few : n ≤ mostRecords
-  pub inside : root < n
-  pub room : 6 * n ≤ workWords
+  -- what one round asks: a list with its root, and a work store of twice its length
+  pub record Ready (s : List ℕ) (n root workWords : ℕ) : Type 0 where
+    pub sound : Sound (field .bounds) s n
+    pub few : n ≤ mostRecords
+    pub inside : root < n
+    pub room : 6 * n ≤ workWords
 
 -- scratch stores for n records: counts, places, and the links of two indexes
 pub record Scratch (n : ℕ) (fan places own links : List ℕ) : Type 0 where
@@ -79,39 +81,40 @@ pub record Scratch (n : ℕ) (fan places own links : List ℕ) : Type 0 where
   pub links-long : 4 * n ≤ length links
   pub links-few : length links ≤ 2 ^ 32
 
--- what it says of a store that was s
-pub record Once (s : List ℕ) (n root : ℕ) (after : List ℕ) (r : RoundKept) : Type 0 where
-  pub kept-is : r .kept ≡ isKept quad (nodes s n) (root ∷ [])
-  pub stays : r .kept ≡ false → after ≡ s
-  pub sound : r .kept ≡ true → Sound p after (r .count)
-  pub list-is : r .kept ≡ true → nodes after (r .count) ≡ rounded quad (nodes s n) (root ∷ []) .list
-  pub roots-are : r .kept ≡ true → r .root ∷ [] ≡ rounded quad (nodes s n) (root ∷ []) .roots
+module _ (field : Field) where
+  -- what it says of a store that was s
+  pub record Once (s : List ℕ) (n root : ℕ) (after : List ℕ) (r : RoundKept) : Type 0 where
+    pub kept-is : r .kept ≡ isKept (field .elements) (nodes s n) (root ∷ [])
+    pub stays : r .kept ≡ false → after ≡ s
+    pub sound : r .kept ≡ true → Sound (field .bounds) after (r .count)
+    pub list-is : r .kept ≡ true → nodes after (r .count) ≡ rounded (field .elements) (nodes s n) (root ∷ []) .list
+    pub roots-are : r .kept ≡ true → r .root ∷ [] ≡ rounded (field .elements) (nodes s n) (root ∷ []) .roots
 
--- the rounds so far: the list in the result store, its root r, and k rounds kept
-pub record Running (s : List ℕ) (n root : ℕ) (result : List ℕ) (count r k : ℕ) : Type 0 where
-  pub sound : Sound p result count
-  pub inside : r < count
-  pub lost : k + count ≤ n
-  pub rounds : normalized s n root ≡ roundsFrom quad count (nodes result count) (r ∷ []) k
+  -- the rounds so far: the list in the result store, its root r, and k rounds kept
+  pub record Running (s : List ℕ) (n root : ℕ) (result : List ℕ) (count r k : ℕ) : Type 0 where
+    pub sound : Sound (field .bounds) result count
+    pub inside : r < count
+    pub lost : k + count ≤ n
+    pub rounds : normalized field s n root ≡ roundsFrom (field .elements) count (nodes result count) (r ∷ []) k
 
--- the store after the rounds
-pub record Ended (s : List ℕ) (n root : ℕ) (after : List ℕ) (e : NormalEnd) : Type 0 where
-  pub sound : Sound p after (e .count)
-  pub few : e .count ≤ n
-  pub list-is : nodes after (e .count) ≡ normalized s n root .list
-  pub root-is : e .root ≡ getD (normalized s n root .roots) 0 0
-  pub rounds-are : e .rounds ≡ normalized s n root .rounds
+  -- the store after the rounds
+  pub record Ended (s : List ℕ) (n root : ℕ) (after : List ℕ) (e : NormalEnd) : Type 0 where
+    pub sound : Sound (field .bounds) after (e .count)
+    pub few : e .count ≤ n
+    pub list-is : nodes after (e .count) ≡ normalized field s n root .list
+    pub root-is : e .root ≡ getD (normalized field s n root .roots) 0 0
+    pub rounds-are : e .rounds ≡ normalized field s n root .rounds
 
--- what Normalise asks once its tests have passed
-pub record Passed (s : List ℕ) (n root resultWords workWords : ℕ) : Type 0 where
-  pub sound : Sound p s n
-  pub few : n ≤ mostRecords
-  pub inside : root < n
-  pub result-room : 3 * n ≤ resultWords
-  pub work-room : 6 * n ≤ workWords
+  -- what Normalise asks once its tests have passed
+  pub record Passed (s : List ℕ) (n root resultWords workWords : ℕ) : Type 0 where
+    pub sound : Sound (field .bounds) s n
+    pub few : n ≤ mostRecords
+    pub inside : root < n
+    pub result-room : 3 * n ≤ resultWords
+    pub work-room : 6 * n ≤ workWords
 
--- the answer and the stores
-pub record Finished (s : List ℕ) (n root : ℕ) (result work : List ℕ) (a : NormalizeAnswer) (after blanked : List ℕ) : Type 0 where
-  pub answer : a ≡ NormalizeAnswer'.Done (length (normalized s n root .list)) (getD (normalized s n root .roots) 0 0) (normalized s n root .rounds)
-  pub list-is : after ≡ filled (length result) (wordsOf (normalized s n root .list))
-  pub work-is : blanked ≡ replicate (length work) blank
+  -- the answer and the stores
+  pub record Finished (s : List ℕ) (n root : ℕ) (result work : List ℕ) (a : NormalizeAnswer) (after blanked : List ℕ) : Type 0 where
+    pub answer : a ≡ NormalizeAnswer'.Done (length (normalized field s n root .list)) (getD (normalized field s n root .roots) 0 0) (normalized field s n root .rounds)
+    pub list-is : after ≡ filled (length result) (wordsOf (normalized field s n root .list))
+    pub work-is : blanked ≡ replicate (length work) blank

@@ -9,7 +9,7 @@ use native.Mathlib.Omega.{arith}
 use borrow.Author.Tests.{lt-ltb}
 use lib.ListN.{length, getD, take, replicate, length-replicate}
 use lib.Seq.{length-take-le}
-use Rattle.field.specs.Field.{p, quad, quad-laws, Below}
+use Rattle.field.specs.Fields.{Field, Low, elementLaws}
 use Rattle.dag.specs.BlankLaws.{all-zero}
 use Rattle.dag.specs.Nodes.{mostRecords, nodes}
 use Rattle.dag.specs.NodeLaws.{length-nodes}
@@ -47,22 +47,23 @@ scratch-part c k h f m o l ef em eo el =
     let a = length-take-le k f (omega arith) in let b = length-take-le k m (omega arith) in let d = length-take-le (2 * k) o (omega arith) in let e = length-take-le (4 * k) l (omega arith) in
     record { fan-long = omega arith; places-long = omega arith; own-long = omega arith; own-few = omega arith; links-long = omega arith; links-few = omega arith }
 
-module _ {s : List ℕ} {n root k : ℕ} {fan places own links : List ℕ} (h : Ready s n root k) (c : Scratch n fan places own links) where
-  pub counting : (cleared : List ℕ) → cleared ≡ take 0 fan ++ replicate (length fan - 0) 0 → Counting s n root cleared
-  counting cleared z =
-      let q : cleared ≡ replicate (length fan) 0 = rw (sub-zero (length fan)) at z in
-      let a = c .fan-long in
-      record { sound = h .sound; inside = h .inside; few = h .few; fits = rw (q, length-replicate {A = ℕ} (length fan) 0) (omega arith); zeros = λ j. rw q (all-zero (length fan) j) }
+module _ (field : Field) where
+  module _ {s : List ℕ} {n root k : ℕ} {fan places own links : List ℕ} (h : Ready field s n root k) (c : Scratch n fan places own links) where
+    pub counting : (cleared : List ℕ) → cleared ≡ take 0 fan ++ replicate (length fan - 0) 0 → Counting s n root cleared
+    counting cleared z =
+        let q : cleared ≡ replicate (length fan) 0 = rw (sub-zero (length fan)) at z in
+        let a = c .fan-long in
+        record { sound = (field .bounds, h .sound); inside = h .inside; few = h .few; fits = rw (q, length-replicate {A = ℕ} (length fan) 0) (omega arith); zeros = λ j. rw q (all-zero (length fan) j) }
 
-  pub rounding : (counted work : List ℕ) → length counted ≡ length fan → k ≡ length work → Rounding s n counted work places
-  rounding counted work e g =
-      let a = c .fan-long in let b = c .places-long in let r = h .room in
-      record { sound = h .sound; few = h .few; fan-fits = omega arith; work-fits = omega arith; map-fits = omega arith }
+    pub rounding : (counted work : List ℕ) → length counted ≡ length fan → k ≡ length work → Rounding field s n counted work places
+    rounding counted work e g =
+        let a = c .fan-long in let b = c .places-long in let r = h .room in
+        record { sound = h .sound; few = h .few; fan-fits = omega arith; work-fits = omega arith; map-fits = omega arith }
 
-  pub linkable : Usable links × (2 * n ≤ half links)
-  linkable =
-      let a = c .links-long in let b = c .links-few in let d = h .inside in
-      (record { some = omega arith; few = omega arith }, omega arith)
+    pub linkable : Usable links × (2 * n ≤ half links)
+    linkable =
+        let a = c .links-long in let b = c .links-few in let d = h .inside in
+        (record { some = omega arith; few = omega arith }, omega arith)
 
 -- a round's count and root, where it isn't kept and where it is
 abbrev discarded : ℕ → ℕ → RoundKept
@@ -71,87 +72,88 @@ discarded n root = record { kept = false; count = n; root = root }
 abbrev keeping : ℕ → ℕ → RoundKept
 keeping n root = record { kept = true; count = n; root = root }
 
-stays-once : (s : List ℕ) (n root : ℕ) → isKept quad (nodes s n) (root ∷ []) ≡ false → Once s n root s (discarded n root)
-stays-once s n root e =
-    record {
-      kept-is = sym e;
-      stays = λ _. refl;
-      sound = λ z. absurd (true≢false (sym z));
-      list-is = λ z. absurd (true≢false (sym z));
-      roots-are = λ z. absurd (true≢false (sym z));
-    }
+module _ (field : Field) where
+  stays-once : (s : List ℕ) (n root : ℕ) → isKept (field .elements) (nodes s n) (root ∷ []) ≡ false → Once field s n root s (discarded n root)
+  stays-once s n root e =
+      record {
+        kept-is = sym e;
+        stays = λ _. refl;
+        sound = λ z. absurd (true≢false (sym z));
+        list-is = λ z. absurd (true≢false (sym z));
+        roots-are = λ z. absurd (true≢false (sym z));
+      }
 
--- a round on a list that is ready: what it left in its stores
-module _ {s : List ℕ} {n root k : ℕ} (ready : Ready s n root k) {fan work places : List ℕ} {count : ℕ} {t : Bool} (h : RoundHeld s n fan n work places count t)
-    (ef : read fan ≡ fanout (nodes s n) (root ∷ [])) where
-  r : Replay
-  r = round quad (nodes s n) (read fan) n
+  -- a round on a list that is ready: what it left in its stores
+  module _ {s : List ℕ} {n root k : ℕ} (ready : Ready field s n root k) {fan work places : List ℕ} {count : ℕ} {t : Bool} (h : RoundHeld field s n fan n work places count t)
+      (ef : read fan ≡ fanout (nodes s n) (root ∷ [])) where
+    r : Replay
+    r = round (field .elements) (nodes s n) (read fan) n
 
-  w : WellFormed Below (nodes s n)
-  w = list-fine s n (ready .sound)
+    w : WellFormed (Low field) (nodes s n)
+    w = list-fine field s n (ready .sound)
 
-  fired-is : t ≡ fired (nodes s n) (fanout (nodes s n) (root ∷ [])) (length (nodes s n))
-  fired-is = h .fired-is ∙ ap₂ (fired (nodes s n)) ef (sym (length-nodes s n))
+    fired-is : t ≡ fired (nodes s n) (fanout (nodes s n) (root ∷ [])) (length (nodes s n))
+    fired-is = h .fired-is ∙ ap₂ (fired (nodes s n)) ef (sym (length-nodes s n))
 
-  pub round-short : count ≤ 2 * n
-  unfolding r w
-  round-short = let a = count-is r n work places count (h .holds) in let b = round-length quad quad-laws (nodes s n) w (read fan) n in omega arith
-
-  -- a round in which no rewrite fired
-  pub not-fired : t ≡ false → Once s n root s (discarded n root)
-  not-fired e = stays-once s n root (not-kept-when quad (nodes s n) (root ∷ []) .1 (inl (sym fired-is ∙ e)))
-
-  module _ {new : ℕ} (en : new ≡ read places root) where
-    place-is : new ≡ placeOf r root
-    unfolding r
-    place-is = en ∙ place-read r n work places count (h .holds) root (ready .inside)
-
-    -- the round's list may be compacted
-    pub markable : Markable work count new mostMarks
+    pub round-short : count ≤ 2 * n
     unfolding r w
-    markable =
-        let a = count-is r n work places count (h .holds) in
-        let b = round-length quad quad-laws (nodes s n) w (read fan) n in
-        let d = round-replayed quad quad-laws (nodes s n) w (read fan) n .inside root (ready .inside) in
-        let e = place-is in
-        let f = ready .few in
-        record { sound = h .holds .sound; inside = omega arith; fits = omega arith }
+    round-short = let a = count-is field r n work places count (h .holds) in let b = round-length (field .elements) (elementLaws field) (nodes s n) w (read fan) n in omega arith
 
-    is-rounded : compacted work count new ≡ rounded quad (nodes s n) (root ∷ [])
-    unfolding compacted rounded r
-    is-rounded =
-        ap₂ (λ q m. compact q (m ∷ [])) (h .holds .list-is) place-is
-        ∙ ap₂ (λ f m. compact (round quad (nodes s n) f m .list) (map (placeOf (round quad (nodes s n) f m)) (root ∷ []))) ef (sym (length-nodes s n))
+    -- a round in which no rewrite fired
+    pub not-fired : t ≡ false → Once field s n root s (discarded n root)
+    not-fired e = stays-once s n root (not-kept-when (field .elements) (nodes s n) (root ∷ []) .1 (inl (sym fired-is ∙ e)))
 
-    module _ {size : ℕ} (es : size ≡ length (compacted work count new .list)) where
-      size-is : size ≡ length (rounded quad (nodes s n) (root ∷ []) .list)
-      size-is = es ∙ ap (λ c. length (c .list)) is-rounded
+    module _ {new : ℕ} (en : new ≡ read places root) where
+      place-is : new ≡ placeOf r root
+      unfolding r
+      place-is = en ∙ place-read field r n work places count (h .holds) root (ready .inside)
 
-      -- a round whose list is no shorter
-      pub no-shorter : n ≤ size → Once s n root s (discarded n root)
-      no-shorter less =
-          let a = size-is in
-          let b = length-nodes s n in
-          stays-once s n root (not-kept-when quad (nodes s n) (root ∷ []) .1 (inr (omega arith)))
+      -- the round's list may be compacted
+      pub markable : Markable work count new mostMarks
+      unfolding r w
+      markable =
+          let a = count-is field r n work places count (h .holds) in
+          let b = round-length (field .elements) (elementLaws field) (nodes s n) w (read fan) n in
+          let d = round-replayed (field .elements) (elementLaws field) (nodes s n) w (read fan) n .inside root (ready .inside) in
+          let e = place-is in
+          let f = ready .few in
+          record { sound = (field .bounds, h .holds .sound); inside = omega arith; fits = omega arith }
 
-      -- a round that is kept: its compacted list is written
-      module _ (et : t ≡ true) (less : size < n) where
-        pub write-fits : 3 * length (compacted work count new .list) ≤ length s
-        write-fits = let room = ready .sound .room in omega arith
+      is-rounded : compacted work count new ≡ rounded (field .elements) (nodes s n) (root ∷ [])
+      unfolding compacted rounded r
+      is-rounded =
+          ap₂ (λ q m. compact q (m ∷ [])) (h .holds .list-is) place-is
+          ∙ ap₂ (λ f m. compact (round (field .elements) (nodes s n) f m .list) (map (placeOf (round (field .elements) (nodes s n) f m)) (root ∷ []))) ef (sym (length-nodes s n))
 
-        pub kept-once : {after : List ℕ} {place : ℕ} → place ≡ keptOf (compacted work count new) .root → after ≡ written s (compacted work count new .list)
-            → Once s n root after (keeping size place)
-        unfolding isKept keptOf rounded compact w
-        kept-once {after} er ea =
+      module _ {size : ℕ} (es : size ≡ length (compacted work count new .list)) where
+        size-is : size ≡ length (rounded (field .elements) (nodes s n) (root ∷ []) .list)
+        size-is = es ∙ ap (λ c. length (c .list)) is-rounded
+
+        -- a round whose list is no shorter
+        pub no-shorter : n ≤ size → Once field s n root s (discarded n root)
+        no-shorter less =
+            let a = size-is in
             let b = length-nodes s n in
-            let i = ready .inside in
-            let lst = rounded quad (nodes s n) (root ∷ []) .list in
-            let fine = rounded-well-formed quad quad-laws (nodes s n) w (root ∷ []) (one-below (length (nodes s n)) root (omega arith)) in
-            let wr : after ≡ written s lst = ea ∙ ap (λ c. written s (c .list)) is-rounded in
-            record {
-              kept-is = rw (← fired-is, et) (sym (lt-ltb (length lst) (length (nodes s n)) (let a = size-is in omega arith)));
-              stays = λ z. absurd (true≢false z);
-              sound = λ _. rw (size-is, wr) (sound-written p s lst fine);
-              list-is = λ _. rw (size-is, wr) (nodes-written s lst);
-              roots-are = λ _. ap (λ x. x ∷ []) (er ∙ ap (λ c. getD (c .roots) 0 0) is-rounded);
-            }
+            stays-once s n root (not-kept-when (field .elements) (nodes s n) (root ∷ []) .1 (inr (omega arith)))
+
+        -- a round that is kept: its compacted list is written
+        module _ (et : t ≡ true) (less : size < n) where
+          pub write-fits : 3 * length (compacted work count new .list) ≤ length s
+          write-fits = let room = ready .sound .room in omega arith
+
+          pub kept-once : {after : List ℕ} {place : ℕ} → place ≡ keptOf (compacted work count new) .root → after ≡ written s (compacted work count new .list)
+              → Once field s n root after (keeping size place)
+          unfolding isKept keptOf rounded compact w
+          kept-once {after} er ea =
+              let b = length-nodes s n in
+              let i = ready .inside in
+              let lst = rounded (field .elements) (nodes s n) (root ∷ []) .list in
+              let fine = rounded-well-formed (field .elements) (elementLaws field) (nodes s n) w (root ∷ []) (one-below (length (nodes s n)) root (omega arith)) in
+              let wr : after ≡ written s lst = ea ∙ ap (λ c. written s (c .list)) is-rounded in
+              record {
+                kept-is = rw (← fired-is, et) (sym (lt-ltb (length lst) (length (nodes s n)) (let a = size-is in omega arith)));
+                stays = λ z. absurd (true≢false z);
+                sound = λ _. rw (size-is, wr) (sound-written (field .bounds) s lst fine);
+                list-is = λ _. rw (size-is, wr) (nodes-written s lst);
+                roots-are = λ _. ap (λ x. x ∷ []) (er ∙ ap (λ c. getD (c .roots) 0 0) is-rounded);
+              }

@@ -1,4 +1,5 @@
 -- The rounds, from the first to the one that isn't kept.
+use Rattle.field.specs.Fields.{Low}
 use Prim.Native.Nat.{ℕ, zero, suc, _+_, _<_, _≤_}
 use mathlib.Core.Bool.{Bool, true, false}
 use mathlib.Core.List.{List, map}

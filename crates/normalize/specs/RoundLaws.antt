@@ -1,4 +1,5 @@
 -- A round keeps every record's value, whatever the fanout, and at most doubles the list before it is compacted.
+use Rattle.field.specs.Fields.{Low}
 use Prim.Native.Nat.{ℕ, zero, suc, _+_, _<_, _≤_}
 use mathlib.Core.List.{List, map}
 use mathlib.Core.Path.{_≡_, refl, _∙_, ap, ap₂}

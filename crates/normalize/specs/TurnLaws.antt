@@ -6,8 +6,9 @@ use mathlib.Core.Path.{_≡_, refl, _∙_, ap, ap₂}
 use native.Mathlib.Numerals.{add-one}
 use native.Mathlib.Omega.{arith}
 use lib.ListN.{length, set}
-use Rattle.field.specs.Field.{quad, quad-laws, Below}
+use Rattle.field.specs.Fields.{Field, Low, elementLaws}
 use Rattle.dag.specs.Nodes.{nodes, at, like}
+use Rattle.dag.specs.WellFormedLaws.{fine-any}
 use Rattle.dag.specs.WellFormed.{Fine, WellFormed}
 use Rattle.dag.specs.declared.NodeKind.{NodeKind}
 use Rattle.dag.specs.declared.NodeKind.the-variants.{Mul}
@@ -25,73 +26,74 @@ use Rattle.normalize.specs.Contracts.{Entering, held, Planned, Rounding,
 use Rattle.plan.specs.declared.Plan.{Plan}
 use Rattle.plan.specs.declared.Plan.the-variants.{Factored, Rotated, Plain}
 
--- results that agree before place i give the same list by a plan
-planned-agree : (r q : Replay) (i : ℕ) (x : NodeKind) (plan : Plan) → r .list ≡ q .list → ((j : ℕ) → j < i → placeOf r j ≡ placeOf q j) → Fine Below i x → PlanFine i plan
-    → planned quad r x plan ≡ planned quad q x plan
-unfolding planned
-planned-agree r q i x (Factored f a b) l m h (k, s, t) =
-    let inner = ap₂ (step quad) l (ap₂ (like x) (m a s) (m b t)) in
-    ap₂ (step quad) (ap (λ b. b .list) inner) (ap₂ Mul (m f k) (ap (λ b. b .place) inner))
-planned-agree r q i x (Rotated e y) l m h (s, t) = ap₂ (step quad) l (ap₂ (like x) (m e s) (m y t))
-planned-agree r q i x Plain l m h k = ap₂ (step quad) l (rename-agree Below (placeOf r) (placeOf q) i x h m)
+module _ (field : Field) where
+  -- results that agree before place i give the same list by a plan
+  planned-agree : (r q : Replay) (i : ℕ) (x : NodeKind) (plan : Plan) → r .list ≡ q .list → ((j : ℕ) → j < i → placeOf r j ≡ placeOf q j) → Fine (Low field) i x → PlanFine i plan
+      → planned (field .elements) r x plan ≡ planned (field .elements) q x plan
+  unfolding planned
+  planned-agree r q i x (Factored f a b) l m h (k, s, t) =
+      let inner = ap₂ (step (field .elements)) l (ap₂ (like x) (m a s) (m b t)) in
+      ap₂ (step (field .elements)) (ap (λ b. b .list) inner) (ap₂ Mul (m f k) (ap (λ b. b .place) inner))
+  planned-agree r q i x (Rotated e y) l m h (s, t) = ap₂ (step (field .elements)) l (ap₂ (like x) (m e s) (m y t))
+  planned-agree r q i x Plain l m h k = ap₂ (step (field .elements)) l (rename-agree (Low field) (placeOf r) (placeOf q) i x h m)
 
-pub round-begins : (s : List ℕ) (n : ℕ) (fan work map : List ℕ) → RoundHeld s n fan 0 work map 0 (mathlib.Core.Bool.false)
-unfolding round fired
-round-begins s n fan work map = record { holds = holds-nothing work map; fired-is = refl }
+  pub round-begins : (s : List ℕ) (n : ℕ) (fan work map : List ℕ) → RoundHeld field s n fan 0 work map 0 (mathlib.Core.Bool.false)
+  unfolding round fired
+  round-begins s n fan work map = record { holds = holds-nothing field work map; fired-is = refl }
 
-module _ (s : List ℕ) (n : ℕ) (fan work₀ map₀ : List ℕ) (g : Rounding s n fan work₀ map₀) (i : ℕ) (work map : List ℕ) (count : ℕ) (t : Bool)
-    (ew : length work ≡ length work₀) (em : length map ≡ length map₀) (h : RoundHeld s n fan i work map count t) where
-  r : Replay
-  r = round quad (nodes s n) (read fan) i
+  module _ (s : List ℕ) (n : ℕ) (fan work₀ map₀ : List ℕ) (g : Rounding field s n fan work₀ map₀) (i : ℕ) (work map : List ℕ) (count : ℕ) (t : Bool)
+      (ew : length work ≡ length work₀) (em : length map ≡ length map₀) (h : RoundHeld field s n fan i work map count t) where
+    r : Replay
+    r = round (field .elements) (nodes s n) (read fan) i
 
-  w : WellFormed Below (nodes s n)
-  w = list-fine s n (g .sound)
+    w : WellFormed (Low field) (nodes s n)
+    w = list-fine field s n (g .sound)
 
-  pub round-count : count ≤ i + i
-  unfolding r w
-  round-count = let a = count-is r i work map count (h .holds) in let b = round-length quad quad-laws (nodes s n) w (read fan) i in omega arith
+    pub round-count : count ≤ i + i
+    unfolding r w
+    round-count = let a = count-is field r i work map count (h .holds) in let b = round-length (field .elements) (elementLaws field) (nodes s n) w (read fan) i in omega arith
 
-  module _ (k : i < n) (x : NodeKind) (ex : x ≡ at (nodes s n) i) where
-    fine-here : Fine Below i x
-    unfolding WellFormed w
-    fine-here = rw ex (w i)
+    module _ (k : i < n) (x : NodeKind) (ex : x ≡ at (nodes s n) i) where
+      fine-here : Fine (Low field) i x
+      unfolding WellFormed w
+      fine-here = rw ex (w i)
 
-    pub turn-planning : Planning s n fan i x
-    turn-planning = record { sound = g .sound; fits = g .fan-fits; inside = omega arith; fine = fine-here }
+      pub turn-planning : Planning s n fan i x
+      turn-planning = record { sound = (field .bounds, g .sound); fits = g .fan-fits; inside = omega arith; fine = fine-any (Low field) i x fine-here }
 
-    module _ (plan : Plan) (ep : plan ≡ planOf (nodes s n) (read fan) i x) where
-      plan-here : PlanFine i plan
-      unfolding w
-      plan-here = rw ep (plan-fine Below (nodes s n) w (read fan) i x fine-here)
+      module _ (plan : Plan) (ep : plan ≡ planOf (nodes s n) (read fan) i x) where
+        plan-here : PlanFine i plan
+        unfolding w
+        plan-here = rw ep (plan-fine (Low field) (nodes s n) w (read fan) i x fine-here)
 
-      pub turn-entering : Entering work count map i x plan
-      unfolding r w
-      turn-entering =
-          let f = g .map-fits in
-          let b = g .work-fits in
-          let c = round-count in
-          record {
-            sound = h .holds .sound;
-            places = λ j m.
-                let a = place-read r i work map count (h .holds) j m in
-                let d = round-replayed quad quad-laws (nodes s n) w (read fan) i .inside j m in
-                let e = count-is r i work map count (h .holds) in
-                omega arith;
-            fits = omega arith;
-            fine = fine-here;
-            plan-fine = plan-here;
-            room = omega arith;
-          }
+        pub turn-entering : Entering field work count map i x plan
+        unfolding r w
+        turn-entering =
+            let f = g .map-fits in
+            let b = g .work-fits in
+            let c = round-count in
+            record {
+              sound = h .holds .sound;
+              places = λ j m.
+                  let a = place-read field r i work map count (h .holds) j m in
+                  let d = round-replayed (field .elements) (elementLaws field) (nodes s n) w (read fan) i .inside j m in
+                  let e = count-is field r i work map count (h .holds) in
+                  omega arith;
+              fits = omega arith;
+              fine = fine-here;
+              plan-fine = plan-here;
+              room = omega arith;
+            }
 
-      pub turn-held : (after : List ℕ) (e : Entered) (u : Bool) → Planned work count (planned quad (held work count map) x plan) after e → u ≡ cond t true (fires plan)
-          → RoundHeld s n fan (i + 1) after (set map i (e .place)) (e .count) u
-      unfolding round fired placeOf r
-      turn-held after e u q eu =
-          let same = planned-agree (held work count map) r i x plan (h .holds .list-is) (place-read r i work map count (h .holds)) fine-here plan-here in
-          let here = ap₂ (planned quad r) ex (ep ∙ ap (planOf (nodes s n) (read fan) i) ex) in
-          rw (add-one i)
-          (record {
-            holds = holds-more r i work map count (h .holds) (planned quad r (at (nodes s n) i) (planOf (nodes s n) (read fan) i (at (nodes s n) i))) after (e .place) (e .count)
-                (q .sound) (q .list-is ∙ ap (λ b. b .list) (same ∙ here)) (q .place-is ∙ ap (λ b. b .place) (same ∙ here)) (let f = g .map-fits in omega arith);
-            fired-is = eu ∙ ap₂ (λ a b. cond a true (fires b)) (h .fired-is) (ep ∙ ap (planOf (nodes s n) (read fan) i) ex);
-          })
+        pub turn-held : (after : List ℕ) (e : Entered) (u : Bool) → Planned field work count (planned (field .elements) (held work count map) x plan) after e → u ≡ cond t true (fires plan)
+            → RoundHeld field s n fan (i + 1) after (set map i (e .place)) (e .count) u
+        unfolding round fired placeOf r
+        turn-held after e u q eu =
+            let same = planned-agree (held work count map) r i x plan (h .holds .list-is) (place-read field r i work map count (h .holds)) fine-here plan-here in
+            let here = ap₂ (planned (field .elements) r) ex (ep ∙ ap (planOf (nodes s n) (read fan) i) ex) in
+            rw (add-one i)
+            (record {
+              holds = holds-more field r i work map count (h .holds) (planned (field .elements) r (at (nodes s n) i) (planOf (nodes s n) (read fan) i (at (nodes s n) i))) after (e .place) (e .count)
+                  (q .sound) (q .list-is ∙ ap (λ b. b .list) (same ∙ here)) (q .place-is ∙ ap (λ b. b .place) (same ∙ here)) (let f = g .map-fits in omega arith);
+              fired-is = eu ∙ ap₂ (λ a b. cond a true (fires b)) (h .fired-is) (ep ∙ ap (planOf (nodes s n) (read fan) i) ex);
+            })

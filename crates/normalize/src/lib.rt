@@ -8,6 +8,7 @@ ghost use mathlib.Core.Path.{_≡_};
 ghost use mathlib.Core.Bool.{cond, true};
 ghost use Prim.Native.Nat.{ℕ, _*_, _≤_};
 ghost use lib.ListN.{length};
+ghost use Rattle.field.specs.Fields.{goldilocks};
 ghost use Rattle.field.specs.Field.{quad};
 ghost use Rattle.dag.specs.Nodes as Nodes;
 ghost use Rattle.index.specs.Index.{half, Usable, NodeIndex};
@@ -40,8 +41,8 @@ fn enter_factored(
     a: usize,
     b: usize,
 ) -> Entered
-    requires { ⌜ ((i : ℕ) × Contracts.Entering (now work) count (now map) i x (Plan.Factored factor a b)) × Contracts.Linked (now work) count (now links) ⌝ }
-    ensures { λ r. ⌜ Contracts.Planned (now (work .entry)) count (Rounds.planned quad (Contracts.held (now (work .entry)) count (now (map .entry))) x (Plan.Factored factor a b)) (now (work .exit)) r × NodeIndex (Nodes.nodes (now (work .exit)) (r .count)) (now (links .exit)) ⌝ }
+    requires { ⌜ ((i : ℕ) × Contracts.Entering goldilocks (now work) count (now map) i x (Plan.Factored factor a b)) × Contracts.Linked (now work) count (now links) ⌝ }
+    ensures { λ r. ⌜ Contracts.Planned goldilocks (now (work .entry)) count (Rounds.planned quad (Contracts.held (now (work .entry)) count (now (map .entry))) x (Plan.Factored factor a b)) (now (work .exit)) r × NodeIndex (Nodes.nodes (now (work .exit)) (r .count)) (now (links .exit)) ⌝ }
 {
     let inner = builder::push(
         work,
@@ -66,8 +67,8 @@ fn enter_planned(
     x: NodeKind,
     plan: Plan,
 ) -> Entered
-    requires { ⌜ ((i : ℕ) × Contracts.Entering (now work) count (now map) i x plan) × Contracts.Linked (now work) count (now links) ⌝ }
-    ensures { λ r. ⌜ Contracts.Planned (now (work .entry)) count (Rounds.planned quad (Contracts.held (now (work .entry)) count (now (map .entry))) x plan) (now (work .exit)) r × NodeIndex (Nodes.nodes (now (work .exit)) (r .count)) (now (links .exit)) ⌝ }
+    requires { ⌜ ((i : ℕ) × Contracts.Entering goldilocks (now work) count (now map) i x plan) × Contracts.Linked (now work) count (now links) ⌝ }
+    ensures { λ r. ⌜ Contracts.Planned goldilocks (now (work .entry)) count (Rounds.planned quad (Contracts.held (now (work .entry)) count (now (map .entry))) x plan) (now (work .exit)) r × NodeIndex (Nodes.nodes (now (work .exit)) (r .count)) (now (links .exit)) ⌝ }
 {
     match plan {
         Plan::Factored {
@@ -111,8 +112,8 @@ fn round(
     links: &mut [u64],
     map: &mut [u64],
 ) -> RoundEnd
-    requires { ⌜ Contracts.Rounding (now list) n (now fan) (now work) (now map) × NodeIndex (Nodes.nodes (now list) n) (now own) × Usable (now links) × (2 * n ≤ half (now links)) ⌝ }
-    ensures { λ r. ⌜ Contracts.RoundHeld (now (list .entry)) n (now (fan .entry)) n (now (work .exit)) (now (map .exit)) (r .count) (r .fired) ⌝ }
+    requires { ⌜ Contracts.Rounding goldilocks (now list) n (now fan) (now work) (now map) × NodeIndex (Nodes.nodes (now list) n) (now own) × Usable (now links) × (2 * n ≤ half (now links)) ⌝ }
+    ensures { λ r. ⌜ Contracts.RoundHeld goldilocks (now (list .entry)) n (now (fan .entry)) n (now (work .exit)) (now (map .exit)) (r .count) (r .fired) ⌝ }
 {
     index::clear(links);
     let mut count = 0;
@@ -148,8 +149,8 @@ fn normalize_once(
     own: &mut [u64],
     links: &mut [u64],
 ) -> RoundKept
-    requires { ⌜ Contracts.Ready (now result) n root (length (now work)) × Contracts.Scratch n (now fan) (now map) (now own) (now links) ⌝ }
-    ensures { λ r. ⌜ Contracts.Once (now (result .entry)) n root (now (result .exit)) r ⌝ }
+    requires { ⌜ Contracts.Ready goldilocks (now result) n root (length (now work)) × Contracts.Scratch n (now fan) (now map) (now own) (now links) ⌝ }
+    ensures { λ r. ⌜ Contracts.Once goldilocks (now (result .entry)) n root (now (result .exit)) r ⌝ }
 {
     dag::fill(fan, 0, 0);
     plan::fanout(result, n, root, fan);
@@ -204,8 +205,8 @@ fn normalize_rounds(
     own: &mut [u64],
     links: &mut [u64],
 ) -> NormalEnd
-    requires { ⌜ Contracts.Ready (now result) n root (length (now work)) × Contracts.Scratch n (now fan) (now map) (now own) (now links) ⌝ }
-    ensures { λ r. ⌜ Contracts.Ended (now (result .entry)) n root (now (result .exit)) r ⌝ }
+    requires { ⌜ Contracts.Ready goldilocks (now result) n root (length (now work)) × Contracts.Scratch n (now fan) (now map) (now own) (now links) ⌝ }
+    ensures { λ r. ⌜ Contracts.Ended goldilocks (now (result .entry)) n root (now (result .exit)) r ⌝ }
 {
     let mut count = n;
     let mut place = root;
@@ -236,8 +237,8 @@ fn normalize_rounds(
 
 // The rounds, with scratch stores for the list's length.
 fn normalize_sized(n: usize, root: usize, result: &mut [u64], work: &mut [u64]) -> NormalEnd
-    requires { ⌜ Contracts.Ready (now result) n root (length (now work)) ⌝ }
-    ensures { λ r. ⌜ Contracts.Ended (now (result .entry)) n root (now (result .exit)) r ⌝ }
+    requires { ⌜ Contracts.Ready goldilocks (now result) n root (length (now work)) ⌝ }
+    ensures { λ r. ⌜ Contracts.Ended goldilocks (now (result .entry)) n root (now (result .exit)) r ⌝ }
 {
     if n <= dag::FEW_RECORDS {
         let mut fan = [0u64; dag::FEW_RECORDS];
@@ -279,7 +280,7 @@ fn normalize_check(
     result_words: usize,
     work_words: usize,
 ) -> Checked
-    ensures { λ r. ⌜ r ≡ Calls.normalizeCheck (now (list .entry)) n root «result_words» «work_words» ⌝ }
+    ensures { λ r. ⌜ r ≡ Calls.normalizeCheck goldilocks (now (list .entry)) n root «result_words» «work_words» ⌝ }
 {
     let checked = dag::list_check(list, n, root);
     if dag::is_refused(checked) {
@@ -302,8 +303,8 @@ fn normalize_ready(
     result: &mut [u64],
     work: &mut [u64],
 ) -> NormalizeAnswer
-    requires { ⌜ Contracts.Passed (now list) n root (length (now result)) (length (now work)) ⌝ }
-    ensures { λ r. ⌜ Contracts.Finished (now (list .entry)) n root (now (result .entry)) (now (work .entry)) r (now (result .exit)) (now (work .exit)) ⌝ }
+    requires { ⌜ Contracts.Passed goldilocks (now list) n root (length (now result)) (length (now work)) ⌝ }
+    ensures { λ r. ⌜ Contracts.Finished goldilocks (now (list .entry)) n root (now (result .entry)) (now (work .entry)) r (now (result .exit)) (now (work .exit)) ⌝ }
 {
     dag::copy_words(list, 3 * n, result);
     let end = normalize_sized(n, root, result, work);
@@ -324,9 +325,9 @@ pub fn normalize(
     result: &mut [u64],
     work: &mut [u64],
 ) -> NormalizeAnswer
-    ensures answer { λ r. ⌜ r ≡ Calls.normalizeAnswer (now (list .entry)) n root (length (now (result .entry))) (length (now (work .entry))) ⌝ }
-    ensures result { λ _. ⌜ now (result .exit) ≡ Calls.normalizeResult (now (list .entry)) n root (now (result .entry)) (length (now (work .entry))) ⌝ }
-    ensures work { λ _. ⌜ now (work .exit) ≡ Calls.normalizeWork (now (list .entry)) n root (length (now (result .entry))) (now (work .entry)) ⌝ }
+    ensures answer { λ r. ⌜ r ≡ Calls.normalizeAnswer goldilocks (now (list .entry)) n root (length (now (result .entry))) (length (now (work .entry))) ⌝ }
+    ensures result { λ _. ⌜ now (result .exit) ≡ Calls.normalizeResult goldilocks (now (list .entry)) n root (now (result .entry)) (length (now (work .entry))) ⌝ }
+    ensures work { λ _. ⌜ now (work .exit) ≡ Calls.normalizeWork goldilocks (now (list .entry)) n root (length (now (result .entry))) (now (work .entry)) ⌝ }
 {
     let checked = normalize_check(list, n, root, result.len(), work.len());
     match checked {

@@ -3,7 +3,7 @@ use Prim.Native.Nat.{ℕ, _+_, _*_, _<_, _≤_}
 use mathlib.Core.List.{List, [], _++_}
 use mathlib.Core.Path.{_≡_}
 use lib.ListN.{getD, length, take, drop}
-use Rattle.field.specs.Field.{p}
+use Rattle.field.specs.Fields.{Field, modulus}
 use Rattle.dag.specs.Nodes.{mostRecords, nodes}
 use Rattle.dag.specs.Store.{Sound, put}
 use Rattle.dag.specs.declared.NodeKind.{NodeKind}
@@ -24,18 +24,19 @@ links s = drop (3 * mostRecords) s
 unfoldable pub noted : List ℕ → ℕ → NodeKind → List ℕ
 noted s n y = take (3 * mostRecords) s ++ Index.noted (links s) n (Index.nodeBucket (Index.half (links s)) y)
 
--- a store of n records holds the list l
-pub record Holds (s : List ℕ) (n : ℕ) (l : List NodeKind) : Type 0 where
-  pub sound : n ≤ mostRecords → Sound p s n
-  pub list-is : n ≤ mostRecords → nodes s n ≡ l
-  pub indexed : n ≤ mostRecords → Index.NodeIndex (nodes s n) (links s)
-  pub too-long : mostRecords < n → mostRecords < length l
+module _ (field : Field) where
+  -- a store of n records holds the list l
+  pub record Holds (s : List ℕ) (n : ℕ) (l : List NodeKind) : Type 0 where
+    pub sound : n ≤ mostRecords → Sound (field .bounds) s n
+    pub list-is : n ≤ mostRecords → nodes s n ≡ l
+    pub indexed : n ≤ mostRecords → Index.NodeIndex (nodes s n) (links s)
+    pub too-long : mostRecords < n → mostRecords < length l
 
--- a store to build in
-pub record Ready (s : List ℕ) (n : ℕ) : Type 0 where
-  pub long : length s ≡ storeWords
-  pub sound : n ≤ mostRecords → Sound p s n
-  pub indexed : n ≤ mostRecords → Index.NodeIndex (nodes s n) (links s)
+  -- a store to build in
+  pub record Ready (s : List ℕ) (n : ℕ) : Type 0 where
+    pub long : length s ≡ storeWords
+    pub sound : n ≤ mostRecords → Sound (field .bounds) s n
+    pub indexed : n ≤ mostRecords → Index.NodeIndex (nodes s n) (links s)
 
 -- place a is one of n records
 abbrev pub Inside : ℕ → ℕ → Type 0
@@ -45,22 +46,23 @@ Inside n a = n ≤ mostRecords → a < n
 pub record AllInside (n : ℕ) (ps : List ℕ) : Type 0 where
   pub at : (i : ℕ) → i < length ps → Inside n (getD ps i 0)
 
--- the computation m was run on a store of n records: k are there after it, and Is holds of its answer
-pub record Ran {A : Type 0} (s : List ℕ) (n : ℕ) (m : Builder A) (after : List ℕ) (k : ℕ) (Is : A → Type 0) : Type 0 where
-  pub kept : length after ≡ length s
-  pub longer : n ≤ k
-  pub gives : (l : List NodeKind) → Holds s n l → Holds after k (m .run l .list)
-  pub answers : (l : List NodeKind) → Holds s n l → k ≤ mostRecords → Is (m .run l .answer)
+module _ (field : Field) where
+  -- the computation m was run on a store of n records: k are there after it, and Is holds of its answer
+  pub record Ran {A : Type 0} (s : List ℕ) (n : ℕ) (m : Builder A) (after : List ℕ) (k : ℕ) (Is : A → Type 0) : Type 0 where
+    pub kept : length after ≡ length s
+    pub longer : n ≤ k
+    pub gives : (l : List NodeKind) → Holds field s n l → Holds field after k (m .run l .list)
+    pub answers : (l : List NodeKind) → Holds field s n l → k ≤ mostRecords → Is (m .run l .answer)
 
--- the same, answering a place
-pub record Entering (s : List ℕ) (n : ℕ) (m : Builder ℕ) (after : List ℕ) (r : Entered) : Type 0 where
-  pub ran : Ran s n m after (r .count) (λ a. r .place ≡ a)
-  pub inside : Inside (r .count) (r .place)
+  -- the same, answering a place
+  pub record Entering (s : List ℕ) (n : ℕ) (m : Builder ℕ) (after : List ℕ) (r : Entered) : Type 0 where
+    pub ran : Ran s n m after (r .count) (λ a. r .place ≡ a)
+    pub inside : Inside (r .count) (r .place)
 
--- the same, answering c places that a store of places begins with
-pub record Listing (s : List ℕ) (n : ℕ) (m : Builder (List ℕ)) (after : List ℕ) (k : ℕ) (places : List ℕ) (c : ℕ) : Type 0 where
-  pub ran : Ran s n m after k (λ ps. take c places ≡ ps)
-  pub inside : AllInside k (take c places)
+  -- the same, answering c places that a store of places begins with
+  pub record Listing (s : List ℕ) (n : ℕ) (m : Builder (List ℕ)) (after : List ℕ) (k : ℕ) (places : List ℕ) (c : ℕ) : Type 0 where
+    pub ran : Ran s n m after k (λ ps. take c places ≡ ps)
+    pub inside : AllInside k (take c places)
 
 -- the record y was appended and noted, where the list was not full
 pub record Appended (s : List ℕ) (n : ℕ) (y : NodeKind) (after : List ℕ) (r : Entered) : Type 0 where
@@ -68,16 +70,17 @@ pub record Appended (s : List ℕ) (n : ℕ) (y : NodeKind) (after : List ℕ) (
   pub written : n < mostRecords → (after ≡ noted (put s n y) n y) × (r .place ≡ n)
   pub full : mostRecords ≤ n → after ≡ s
 
--- the twiddles of a sparse term
-pub record Row (row : List ℕ) (log : ℕ) : Type 0 where
-  pub few : log ≤ 7
-  pub low : (i : ℕ) → i < log → getD row i 0 < p
+module _ (field : Field) where
+  -- the twiddles of a sparse term
+  pub record Row (row : List ℕ) (log : ℕ) : Type 0 where
+    pub few : log ≤ 7
+    pub low : (i : ℕ) → i < log → getD row i 0 < modulus field
 
--- the twiddles and scaled values of t sparse terms
-pub record Rows (rows : List (List ℕ)) (log : ℕ) (values : List ℕ) (t : ℕ) : Type 0 where
-  pub few : t ≤ 11
-  pub low : (k : ℕ) → k < t → Row (getD rows k []) log
-  pub scaled : (k : ℕ) → k < t → getD values k 0 < p
+  -- the twiddles and scaled values of t sparse terms
+  pub record Rows (rows : List (List ℕ)) (log : ℕ) (values : List ℕ) (t : ℕ) : Type 0 where
+    pub few : t ≤ 11
+    pub low : (k : ℕ) → k < t → Row (getD rows k []) log
+    pub scaled : (k : ℕ) → k < t → getD values k 0 < modulus field
 
 -- a column that a sparse form can hold
 pub record Few (c : List ℕ) : Type 0 where

@@ -1,5 +1,5 @@
--- `build_periodic_nodes` of periodic.rs (document 01, 'Columns'), without its caches: an equal request is answered by the same place. F is the field
--- of the list; o, gen, half and m are the ring of the entries, its generators, one half in it, and the modulus.
+-- `build_periodic_nodes` of periodic.rs (document 01, 'Columns'), without its caches: an equal request is answered by the same place. F is the
+-- ring of the list's elements.
 use Prim.Native.Nat.{ℕ, zero, suc, _+_, _*_, _-_}
 use mathlib.Core.Bool.{Bool, true, false, cond, not, _&&_, _||_}
 use mathlib.Core.List.{List, [], _∷_, _++_}
@@ -7,6 +7,7 @@ use lib.Dec.{eqb}
 use lib.ListN.{getD, length}
 use Rattle.ring.specs.Ring.{Ops}
 use Rattle.ring.specs.Residue as Residue
+use Rattle.field.specs.Fields.{Field, modulus}
 use Rattle.field.specs.declared.QuadFelt.{QuadFelt}
 use Rattle.dag.specs.Keys.{ZK}
 use Rattle.columns.specs.Columns.{logLength, logWithin, support, values, offset, column, form}
@@ -84,123 +85,123 @@ module _ (F : Ops QuadFelt) where
     first ← sparseTerm zpow (twiddle 0) n (value 0)
     turns (sumTurn zpow twiddle n value) t first
 
-  module _ (m : ℕ) (o : Ops ℕ) (gen : ℕ → ℕ) (half : ℕ) (c : List ℕ) where
-    -- the column's point is ZK squared k times
-    unfoldable pub sparseValue : ℕ → Builder ℕ
-    sparseValue k = do
-      z ← zPower k
-      zpow ← powers z (logLength c)
-      sparseSum zpow (λ i. twiddle o gen half c (getD (support c) i 0)) (logLength c) (λ i. scaledValue o gen half c (getD (support c) i 0)) (length (support c))
+module _ (field : Field) (c : List ℕ) where
+  -- the column's point is ZK squared k times
+  unfoldable pub sparseValue : ℕ → Builder ℕ
+  sparseValue k = do
+    z ← zPower (field .elements) k
+    zpow ← powers (field .elements) z (logLength c)
+    sparseSum (field .elements) zpow (λ i. twiddle field c (getD (support c) i 0)) (logLength c) (λ i. scaledValue field c (getD (support c) i 0)) (length (support c))
 
-    unfoldable pub denseValue : ℕ → Builder ℕ
-    denseValue k = do
-      z ← zPower k
-      coeffs ← constants (dense o gen half c) (length c)
-      hornerEval z coeffs (length c)
+  unfoldable pub denseValue : ℕ → Builder ℕ
+  denseValue k = do
+    z ← zPower (field .elements) k
+    coeffs ← constants (field .elements) (dense field c) (length c)
+    hornerEval (field .elements) z coeffs (length c)
 
-    -- point − w^k
-    unfoldable pub factor : ℕ → ℕ → Builder ℕ
-    factor point k = do
-      root ← constant F (root o gen half c k)
-      sub F point root
+  -- point − w^k
+  unfoldable pub factor : ℕ → ℕ → Builder ℕ
+  factor point k = do
+    root ← constant (field .elements) (root field c k)
+    sub (field .elements) point root
 
-    -- for each row k
-    unfoldable pub factors : ℕ → Builder (List ℕ)
-    factors point = turns (λ k fs. also fs (factor point k)) (length c) []
+  -- for each row k
+  unfoldable pub factors : ℕ → Builder (List ℕ)
+  factors point = turns (λ k fs. also fs (factor point k)) (length c) []
 
-    -- element j of the basis, from the products before and behind it
-    unfoldable pub element : List ℕ → List ℕ → ℕ → Builder ℕ
-    element prefix suffix j = do
-      product ← mul F (getD prefix j 0) (getD suffix (length c - 1 - j) 0)
-      root ← constant F (root o gen half c j)
-      mul F root product
+  -- element j of the basis, from the products before and behind it
+  unfoldable pub element : List ℕ → List ℕ → ℕ → Builder ℕ
+  element prefix suffix j = do
+    product ← mul (field .elements) (getD prefix j 0) (getD suffix (length c - 1 - j) 0)
+    root ← constant (field .elements) (root field c j)
+    mul (field .elements) root product
 
-    -- the sum of the elements whose entry is v: row j, with the sum before it
-    unfoldable pub classTurn : List ℕ → List ℕ → ℕ → ℕ → ℕ → Builder ℕ
-    classTurn prefix suffix v j acc =
-        cond (eqb (getD c j 0) v) (do
-          element ← element prefix suffix j
-          add F acc element) (done acc)
+  -- the sum of the elements whose entry is v: row j, with the sum before it
+  unfoldable pub classTurn : List ℕ → List ℕ → ℕ → ℕ → ℕ → Builder ℕ
+  classTurn prefix suffix v j acc =
+      cond (eqb (getD c j 0) v) (do
+        element ← element prefix suffix j
+        add (field .elements) acc element) (done acc)
 
-    unfoldable pub classSum : List ℕ → List ℕ → ℕ → Builder ℕ
-    classSum prefix suffix v = do
-      start ← constant F 0
-      turns (λ j acc. classTurn prefix suffix v j acc) (length c) start
+  unfoldable pub classSum : List ℕ → List ℕ → ℕ → Builder ℕ
+  classSum prefix suffix v = do
+    start ← constant (field .elements) 0
+    turns (λ j acc. classTurn prefix suffix v j acc) (length c) start
 
-    -- the coefficient of the class of value v
-    unfoldable pub coefficient : ℕ → ℕ
-    coefficient v = Residue.sub m v (offset m c)
+  -- the coefficient of the class of value v
+  unfoldable pub coefficient : ℕ → ℕ
+  coefficient v = Residue.sub (modulus field) v (offset (modulus field) c)
 
-    -- the offset is no class; a class is added, or subtracted where its coefficient is −1
-    unfoldable pub isAdded : ℕ → Bool
-    isAdded v = not (eqb v (offset m c)) && not (eqb (coefficient v) (m - 1))
+  -- the offset is no class; a class is added, or subtracted where its coefficient is −1
+  unfoldable pub isAdded : ℕ → Bool
+  isAdded v = not (eqb v (offset (modulus field) c)) && not (eqb (coefficient v) (modulus field - 1))
 
-    unfoldable pub isSubtracted : ℕ → Bool
-    isSubtracted v = not (eqb v (offset m c)) && eqb (coefficient v) (m - 1)
+  unfoldable pub isSubtracted : ℕ → Bool
+  isSubtracted v = not (eqb v (offset (modulus field) c)) && eqb (coefficient v) (modulus field - 1)
 
-    unfoldable pub addClass : List ℕ → List ℕ → ℕ → ℕ → Builder ℕ
-    addClass prefix suffix v sum = do
-      class ← classSum prefix suffix v
-      scale ← constant F (coefficient v)
-      term ← mul F scale class
-      add F sum term
+  unfoldable pub addClass : List ℕ → List ℕ → ℕ → ℕ → Builder ℕ
+  addClass prefix suffix v sum = do
+    class ← classSum prefix suffix v
+    scale ← constant (field .elements) (coefficient v)
+    term ← mul (field .elements) scale class
+    add (field .elements) sum term
 
-    unfoldable pub subClass : List ℕ → List ℕ → ℕ → ℕ → Builder ℕ
-    subClass prefix suffix v sum = do
-      class ← classSum prefix suffix v
-      sub F sum class
+  unfoldable pub subClass : List ℕ → List ℕ → ℕ → ℕ → Builder ℕ
+  subClass prefix suffix v sum = do
+    class ← classSum prefix suffix v
+    sub (field .elements) sum class
 
-    -- the class of value v, where it is one of those
-    unfoldable pub addTurn : List ℕ → List ℕ → ℕ → ℕ → Builder ℕ
-    addTurn prefix suffix v sum = cond (isAdded v) (addClass prefix suffix v sum) (done sum)
+  -- the class of value v, where it is one of those
+  unfoldable pub addTurn : List ℕ → List ℕ → ℕ → ℕ → Builder ℕ
+  addTurn prefix suffix v sum = cond (isAdded v) (addClass prefix suffix v sum) (done sum)
 
-    unfoldable pub subTurn : List ℕ → List ℕ → ℕ → ℕ → Builder ℕ
-    subTurn prefix suffix v sum = cond (isSubtracted v) (subClass prefix suffix v sum) (done sum)
+  unfoldable pub subTurn : List ℕ → List ℕ → ℕ → ℕ → Builder ℕ
+  subTurn prefix suffix v sum = cond (isSubtracted v) (subClass prefix suffix v sum) (done sum)
 
-    -- all classes in order of first index: those that are added, then those that are subtracted
-    unfoldable pub addClasses : List ℕ → List ℕ → ℕ → Builder ℕ
-    addClasses prefix suffix = turns (λ k sum. addTurn prefix suffix (getD (values c) k 0) sum) (length (values c))
+  -- all classes in order of first index: those that are added, then those that are subtracted
+  unfoldable pub addClasses : List ℕ → List ℕ → ℕ → Builder ℕ
+  addClasses prefix suffix = turns (λ k sum. addTurn prefix suffix (getD (values c) k 0) sum) (length (values c))
 
-    unfoldable pub subClasses : List ℕ → List ℕ → ℕ → Builder ℕ
-    subClasses prefix suffix = turns (λ k sum. subTurn prefix suffix (getD (values c) k 0) sum) (length (values c))
+  unfoldable pub subClasses : List ℕ → List ℕ → ℕ → Builder ℕ
+  subClasses prefix suffix = turns (λ k sum. subTurn prefix suffix (getD (values c) k 0) sum) (length (values c))
 
-    -- the offset and its classes, over the products before and behind each row
-    unfoldable pub basisSum : List ℕ → List ℕ → Builder ℕ
-    basisSum prefix suffix = do
-      start ← constant F (offset m c)
-      sum ← addClasses prefix suffix start
-      subClasses prefix suffix sum
+  -- the offset and its classes, over the products before and behind each row
+  unfoldable pub basisSum : List ℕ → List ℕ → Builder ℕ
+  basisSum prefix suffix = do
+    start ← constant (field .elements) (offset (modulus field) c)
+    sum ← addClasses prefix suffix start
+    subClasses prefix suffix sum
 
-    -- the products behind each row, and then the sum
-    unfoldable pub basisBack : List ℕ → List ℕ → Builder ℕ
-    basisBack factors prefix = do
-      one ← constant F 1
-      suffix ← chain one (backwards factors) (length c - 1)
-      basisSum prefix suffix
+  -- the products behind each row, and then the sum
+  unfoldable pub basisBack : List ℕ → List ℕ → Builder ℕ
+  basisBack factors prefix = do
+    one ← constant (field .elements) 1
+    suffix ← chain (field .elements) one (backwards factors) (length c - 1)
+    basisSum prefix suffix
 
-    -- the factors and the products before each row
-    unfoldable pub basisFront : ℕ → Builder ℕ
-    basisFront point = do
-      factors ← factors point
-      scale ← constant F (sizeInverse o gen half c)
-      prefix ← chain scale factors (length c - 1)
-      basisBack factors prefix
+  -- the factors and the products before each row
+  unfoldable pub basisFront : ℕ → Builder ℕ
+  basisFront point = do
+    factors ← factors point
+    scale ← constant (field .elements) (sizeInverse field c)
+    prefix ← chain (field .elements) scale factors (length c - 1)
+    basisBack factors prefix
 
-    unfoldable pub basisValue : ℕ → Builder ℕ
-    basisValue k = do
-      z ← zPower k
-      basisFront z
+  unfoldable pub basisValue : ℕ → Builder ℕ
+  basisValue k = do
+    z ← zPower (field .elements) k
+    basisFront z
 
-    unfoldable pub columnValue : Form → ℕ → Builder ℕ
-    columnValue Sparse k = sparseValue k
-    columnValue Dense k = denseValue k
-    columnValue Basis k = basisValue k
+  unfoldable pub columnValue : Form → ℕ → Builder ℕ
+  columnValue Sparse k = sparseValue k
+  columnValue Dense k = denseValue k
+  columnValue Basis k = basisValue k
 
-  module _ (m : ℕ) (o : Ops ℕ) (gen : ℕ → ℕ) (half : ℕ) where
-    -- the node of column j under the shared period 2^S
-    unfoldable pub columnNode : List (List ℕ) → ℕ → ℕ → Builder ℕ
-    columnNode cs S j = columnValue m o gen half (column cs j) (form m cs j) (S - logLength (column cs j))
+module _ (field : Field) where
+  -- the node of column j under the shared period 2^S
+  unfoldable pub columnNode : List (List ℕ) → ℕ → ℕ → Builder ℕ
+  columnNode cs S j = columnValue field (column cs j) (form (modulus field) cs j) (S - logLength (column cs j))
 
-    -- the nodes of all columns
-    unfoldable pub buildPeriodicNodes : List (List ℕ) → ℕ → Builder (List ℕ)
-    buildPeriodicNodes cs S = turns (λ j ps. also ps (columnNode cs S j)) (length cs) []
+  -- the nodes of all columns
+  unfoldable pub buildPeriodicNodes : List (List ℕ) → ℕ → Builder (List ℕ)
+  buildPeriodicNodes cs S = turns (λ j ps. also ps (columnNode cs S j)) (length cs) []

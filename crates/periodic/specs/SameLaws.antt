@@ -4,6 +4,7 @@ use mathlib.Core.List.{List, [], _∷_, _++_}
 use mathlib.Core.Path.{_≡_, refl, sym, _∙_, ap, subst}
 use native.Mathlib.Omega.{arith}
 use lib.ListN.{length, take}
+use Rattle.field.specs.Fields.{Field}
 use Rattle.ring.specs.Ring.{Ops}
 use Rattle.field.specs.declared.QuadFelt.{QuadFelt}
 use Rattle.dag.specs.declared.NodeKind.{NodeKind}
@@ -60,18 +61,19 @@ module _ (F : Ops QuadFelt) where
       (λ k j b. same-bind (sparseTerm F zpow (f (k + 1)) n (v (k + 1))) (sparseTerm F zpow (g (k + 1)) n (w (k + 1))) _ _ (same-term zpow (f (k + 1)) (g (k + 1)) n (v (k + 1)) (w (k + 1)) (h (k + 1) (omega arith)) (e (k + 1) (omega arith)))
       (λ x. same-refl (add F b x))))
 
--- what was run, as another computation that does the same
-pub entering-like : (s : List ℕ) (n : ℕ) (m q : Builder ℕ) (after : List ℕ) (r : Entered) → Same m q → Entering s n m after r → Entering s n q after r
-entering-like s n m q after r h d = record { ran = ran-as s n m after (r .count) (λ a. r .place ≡ a) q (h .runs) (d .ran); inside = d .inside }
+module _ (field : Field) where
+  -- what was run, as another computation that does the same
+  pub entering-like : (s : List ℕ) (n : ℕ) (m q : Builder ℕ) (after : List ℕ) (r : Entered) → Same m q → Entering field s n m after r → Entering field s n q after r
+  entering-like s n m q after r h d = record { ran = ran-as field s n m after (r .count) (λ a. r .place ≡ a) q (h .runs) (d .ran); inside = d .inside }
 
-pub listing-like : (s : List ℕ) (n : ℕ) (m q : Builder (List ℕ)) (after : List ℕ) (k : ℕ) (places : List ℕ) (c e : ℕ) → Same m q → c ≡ e → Listing s n m after k places c → Listing s n q after k places e
-listing-like s n m q after k places c e h i d =
-    subst (λ x. Listing s n q after k places x) i (record { ran = ran-as s n m after k (λ ps. take c places ≡ ps) q (h .runs) (d .ran); inside = d .inside })
+  pub listing-like : (s : List ℕ) (n : ℕ) (m q : Builder (List ℕ)) (after : List ℕ) (k : ℕ) (places : List ℕ) (c e : ℕ) → Same m q → c ≡ e → Listing field s n m after k places c → Listing field s n q after k places e
+  listing-like s n m q after k places c e h i d =
+      subst (λ x. Listing field s n q after k places x) i (record { ran = ran-as field s n m after k (λ ps. take c places ≡ ps) q (h .runs) (d .ran); inside = d .inside })
 
--- places listed, and then a computation on them
-pub then-listed : (s : List ℕ) (n : ℕ) (m : Builder (List ℕ)) (s1 : List ℕ) (k1 : ℕ) (places : List ℕ) (c : ℕ) (f : List ℕ → Builder ℕ) (s2 : List ℕ) (r2 : Entered) → Listing s n m s1 k1 places c → Entering s1 k1 (f (take c places)) s2 r2 → Entering s n (m >>= f) s2 r2
-then-listed s n m s1 k1 places c f s2 r2 d e =
-    record {
-      ran = ran-bind s n m s1 k1 (λ ps. take c places ≡ ps) f s2 (r2 .count) (λ a. r2 .place ≡ a) (d .ran) (e .ran .kept) (e .ran .longer) (λ a q. subst (λ x. Ran s1 k1 (f x) s2 (r2 .count) (λ a. r2 .place ≡ a)) q (e .ran));
-      inside = e .inside;
-    }
+  -- places listed, and then a computation on them
+  pub then-listed : (s : List ℕ) (n : ℕ) (m : Builder (List ℕ)) (s1 : List ℕ) (k1 : ℕ) (places : List ℕ) (c : ℕ) (f : List ℕ → Builder ℕ) (s2 : List ℕ) (r2 : Entered) → Listing field s n m s1 k1 places c → Entering field s1 k1 (f (take c places)) s2 r2 → Entering field s n (m >>= f) s2 r2
+  then-listed s n m s1 k1 places c f s2 r2 d e =
+      record {
+        ran = ran-bind field s n m s1 k1 (λ ps. take c places ≡ ps) f s2 (r2 .count) (λ a. r2 .place ≡ a) (d .ran) (e .ran .kept) (e .ran .longer) (λ a q. subst (λ x. Ran field s1 k1 (f x) s2 (r2 .count) (λ a. r2 .place ≡ a)) q (e .ran));
+        inside = e .inside;
+      }

@@ -4,6 +4,7 @@ use mathlib.Core.List.{List, [], _∷_}
 use mathlib.Core.Path.{_≡_, refl, sym, _∙_, ap, subst}
 use native.Mathlib.Omega.{arith}
 use lib.ListN.{getD, length}
+use Rattle.field.specs.Fields.{Field}
 use Rattle.ring.specs.Ring.{Ops}
 use Rattle.field.specs.declared.QuadFelt.{QuadFelt}
 use Rattle.dag.specs.declared.NodeKind.{NodeKind}
@@ -23,8 +24,9 @@ module _ (F : Ops QuadFelt) (zpow : List ℕ) (twiddle : ℕ → ℕ → ℕ) (n
   sum-some zero e = absurd (e refl)
   sum-some (suc t) e = let q : suc t - 1 ≡ t = omega arith in rw q
 
-pub entering-same : (s : List ℕ) (n : ℕ) (m q : Builder ℕ) (after : List ℕ) (r : Entered) → m ≡ q → Entering s n m after r → Entering s n q after r
-entering-same s n m q after r e d = subst (λ x. Entering s n x after r) e d
+module _ (field : Field) where
+  pub entering-same : (s : List ℕ) (n : ℕ) (m q : Builder ℕ) (after : List ℕ) (r : Entered) → m ≡ q → Entering field s n m after r → Entering field s n q after r
+  entering-same s n m q after r e d = subst (λ x. Entering field s n x after r) e d
 
-pub listing-same : (s : List ℕ) (n : ℕ) (m q : Builder (List ℕ)) (after : List ℕ) (k : ℕ) (places : List ℕ) (c : ℕ) → m ≡ q → Listing s n m after k places c → Listing s n q after k places c
-listing-same s n m q after k places c e d = subst (λ x. Listing s n x after k places c) e d
+  pub listing-same : (s : List ℕ) (n : ℕ) (m q : Builder (List ℕ)) (after : List ℕ) (k : ℕ) (places : List ℕ) (c : ℕ) → m ≡ q → Listing field s n m after k places c → Listing field s n q after k places c
+  listing-same s n m q after k places c e d = subst (λ x. Listing field s n x after k places c) e d

@@ -6,7 +6,8 @@ use native.Mathlib.Omega.{arith}
 use lib.ListN.{getD, length, take, drop, set, length-append, length-drop, length-set, List·getD-append}
 use borrow.Rule.Slice.PartMut.{putMid, post-is}
 use lib.Seq.{getD-take, drop-at, drop-length, drop-set-lt, length-take-le, take-all}
-use Rattle.field.specs.Field.{p}
+use Rattle.dag.specs.Refusals.{firstRefused}
+use Rattle.field.specs.Fields.{Field}
 use Rattle.dag.specs.Check.{recordsCheck, checkAt}
 use Rattle.dag.specs.Nodes.{mostRecords, nodes, recordAt, tag, first, second}
 use Rattle.dag.specs.Store.{Sound, put}
@@ -21,25 +22,26 @@ use Rattle.builder.specs.declared.Outcome.the-variants.{Node}
 use Rattle.builder.specs.declared.Entered.{Entered}
 use Rattle.periodic.specs.Contracts.{storeWords, links, noted}
 
--- stores that begin with the same words hold the same records
-module _ (s u : List ℕ) where
-  abbrev pub Same : ℕ → Type 0
-  Same n = (k : ℕ) → k < 3 * n → getD s k 0 ≡ getD u k 0
+module _ (field : Field) where
+  -- stores that begin with the same words hold the same records
+  module _ (s u : List ℕ) where
+    abbrev pub Same : ℕ → Type 0
+    Same n = (k : ℕ) → k < 3 * n → getD s k 0 ≡ getD u k 0
 
-  pub same-records : (n : ℕ) → Same n → nodes s n ≡ nodes u n
-  unfolding nodes recordAt
-  same-records zero a = refl
-  same-records (suc n) a =
-      rw (same-records n (λ k h. a k (omega arith)), a (3 * n) (omega arith), a (3 * n + 1) (omega arith), a (3 * n + 2) (omega arith))
+    pub same-records : (n : ℕ) → Same n → nodes s n ≡ nodes u n
+    unfolding nodes recordAt
+    same-records zero a = refl
+    same-records (suc n) a =
+        rw (same-records n (λ k h. a k (omega arith)), a (3 * n) (omega arith), a (3 * n + 1) (omega arith), a (3 * n + 2) (omega arith))
 
-  pub same-checks : (n : ℕ) → Same n → recordsCheck p s n ≡ recordsCheck p u n
-  unfolding recordsCheck checkAt
-  same-checks zero a = refl
-  same-checks (suc n) a =
-      rw (same-checks n (λ k h. a k (omega arith)), a (3 * n) (omega arith), a (3 * n + 1) (omega arith), a (3 * n + 2) (omega arith))
+    pub same-checks : (n : ℕ) → Same n → recordsCheck (field .bounds) s n ≡ recordsCheck (field .bounds) u n
+    unfolding checkAt firstRefused
+    same-checks zero a = refl
+    same-checks (suc n) a =
+        rw (same-checks n (λ k h. a k (omega arith)), a (3 * n) (omega arith), a (3 * n + 1) (omega arith), a (3 * n + 2) (omega arith))
 
-  pub same-sound : (n : ℕ) → 3 * n ≤ length u → Same n → Sound p s n → Sound p u n
-  same-sound n room a d = record { room = room; good = sym (same-checks n a) ∙ d .good }
+    pub same-sound : (n : ℕ) → 3 * n ≤ length u → Same n → Sound (field .bounds) s n → Sound (field .bounds) u n
+    same-sound n room a d = record { room = room; good = sym (same-checks n a) ∙ d .good }
 
 -- the index has two words for each record
 pub half-links : (s : List ℕ) → length s ≡ storeWords → Index.half (links s) ≡ mostRecords
@@ -48,25 +50,26 @@ half-links s e = omega (arith, length-drop (3 * mostRecords) s)
 pub usable-links : (s : List ℕ) → length s ≡ storeWords → Index.Usable (links s)
 usable-links s e = record { some = omega (arith, half-links s e); few = omega (arith, half-links s e) }
 
--- a store with place n noted has the same records
-module _ (s : List ℕ) (n : ℕ) (y : NodeKind) (e : length s ≡ storeWords) where
-  front : length (take (3 * mostRecords) s) ≡ 3 * mostRecords
-  front = length-take-le (3 * mostRecords) s (omega arith)
+module _ (field : Field) where
+  -- a store with place n noted has the same records
+  module _ (s : List ℕ) (n : ℕ) (y : NodeKind) (e : length s ≡ storeWords) where
+    front : length (take (3 * mostRecords) s) ≡ 3 * mostRecords
+    front = length-take-le (3 * mostRecords) s (omega arith)
 
-  pub noted-long : length (noted s n y) ≡ length s
-  unfolding noted
-  noted-long =
-      length-append (take (3 * mostRecords) s) (Index.noted (links s) n (Index.nodeBucket (Index.half (links s)) y))
-      ∙ omega (arith, front, length-noted (links s) n (Index.nodeBucket (Index.half (links s)) y), length-drop (3 * mostRecords) s)
+    pub noted-long : length (noted s n y) ≡ length s
+    unfolding noted
+    noted-long =
+        length-append (take (3 * mostRecords) s) (Index.noted (links s) n (Index.nodeBucket (Index.half (links s)) y))
+        ∙ omega (arith, front, length-noted (links s) n (Index.nodeBucket (Index.half (links s)) y), length-drop (3 * mostRecords) s)
 
-  pub noted-same : (m : ℕ) → m ≤ mostRecords → Same s (noted s n y) m
-  unfolding noted
-  noted-same m h k l =
-      sym (List·getD-append (take (3 * mostRecords) s) (Index.noted (links s) n (Index.nodeBucket (Index.half (links s)) y)) 0 k (omega (arith, front)) ∙ getD-take (3 * mostRecords) s k 0 (omega arith))
+    pub noted-same : (m : ℕ) → m ≤ mostRecords → Same field s (noted s n y) m
+    unfolding noted
+    noted-same m h k l =
+        sym (List·getD-append (take (3 * mostRecords) s) (Index.noted (links s) n (Index.nodeBucket (Index.half (links s)) y)) 0 k (omega (arith, front)) ∙ getD-take (3 * mostRecords) s k 0 (omega arith))
 
-  pub noted-links : links (noted s n y) ≡ Index.noted (links s) n (Index.nodeBucket (Index.half (links s)) y)
-  unfolding noted
-  noted-links = drop-at (take (3 * mostRecords) s) (Index.noted (links s) n (Index.nodeBucket (Index.half (links s)) y)) (3 * mostRecords) front
+    pub noted-links : links (noted s n y) ≡ Index.noted (links s) n (Index.nodeBucket (Index.half (links s)) y)
+    unfolding noted
+    noted-links = drop-at (take (3 * mostRecords) s) (Index.noted (links s) n (Index.nodeBucket (Index.half (links s)) y)) (3 * mostRecords) front
 
 -- the index lent, and back again
 pub links-part : (s : List ℕ) → take (length s - 3 * mostRecords) (drop (3 * mostRecords) s) ≡ links s
@@ -94,34 +97,35 @@ pub put-long : (s : List ℕ) (n : ℕ) (y : NodeKind) → length (put s n y) �
 unfolding put
 put-long s n y = simp length-set
 
--- a request whose record was put and noted
-module _ (s : List ℕ) (n : ℕ) (x : NodeKind) (req : Request s n x) (o : Outcome) (y : NodeKind) (eo : o ≡ resolved (nodes s n) n x) (q : o ≡ Node y) (long : length s ≡ storeWords) (h : n < mostRecords)
-    (d : Index.NodeIndex (nodes s n) (links s)) where
-  pub entered-noted : Pushed s n x (noted (put s n y) n y) (record { place = n; count = n + 1 }) × Index.NodeIndex (nodes (noted (put s n y) n y) (n + 1)) (links (noted (put s n y) n y))
-  entered-noted = (
-    record {
-      kept = noted-long (put s n y) n y long-put ∙ put-long s n y;
-      sound = same-sound (put s n y) (noted (put s n y) n y) (n + 1) (omega (arith, noted-long (put s n y) n y long-put, long-put)) same (told .pushed .sound);
-      list-is = sym records ∙ told .pushed .list-is;
-      place-is = told .pushed .place-is;
-      inside = told .pushed .inside;
-      longer = told .pushed .longer;
-      by-one = told .pushed .by-one;
-    },
-    subst (λ l. Index.NodeIndex l (links (noted (put s n y) n y))) records (subst (λ k. Index.NodeIndex (nodes (put s n y) (n + 1)) k) (sym later) (told .index)),
-  )
-    where
-      long-put : length (put s n y) ≡ storeWords
-      long-put = put-long s n y ∙ long
+module _ (field : Field) where
+  -- a request whose record was put and noted
+  module _ (s : List ℕ) (n : ℕ) (x : NodeKind) (req : Request field s n x) (o : Outcome) (y : NodeKind) (eo : o ≡ resolved field (nodes s n) n x) (q : o ≡ Node y) (long : length s ≡ storeWords) (h : n < mostRecords)
+      (d : Index.NodeIndex (nodes s n) (links s)) where
+    pub entered-noted : Pushed field s n x (noted (put s n y) n y) (record { place = n; count = n + 1 }) × Index.NodeIndex (nodes (noted (put s n y) n y) (n + 1)) (links (noted (put s n y) n y))
+    entered-noted = (
+      record {
+        kept = noted-long field (put s n y) n y long-put ∙ put-long s n y;
+        sound = same-sound field (put s n y) (noted (put s n y) n y) (n + 1) (omega (arith, noted-long field (put s n y) n y long-put, long-put)) same (told .pushed .sound);
+        list-is = sym records ∙ told .pushed .list-is;
+        place-is = told .pushed .place-is;
+        inside = told .pushed .inside;
+        longer = told .pushed .longer;
+        by-one = told .pushed .by-one;
+      },
+      subst (λ l. Index.NodeIndex l (links (noted (put s n y) n y))) records (subst (λ k. Index.NodeIndex (nodes (put s n y) (n + 1)) k) (sym later) (told .index)),
+    )
+      where
+        long-put : length (put s n y) ≡ storeWords
+        long-put = put-long s n y ∙ long
 
-      told : Noted s n x (put s n y) (Index.noted (links s) n (Index.nodeBucket (Index.half (links s)) y)) (record { place = n; count = n + 1 })
-      told = noted-node s n x req o y (put s n y) (links s) _ (tag y) (first y) (second y) eo q refl (record { room = omega arith; index = d; link-room = omega (arith, half-links s long) }) refl refl refl refl
+        told : Noted field s n x (put s n y) (Index.noted (links s) n (Index.nodeBucket (Index.half (links s)) y)) (record { place = n; count = n + 1 })
+        told = noted-node field s n x req o y (put s n y) (links s) _ (tag y) (first y) (second y) eo q refl (record { room = omega arith; index = d; link-room = omega (arith, half-links s long) }) refl refl refl refl
 
-      same : Same (put s n y) (noted (put s n y) n y) (n + 1)
-      same = noted-same (put s n y) n y long-put (n + 1) (omega arith)
+        same : Same field (put s n y) (noted (put s n y) n y) (n + 1)
+        same = noted-same field (put s n y) n y long-put (n + 1) (omega arith)
 
-      records : nodes (put s n y) (n + 1) ≡ nodes (noted (put s n y) n y) (n + 1)
-      records = same-records (put s n y) (noted (put s n y) n y) (n + 1) same
+        records : nodes (put s n y) (n + 1) ≡ nodes (noted (put s n y) n y) (n + 1)
+        records = same-records field (put s n y) (noted (put s n y) n y) (n + 1) same
 
-      later : links (noted (put s n y) n y) ≡ Index.noted (links s) n (Index.nodeBucket (Index.half (links s)) y)
-      later = noted-links (put s n y) n y long-put ∙ ap (λ k. Index.noted k n (Index.nodeBucket (Index.half k) y)) (put-links s n y h)
+        later : links (noted (put s n y) n y) ≡ Index.noted (links s) n (Index.nodeBucket (Index.half (links s)) y)
+        later = noted-links field (put s n y) n y long-put ∙ ap (λ k. Index.noted k n (Index.nodeBucket (Index.half k) y)) (put-links s n y h)

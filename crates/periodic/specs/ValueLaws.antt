@@ -4,8 +4,7 @@ use mathlib.Core.Bool.{true}
 use mathlib.Core.List.{List, [], _∷_}
 use mathlib.Core.Path.{_≡_, refl, sym, _∙_, ap, subst}
 use lib.ListN.{getD, length, take}
-use Rattle.field.specs.Field.{p, felt, quad}
-use Rattle.field.specs.Generators.{generator, half}
+use Rattle.field.specs.Fields.{Field}
 use Rattle.columns.specs.Columns.{logLength, support}
 use Rattle.coefficients.specs.Terms.{dense, scaledValue, twiddle}
 use Rattle.coefficients.specs.Arrays.{coefficients, sparseTwiddles, sparseValues}
@@ -16,26 +15,27 @@ use Rattle.periodic.specs.Contracts.{Entering, Listing}
 use Rattle.periodic.specs.SameLaws.{Same, same-constants, same-sum, entering-like, listing-like}
 use Rattle.periodic.specs.NumberLaws.{dense-at, length-dense, twiddle-at, value-at}
 
--- the dense coefficients as constants
-pub dense-listed : (c numbers s : List ℕ) (n : ℕ) (after : List ℕ) (k : ℕ) (places : List ℕ) → numbers ≡ coefficients felt generator half c
-    → Listing s n (constants quad (λ j. getD (take (length c) numbers) j 0) (length (take (length c) numbers))) after k places (length (take (length c) numbers))
-    → Listing s n (constants quad (dense felt generator half c) (length c)) after k places (length c)
-dense-listed c numbers s n after k places e d =
-    listing-like s n (constants quad (λ j. getD (take (length c) numbers) j 0) (length c)) (constants quad (dense felt generator half c) (length c)) after k places (length c) (length c)
-    (same-constants quad (λ j. getD (take (length c) numbers) j 0) (dense felt generator half c) (length c) (λ j h. dense-at c numbers j e h)) refl
-    (subst (λ x. Listing s n (constants quad (λ j. getD (take (length c) numbers) j 0) x) after k places x) (length-dense c numbers e) d)
+module _ (field : Field) where
+  -- the dense coefficients as constants
+  pub dense-listed : (c numbers s : List ℕ) (n : ℕ) (after : List ℕ) (k : ℕ) (places : List ℕ) → numbers ≡ coefficients field c
+      → Listing field s n (constants (field .elements) (λ j. getD (take (length c) numbers) j 0) (length (take (length c) numbers))) after k places (length (take (length c) numbers))
+      → Listing field s n (constants (field .elements) (dense field c) (length c)) after k places (length c)
+  dense-listed c numbers s n after k places e d =
+      listing-like field s n (constants (field .elements) (λ j. getD (take (length c) numbers) j 0) (length c)) (constants (field .elements) (dense field c) (length c)) after k places (length c) (length c)
+      (same-constants (field .elements) (λ j. getD (take (length c) numbers) j 0) (dense field c) (length c) (λ j h. dense-at field c numbers j e h)) refl
+      (subst (λ x. Listing field s n (constants (field .elements) (λ j. getD (take (length c) numbers) j 0) x) after k places x) (length-dense field c numbers e) d)
 
--- the sparse terms of a column
-pub sparse-entered : (c zpow : List ℕ) (rows : List (List ℕ)) (values : List ℕ) (log t : ℕ) (s : List ℕ) (n : ℕ) (after : List ℕ) (r : Entered)
-    → rows ≡ sparseTwiddles felt generator half c → values ≡ sparseValues felt generator half c → log ≡ logLength c → t ≡ length (support c)
-    → Entering s n (sparseSum quad zpow (λ k i. getD (getD rows k []) i 0) log (λ k. getD values k 0) t) after r
-    → Entering s n (sparseSum quad zpow (λ i. twiddle felt generator half c (getD (support c) i 0)) (logLength c) (λ i. scaledValue felt generator half c (getD (support c) i 0)) (length (support c))) after r
-sparse-entered c zpow rows values log t s n after r er ev el et d =
-    entering-like s n
-    (sparseSum quad zpow (λ k i. getD (getD rows k []) i 0) (logLength c) (λ k. getD values k 0) (length (support c)))
-    (sparseSum quad zpow (λ i. twiddle felt generator half c (getD (support c) i 0)) (logLength c) (λ i. scaledValue felt generator half c (getD (support c) i 0)) (length (support c)))
-    after r
-    (same-sum quad zpow (λ k i. getD (getD rows k []) i 0) (λ i. twiddle felt generator half c (getD (support c) i 0)) (logLength c) (λ k. getD values k 0) (λ i. scaledValue felt generator half c (getD (support c) i 0)) (length (support c))
-    (λ k h i j. twiddle-at c rows k i er h j) (λ k h. value-at c values k ev h))
-    (subst (λ x. Entering s n (sparseSum quad zpow (λ k i. getD (getD rows k []) i 0) x (λ k. getD values k 0) (length (support c))) after r) el
-    (subst (λ x. Entering s n (sparseSum quad zpow (λ k i. getD (getD rows k []) i 0) log (λ k. getD values k 0) x) after r) et d))
+  -- the sparse terms of a column
+  pub sparse-entered : (c zpow : List ℕ) (rows : List (List ℕ)) (values : List ℕ) (log t : ℕ) (s : List ℕ) (n : ℕ) (after : List ℕ) (r : Entered)
+      → rows ≡ sparseTwiddles field c → values ≡ sparseValues field c → log ≡ logLength c → t ≡ length (support c)
+      → Entering field s n (sparseSum (field .elements) zpow (λ k i. getD (getD rows k []) i 0) log (λ k. getD values k 0) t) after r
+      → Entering field s n (sparseSum (field .elements) zpow (λ i. twiddle field c (getD (support c) i 0)) (logLength c) (λ i. scaledValue field c (getD (support c) i 0)) (length (support c))) after r
+  sparse-entered c zpow rows values log t s n after r er ev el et d =
+      entering-like field s n
+      (sparseSum (field .elements) zpow (λ k i. getD (getD rows k []) i 0) (logLength c) (λ k. getD values k 0) (length (support c)))
+      (sparseSum (field .elements) zpow (λ i. twiddle field c (getD (support c) i 0)) (logLength c) (λ i. scaledValue field c (getD (support c) i 0)) (length (support c)))
+      after r
+      (same-sum (field .elements) zpow (λ k i. getD (getD rows k []) i 0) (λ i. twiddle field c (getD (support c) i 0)) (logLength c) (λ k. getD values k 0) (λ i. scaledValue field c (getD (support c) i 0)) (length (support c))
+      (λ k h i j. twiddle-at field c rows k i er h j) (λ k h. value-at field c values k ev h))
+      (subst (λ x. Entering field s n (sparseSum (field .elements) zpow (λ k i. getD (getD rows k []) i 0) x (λ k. getD values k 0) (length (support c))) after r) el
+      (subst (λ x. Entering field s n (sparseSum (field .elements) zpow (λ k i. getD (getD rows k []) i 0) log (λ k. getD values k 0) x) after r) et d))

@@ -9,8 +9,8 @@ ghost use mathlib.Core.Bool.{true};
 ghost use mathlib.Core.List.{[]};
 ghost use Prim.Native.Nat.{ℕ, _+_, _*_, _-_, _<_, _≤_};
 ghost use lib.ListN.{length, getD, take};
-ghost use Rattle.field.specs.Field.{p, felt, quad, Below};
-ghost use Rattle.field.specs.Generators.{generator, half};
+ghost use Rattle.field.specs.Fields.{goldilocks};
+ghost use Rattle.field.specs.Field.{p, quad, Below};
 ghost use Rattle.dag.specs.Nodes.{mostRecords, nodes};
 ghost use Rattle.dag.specs.WellFormed.{Fine};
 ghost use Rattle.index.specs.Index.{NodeIndex};
@@ -62,16 +62,16 @@ fn append(list: &mut [u64], n: usize, y: NodeKind) -> Entered
 
 // The place of a request's result, or the new record that it needs.
 fn resolve(list: &[u64], n: usize, x: NodeKind) -> Outcome
-    requires { ⌜ Request (now list) n x × NodeIndex (nodes (now list) n) (Contracts.links (now list)) × (3 * mostRecords ≤ length (now list)) ⌝ }
-    ensures { λ r. ⌜ r ≡ resolved (nodes (now (list .entry)) n) n x ⌝ }
+    requires { ⌜ Request goldilocks (now list) n x × NodeIndex (nodes (now list) n) (Contracts.links (now list)) × (3 * mostRecords ≤ length (now list)) ⌝ }
+    ensures { λ r. ⌜ r ≡ resolved goldilocks (nodes (now (list .entry)) n) n x ⌝ }
 {
     builder::resolve(list, n, &list[RECORD_WORDS..], x)
 }
 
 // One request.
 fn enter(list: &mut [u64], n: usize, x: NodeKind) -> Entered
-    requires { ⌜ Contracts.Ready (now list) n × (n ≤ mostRecords → Fine Below n x) ⌝ }
-    ensures { λ r. ⌜ Contracts.Entering (now (list .entry)) n (Builder.enter quad x) (now (list .exit)) r ⌝ }
+    requires { ⌜ Contracts.Ready goldilocks (now list) n × (n ≤ mostRecords → Fine Below n x) ⌝ }
+    ensures { λ r. ⌜ Contracts.Entering goldilocks (now (list .entry)) n (Builder.enter quad x) (now (list .exit)) r ⌝ }
 {
     if dag::MOST_RECORDS < n {
         return Entered { place: 0, count: n };
@@ -85,40 +85,40 @@ fn enter(list: &mut [u64], n: usize, x: NodeKind) -> Entered
 
 // The constant v.
 pub fn constant(list: &mut [u64], n: usize, v: u64) -> Entered
-    requires { ⌜ Contracts.Ready (now list) n × (v < p) ⌝ }
-    ensures { λ r. ⌜ Contracts.Entering (now (list .entry)) n (Builder.constant quad v) (now (list .exit)) r ⌝ }
+    requires { ⌜ Contracts.Ready goldilocks (now list) n × (v < p) ⌝ }
+    ensures { λ r. ⌜ Contracts.Entering goldilocks (now (list .entry)) n (Builder.constant quad v) (now (list .exit)) r ⌝ }
 {
     enter(list, n, NodeKind::Constant(QuadFelt::from_base(v)))
 }
 
 // The sum of two places.
 pub fn add(list: &mut [u64], n: usize, a: usize, b: usize) -> Entered
-    requires { ⌜ Contracts.Ready (now list) n × Contracts.Inside n a × Contracts.Inside n b ⌝ }
-    ensures { λ r. ⌜ Contracts.Entering (now (list .entry)) n (Builder.add quad a b) (now (list .exit)) r ⌝ }
+    requires { ⌜ Contracts.Ready goldilocks (now list) n × Contracts.Inside n a × Contracts.Inside n b ⌝ }
+    ensures { λ r. ⌜ Contracts.Entering goldilocks (now (list .entry)) n (Builder.add quad a b) (now (list .exit)) r ⌝ }
 {
     enter(list, n, NodeKind::Add(a, b))
 }
 
 // The difference of two places.
 pub fn sub(list: &mut [u64], n: usize, a: usize, b: usize) -> Entered
-    requires { ⌜ Contracts.Ready (now list) n × Contracts.Inside n a × Contracts.Inside n b ⌝ }
-    ensures { λ r. ⌜ Contracts.Entering (now (list .entry)) n (Builder.sub quad a b) (now (list .exit)) r ⌝ }
+    requires { ⌜ Contracts.Ready goldilocks (now list) n × Contracts.Inside n a × Contracts.Inside n b ⌝ }
+    ensures { λ r. ⌜ Contracts.Entering goldilocks (now (list .entry)) n (Builder.sub quad a b) (now (list .exit)) r ⌝ }
 {
     enter(list, n, NodeKind::Sub(a, b))
 }
 
 // The product of two places.
 pub fn mul(list: &mut [u64], n: usize, a: usize, b: usize) -> Entered
-    requires { ⌜ Contracts.Ready (now list) n × Contracts.Inside n a × Contracts.Inside n b ⌝ }
-    ensures { λ r. ⌜ Contracts.Entering (now (list .entry)) n (Builder.mul quad a b) (now (list .exit)) r ⌝ }
+    requires { ⌜ Contracts.Ready goldilocks (now list) n × Contracts.Inside n a × Contracts.Inside n b ⌝ }
+    ensures { λ r. ⌜ Contracts.Entering goldilocks (now (list .entry)) n (Builder.mul quad a b) (now (list .exit)) r ⌝ }
 {
     enter(list, n, NodeKind::Mul(a, b))
 }
 
 // ZK, squared k times.
 pub fn z_power(list: &mut [u64], n: usize, k: usize) -> Entered
-    requires { ⌜ Contracts.Ready (now list) n ⌝ }
-    ensures { λ r. ⌜ Contracts.Entering (now (list .entry)) n (Periodic.zPower quad k) (now (list .exit)) r ⌝ }
+    requires { ⌜ Contracts.Ready goldilocks (now list) n ⌝ }
+    ensures { λ r. ⌜ Contracts.Entering goldilocks (now (list .entry)) n (Periodic.zPower quad k) (now (list .exit)) r ⌝ }
 {
     let mut z = enter(list, n, NodeKind::Input(ZK));
     let mut i = 0;
@@ -131,8 +131,8 @@ pub fn z_power(list: &mut [u64], n: usize, k: usize) -> Entered
 
 // z and its squares, k + 1 in all, into a store of places; answers the count.
 fn powers(list: &mut [u64], n: usize, z: usize, k: usize, places: &mut [u64]) -> usize
-    requires { ⌜ Contracts.Ready (now list) n × Contracts.Inside n z × (k < length (now places)) ⌝ }
-    ensures { λ r. ⌜ Contracts.Listing (now (list .entry)) n (Periodic.powers quad z k) (now (list .exit)) r (now (places .exit)) (k + 1) ⌝ }
+    requires { ⌜ Contracts.Ready goldilocks (now list) n × Contracts.Inside n z × (k < length (now places)) ⌝ }
+    ensures { λ r. ⌜ Contracts.Listing goldilocks (now (list .entry)) n (Periodic.powers quad z k) (now (list .exit)) r (now (places .exit)) (k + 1) ⌝ }
 {
     places[0] = z as u64;
     let mut count = n;
@@ -156,8 +156,8 @@ pub fn chain(
     k: usize,
     places: &mut [u64],
 ) -> usize
-    requires { ⌜ Contracts.Ready (now list) n × Contracts.Inside n first × Contracts.AllInside n (now factors) × (k ≤ length (now factors)) × (k < length (now places)) ⌝ }
-    ensures { λ r. ⌜ Contracts.Listing (now (list .entry)) n (Periodic.chain quad first (now (factors .entry)) k) (now (list .exit)) r (now (places .exit)) (k + 1) ⌝ }
+    requires { ⌜ Contracts.Ready goldilocks (now list) n × Contracts.Inside n first × Contracts.AllInside n (now factors) × (k ≤ length (now factors)) × (k < length (now places)) ⌝ }
+    ensures { λ r. ⌜ Contracts.Listing goldilocks (now (list .entry)) n (Periodic.chain quad first (now (factors .entry)) k) (now (list .exit)) r (now (places .exit)) (k + 1) ⌝ }
 {
     places[0] = first as u64;
     let mut count = n;
@@ -173,8 +173,8 @@ pub fn chain(
 
 // The constants of these numbers, into a store of places; answers the count.
 fn constants(list: &mut [u64], n: usize, numbers: &[u64], places: &mut [u64]) -> usize
-    requires { ⌜ Contracts.Ready (now list) n × (allBelow p (now numbers) ≡ true) × (length (now numbers) ≤ length (now places)) ⌝ }
-    ensures { λ r. ⌜ Contracts.Listing (now (list .entry)) n (Periodic.constants quad (λ j. getD (now (numbers .entry)) j 0) (length (now (numbers .entry)))) (now (list .exit)) r (now (places .exit)) (length (now (numbers .entry))) ⌝ }
+    requires { ⌜ Contracts.Ready goldilocks (now list) n × (allBelow p (now numbers) ≡ true) × (length (now numbers) ≤ length (now places)) ⌝ }
+    ensures { λ r. ⌜ Contracts.Listing goldilocks (now (list .entry)) n (Periodic.constants quad (λ j. getD (now (numbers .entry)) j 0) (length (now (numbers .entry)))) (now (list .exit)) r (now (places .exit)) (length (now (numbers .entry))) ⌝ }
 {
     let mut count = n;
     let mut i = 0;
@@ -189,8 +189,8 @@ fn constants(list: &mut [u64], n: usize, numbers: &[u64], places: &mut [u64]) ->
 
 // Horner's rule from the highest of these coefficients.
 fn horner_eval(list: &mut [u64], n: usize, point: usize, coeffs: &[u64]) -> Entered
-    requires { ⌜ Contracts.Ready (now list) n × Contracts.Inside n point × Contracts.AllInside n (now coeffs) ⌝ }
-    ensures { λ r. ⌜ Contracts.Entering (now (list .entry)) n (Periodic.hornerEval quad point (now (coeffs .entry)) (length (now (coeffs .entry)))) (now (list .exit)) r ⌝ }
+    requires { ⌜ Contracts.Ready goldilocks (now list) n × Contracts.Inside n point × Contracts.AllInside n (now coeffs) ⌝ }
+    ensures { λ r. ⌜ Contracts.Entering goldilocks (now (list .entry)) n (Periodic.hornerEval quad point (now (coeffs .entry)) (length (now (coeffs .entry)))) (now (list .exit)) r ⌝ }
 {
     let mut acc = constant(list, n, 0);
     let mut i = 0;
@@ -209,8 +209,8 @@ fn horner_eval(list: &mut [u64], n: usize, point: usize, coeffs: &[u64]) -> Ente
 
 // factor · (1 + twiddle · power).
 fn sparse_turn(list: &mut [u64], n: usize, twiddle: u64, power: usize, factor: usize) -> Entered
-    requires { ⌜ Contracts.Ready (now list) n × (twiddle < p) × Contracts.Inside n power × Contracts.Inside n factor ⌝ }
-    ensures { λ r. ⌜ Contracts.Entering (now (list .entry)) n (Periodic.sparseTurn quad twiddle power factor) (now (list .exit)) r ⌝ }
+    requires { ⌜ Contracts.Ready goldilocks (now list) n × (twiddle < p) × Contracts.Inside n power × Contracts.Inside n factor ⌝ }
+    ensures { λ r. ⌜ Contracts.Entering goldilocks (now (list .entry)) n (Periodic.sparseTurn quad twiddle power factor) (now (list .exit)) r ⌝ }
 {
     let twiddled = constant(list, n, twiddle);
     let scaled = mul(list, twiddled.count, twiddled.place, power);
@@ -221,8 +221,8 @@ fn sparse_turn(list: &mut [u64], n: usize, twiddle: u64, power: usize, factor: u
 
 // The product of 1 + twiddle · power over the powers of the column's point.
 fn sparse_factor(list: &mut [u64], n: usize, zpow: &[u64], row: [u64; 7], log: usize) -> Entered
-    requires { ⌜ Contracts.Ready (now list) n × Contracts.AllInside n (now zpow) × Contracts.Row row log × (log ≤ length (now zpow)) ⌝ }
-    ensures { λ r. ⌜ Contracts.Entering (now (list .entry)) n (Periodic.sparseFactor quad (now (zpow .entry)) (λ i. getD row i 0) log) (now (list .exit)) r ⌝ }
+    requires { ⌜ Contracts.Ready goldilocks (now list) n × Contracts.AllInside n (now zpow) × Contracts.Row goldilocks row log × (log ≤ length (now zpow)) ⌝ }
+    ensures { λ r. ⌜ Contracts.Entering goldilocks (now (list .entry)) n (Periodic.sparseFactor quad (now (zpow .entry)) (λ i. getD row i 0) log) (now (list .exit)) r ⌝ }
 {
     let mut factor = constant(list, n, 1);
     let mut i = 0;
@@ -242,8 +242,8 @@ fn sparse_term(
     log: usize,
     value: u64,
 ) -> Entered
-    requires { ⌜ Contracts.Ready (now list) n × Contracts.AllInside n (now zpow) × Contracts.Row row log × (log ≤ length (now zpow)) × (value < p) ⌝ }
-    ensures { λ r. ⌜ Contracts.Entering (now (list .entry)) n (Periodic.sparseTerm quad (now (zpow .entry)) (λ i. getD row i 0) log value) (now (list .exit)) r ⌝ }
+    requires { ⌜ Contracts.Ready goldilocks (now list) n × Contracts.AllInside n (now zpow) × Contracts.Row goldilocks row log × (log ≤ length (now zpow)) × (value < p) ⌝ }
+    ensures { λ r. ⌜ Contracts.Entering goldilocks (now (list .entry)) n (Periodic.sparseTerm quad (now (zpow .entry)) (λ i. getD row i 0) log value) (now (list .exit)) r ⌝ }
 {
     let factor = sparse_factor(list, n, zpow, row, log);
     let scaled = constant(list, factor.count, value);
@@ -260,8 +260,8 @@ fn sparse_sum(
     values: [u64; 11],
     t: usize,
 ) -> Entered
-    requires { ⌜ Contracts.Ready (now list) n × Contracts.AllInside n (now zpow) × Contracts.Rows rows log values t × (log ≤ length (now zpow)) ⌝ }
-    ensures { λ r. ⌜ Contracts.Entering (now (list .entry)) n (Periodic.sparseSum quad (now (zpow .entry)) (λ k i. getD (getD rows k []) i 0) log (λ k. getD values k 0) t) (now (list .exit)) r ⌝ }
+    requires { ⌜ Contracts.Ready goldilocks (now list) n × Contracts.AllInside n (now zpow) × Contracts.Rows goldilocks rows log values t × (log ≤ length (now zpow)) ⌝ }
+    ensures { λ r. ⌜ Contracts.Entering goldilocks (now (list .entry)) n (Periodic.sparseSum quad (now (zpow .entry)) (λ k i. getD (getD rows k []) i 0) log (λ k. getD values k 0) t) (now (list .exit)) r ⌝ }
 {
     if t == 0 {
         return constant(list, n, 0);
@@ -278,8 +278,8 @@ fn sparse_sum(
 
 // The value of a sparse column whose point is ZK squared k times.
 pub fn sparse_value(list: &mut [u64], n: usize, col: &[u64], k: usize) -> Entered
-    requires { ⌜ Contracts.Ready (now list) n × ColumnContracts.Column p (now col) × Contracts.Few (now col) ⌝ }
-    ensures { λ r. ⌜ Contracts.Entering (now (list .entry)) n (Periodic.sparseValue quad p felt generator half (now (col .entry)) k) (now (list .exit)) r ⌝ }
+    requires { ⌜ Contracts.Ready goldilocks (now list) n × ColumnContracts.Column p (now col) × Contracts.Few (now col) ⌝ }
+    ensures { λ r. ⌜ Contracts.Entering goldilocks (now (list .entry)) n (Periodic.sparseValue goldilocks (now (col .entry)) k) (now (list .exit)) r ⌝ }
 {
     let z = z_power(list, n, k);
     let log = columns::log_length(col);
@@ -295,8 +295,8 @@ pub fn sparse_value(list: &mut [u64], n: usize, col: &[u64], k: usize) -> Entere
 
 // The value of a dense column whose point is ZK squared k times.
 pub fn dense_value(list: &mut [u64], n: usize, col: &[u64], k: usize) -> Entered
-    requires { ⌜ Contracts.Ready (now list) n × ColumnContracts.Column p (now col) ⌝ }
-    ensures { λ r. ⌜ Contracts.Entering (now (list .entry)) n (Periodic.denseValue quad p felt generator half (now (col .entry)) k) (now (list .exit)) r ⌝ }
+    requires { ⌜ Contracts.Ready goldilocks (now list) n × ColumnContracts.Column p (now col) ⌝ }
+    ensures { λ r. ⌜ Contracts.Entering goldilocks (now (list .entry)) n (Periodic.denseValue goldilocks (now (col .entry)) k) (now (list .exit)) r ⌝ }
 {
     let z = z_power(list, n, k);
     let numbers = coefficients::dense(col);

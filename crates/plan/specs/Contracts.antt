@@ -3,13 +3,11 @@ use Prim.Native.Nat.{ℕ, _+_, _*_, _<_, _≤_}
 use mathlib.Core.List.{List, [], _∷_}
 use mathlib.Core.Path.{_≡_}
 use lib.ListN.{getD, length, set}
-use Rattle.field.specs.Field.{p, Below}
-use Rattle.dag.specs.Store.{Sound}
-use Rattle.dag.specs.WellFormed.{Fine}
+use Rattle.dag.specs.Store.{Records}
+use Rattle.dag.specs.WellFormed.{Any, Fine}
 use Rattle.dag.specs.Nodes.{mostRecords}
 use Rattle.dag.specs.declared.NodeKind.{NodeKind}
 use Rattle.dag.specs.declared.NodeKind.the-variants.{Add, Mul}
-use Rattle.builder.specs.Contracts.{Operands}
 use Rattle.plan.specs.Plan.{sharedFactor}
 use Rattle.plan.specs.declared.AssociativeOp.{AssociativeOp}
 use Rattle.plan.specs.declared.Plan.{Plan}
@@ -28,9 +26,9 @@ unfoldable pub mentioned : List ℕ → List ℕ → List ℕ
 mentioned f [] = f
 mentioned f (i ∷ is) = mentioned (set f i (getD f i 0 + 1)) is
 
--- n records that pass the list check, a root among them, and a count of 0 for each
+-- n records, a root among them, and a count of 0 for each
 pub record Counting (s : List ℕ) (n root : ℕ) (f : List ℕ) : Type 0 where
-  pub sound : Sound p s n
+  pub sound : Records s n
   pub inside : root < n
   pub few : n ≤ mostRecords
   pub fits : n ≤ length f
@@ -49,17 +47,19 @@ abbrev pub operation : AssociativeOp → ℕ → ℕ → NodeKind
 operation AssociativeOp.Add a b = Add a b
 operation AssociativeOp.Mul a b = Mul a b
 
--- two operands on n records that pass the list check, with a fanout for each record
+-- two operands on n records, with a fanout for each record
 pub record Fanned (s : List ℕ) (n : ℕ) (fan : List ℕ) (a b : ℕ) : Type 0 where
-  pub operands : Operands s n a b
+  pub sound : Records s n
+  pub left-inside : a < n
+  pub right-inside : b < n
   pub fits : n ≤ length fan
 
--- a record x that may stand at place i of n records that pass the list check, with a fanout for each
+-- a record x that may stand at place i of n records, with a fanout for each
 pub record Planning (s : List ℕ) (n : ℕ) (fan : List ℕ) (i : ℕ) (x : NodeKind) : Type 0 where
-  pub sound : Sound p s n
+  pub sound : Records s n
   pub fits : n ≤ length fan
   pub inside : i ≤ n
-  pub fine : Fine Below i x
+  pub fine : Fine Any i x
 
 -- the places of a plan come before the record
 abbrev pub PlanFine : ℕ → Plan → Type 0

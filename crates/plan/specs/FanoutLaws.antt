@@ -9,14 +9,14 @@ use borrow.Author.Tests.{eqb-true, eqb-false}
 use lib.Dec.{eqb}
 use lib.ListN.{length, getD, set, length-set}
 use lib.Seq.{getD-set-same, getD-set-other}
-use Rattle.field.specs.Field.{p, Below}
+use Rattle.field.specs.Fields.{Within}
 use Rattle.dag.specs.Nodes.{nodes, at, operands}
 use Rattle.dag.specs.NodeLaws.{length-nodes}
 use Rattle.dag.specs.WellFormed.{WellFormed}
 use Rattle.dag.specs.WellFormedLaws.{fine-mono}
 use Rattle.dag.specs.declared.NodeKind.{NodeKind}
 use Rattle.dag.specs.declared.NodeKind.the-variants.{Input, Constant, Add, Sub, Mul, Neg}
-use Rattle.builder.specs.OutcomeLaws.{list-fine}
+use Rattle.dag.specs.StoreLaws.{sound-well-formed}
 use Rattle.builder.specs.Contracts.{read}
 use Rattle.compact.specs.Reach.{here, there}
 use Rattle.compact.specs.OperandLaws.{operands-below}
@@ -113,8 +113,8 @@ module _ (s : List ℕ) (n root : ℕ) (f₀ : List ℕ) (c : Counting s n root 
     unfolding WellFormed
     operands-inside =
         rw ex
-        (operands-below Below (length f) (at (nodes s n) i)
-        (fine-mono Below i (length f) (at (nodes s n) i) (let a = c .fits in omega arith) (list-fine s n (c .sound) i)))
+        (operands-below (Within (c .sound .0)) (length f) (at (nodes s n) i)
+        (fine-mono (Within (c .sound .0)) i (length f) (at (nodes s n) i) (let a = c .fits in omega arith) (sound-well-formed (c .sound .0) s n (c .sound .1) i)))
 
     pub counted-more : Counted (nodes s n) (i + 1) (mentioned f (operands x))
     unfolding mentions

@@ -65,29 +65,29 @@ read-single s fan n a op h ez et e = rw (at-nodes s n a h, ← ez) (sym et ∙ e
 -- operands a and b, where the record x is read at place a
 module _ {s : List ℕ} {n : ℕ} {fan : List ℕ} {a b : ℕ} (h : Fanned s n fan a b) {x : NodeKind} (ex : x ≡ recordAt s a) where
   left-at : at (nodes s n) a ≡ x
-  left-at = at-nodes s n a (h .operands .left-inside) ∙ sym ex
+  left-at = at-nodes s n a (h .left-inside) ∙ sym ex
 
   -- a rotation with a as the inner operand and b as the other
   module _ (op : ℕ → ℕ → NodeKind) (i : ℕ) {t : Bool} (et : t ≡ Tested op x (read fan a)) where
     pub no-rotation : t ≡ false → Plain ≡ existingRotation op (nodes s n) (read fan) i a b
     unfolding existingRotation
-    no-rotation e = rw (read-single s fan n a op (h .operands .left-inside) ex et e)
+    no-rotation e = rw (read-single s fan n a op (h .left-inside) ex et e)
 
     pub rotation-read : t ≡ true → {y z : ℕ} → y ≡ first x → z ≡ second x → {c d : NodeKind} → c ≡ lowFirst op y b → d ≡ lowFirst op z b
         → orElse (ontoBefore i z (lookup (nodes s n) c n)) (ontoBefore i y (lookup (nodes s n) d n)) ≡ existingRotation op (nodes s n) (read fan) i a b
     unfolding existingRotation
-    rotation-read e ey ez ec ed = rw (read-single s fan n a op (h .operands .left-inside) ex et e, left-at, length-nodes s n, ec, ed, ey, ez)
+    rotation-read e ey ez ec ed = rw (read-single s fan n a op (h .left-inside) ex et e, left-at, length-nodes s n, ec, ed, ey, ez)
 
   -- a factor that the muls at a and b share
   module _ {t : Bool} (et : t ≡ Tested Mul x (read fan a)) where
     pub no-factor : t ≡ false → Plain ≡ commonFactor (nodes s n) (read fan) a b
     unfolding commonFactor
-    no-factor e = rw (read-single s fan n a Mul (h .operands .left-inside) ex et e)
+    no-factor e = rw (read-single s fan n a Mul (h .left-inside) ex et e)
 
     module _ (e : t ≡ true) {y : NodeKind} (ey : y ≡ recordAt s b) {u : Bool} (eu : u ≡ Tested Mul y (read fan b)) where
       pub no-factor-either : u ≡ false → Plain ≡ commonFactor (nodes s n) (read fan) a b
       unfolding commonFactor
-      no-factor-either d = rw (read-single s fan n a Mul (h .operands .left-inside) ex et e, read-single s fan n b Mul (h .operands .right-inside) ey eu d)
+      no-factor-either d = rw (read-single s fan n a Mul (h .left-inside) ex et e, read-single s fan n b Mul (h .right-inside) ey eu d)
 
       pub factor-read : u ≡ true → {x₀ x₁ y₀ y₁ : ℕ} → x₀ ≡ first x → x₁ ≡ second x → y₀ ≡ first y → y₁ ≡ second y
           → {r : Plan} → r ≡ sharedFactor x₀ x₁ y₀ y₁ → r ≡ commonFactor (nodes s n) (read fan) a b
@@ -95,10 +95,10 @@ module _ {s : List ℕ} {n : ℕ} {fan : List ℕ} {a b : ℕ} (h : Fanned s n f
       factor-read d p q v w k =
           k
           ∙ rw (
-            read-single s fan n a Mul (h .operands .left-inside) ex et e,
-            read-single s fan n b Mul (h .operands .right-inside) ey eu d,
+            read-single s fan n a Mul (h .left-inside) ex et e,
+            read-single s fan n b Mul (h .right-inside) ey eu d,
             left-at,
-            at-nodes s n b (h .operands .right-inside),
+            at-nodes s n b (h .right-inside),
             ← ey,
             p,
             q,
@@ -110,4 +110,4 @@ module _ {s : List ℕ} {n : ℕ} {fan : List ℕ} {a b : ℕ} (h : Fanned s n f
 pub fanned : (s : List ℕ) (n : ℕ) (fan : List ℕ) (i : ℕ) (x : NodeKind) → Planning s n fan i x → (a b : ℕ) → (a < i) × (b < i) → Fanned s n fan a b
 fanned s n fan i x h a b k =
     let j = h .inside in
-    record { operands = record { sound = h .sound; left-inside = omega arith; right-inside = omega arith }; fits = h .fits }
+    record { sound = h .sound; left-inside = omega arith; right-inside = omega arith; fits = h .fits }

@@ -7,7 +7,6 @@ ghost use mathlib.Core.List.{[], _∷_};
 ghost use Prim.Native.Nat.{_<_};
 ghost use lib.Dec.{eqb};
 ghost use lib.ListN.{length, getD};
-ghost use Rattle.field.specs.Field.{p};
 ghost use Rattle.dag.specs.Nodes as Nodes;
 ghost use Rattle.dag.specs.Lookup as Lookup;
 ghost use Rattle.dag.specs.Store as Store;
@@ -175,7 +174,7 @@ fn onto_before(
     candidate: NodeKind,
     remaining: usize,
 ) -> Plan
-    requires { ⌜ Store.Sound p (now list) n × NodeIndex (Nodes.nodes (now list) n) (now own) ⌝ }
+    requires { ⌜ Store.Records (now list) n × NodeIndex (Nodes.nodes (now list) n) (now own) ⌝ }
     ensures { λ r. ⌜ r ≡ Plans.ontoBefore i remaining (Lookup.lookup (Nodes.nodes (now (list .entry)) n) candidate n) ⌝ }
 {
     let found = index::find(list, n, own, candidate);

@@ -3,6 +3,7 @@ use Prim.Native.Nat.{ℕ, zero, suc, _+_}
 use mathlib.Core.Bool.{Bool, cond, _&&_}
 use mathlib.Core.List.{List}
 use lib.ListN.{length}
+use Rattle.field.specs.Fields.{goldilocks}
 use Rattle.field.specs.Field.{p}
 use Rattle.builder.specs.Calls.{stepAnswer, stepStore, buildAnswer, buildResult, buildMap}
 use Rattle.compact.specs.Calls.{compactAnswer, compactResult}
@@ -61,34 +62,34 @@ pub record Outcome : Type 0 where
 unfoldable pub outcome : Call → (ℕ → ℕ) → Stores → Stores → Outcome
 outcome Call.Step n r w =
     record {
-      words = stepWords (stepAnswer (w .a) (n 0) (n 1) (n 2) (n 3));
-      after = stores (stepStore (w .a) (n 0) (n 1) (n 2) (n 3)) (w .b) (w .c);
+      words = stepWords (stepAnswer goldilocks (w .a) (n 0) (n 1) (n 2) (n 3));
+      after = stores (stepStore goldilocks (w .a) (n 0) (n 1) (n 2) (n 3)) (w .b) (w .c);
     }
 outcome Call.Build n r w =
     record {
-      words = buildWords (buildAnswer (r .a) (n 0) (n 1) (length (w .a)) (length (w .b)));
-      after = stores (buildResult (r .a) (n 0) (n 1) (w .a) (length (w .b))) (buildMap (r .a) (n 0) (n 1) (length (w .a)) (w .b)) (w .c);
+      words = buildWords (buildAnswer goldilocks (r .a) (n 0) (n 1) (length (w .a)) (length (w .b)));
+      after = stores (buildResult goldilocks (r .a) (n 0) (n 1) (w .a) (length (w .b))) (buildMap goldilocks (r .a) (n 0) (n 1) (length (w .a)) (w .b)) (w .c);
     }
 outcome Call.Compact n r w =
     record {
-      words = compactWords (compactAnswer (r .a) (n 0) (n 1) (length (w .a)));
-      after = stores (compactResult (r .a) (n 0) (n 1) (w .a)) (w .b) (w .c);
+      words = compactWords (compactAnswer goldilocks (r .a) (n 0) (n 1) (length (w .a)));
+      after = stores (compactResult goldilocks (r .a) (n 0) (n 1) (w .a)) (w .b) (w .c);
     }
 outcome Call.Normalize n r w =
     record {
-      words = normalizeWords (normalizeAnswer (r .a) (n 0) (n 1) (length (w .a)) (length (w .b)));
-      after = stores (normalizeResult (r .a) (n 0) (n 1) (w .a) (length (w .b))) (normalizeWork (r .a) (n 0) (n 1) (length (w .a)) (w .b)) (w .c);
+      words = normalizeWords (normalizeAnswer goldilocks (r .a) (n 0) (n 1) (length (w .a)) (length (w .b)));
+      after = stores (normalizeResult goldilocks (r .a) (n 0) (n 1) (w .a) (length (w .b))) (normalizeWork goldilocks (r .a) (n 0) (n 1) (length (w .a)) (w .b)) (w .c);
     }
-outcome Call.Evaluate n r w = record { words = evaluateWords (evaluateAnswer (r .a) (n 0) (n 1) (r .b) (n 2)); after = w }
+outcome Call.Evaluate n r w = record { words = evaluateWords (evaluateAnswer goldilocks (r .a) (n 0) (n 1) (r .b) (n 2)); after = w }
 outcome Call.Prepare n r w = record { words = prepareWords (prepare p (r .a) (r .b)); after = w }
 outcome Call.Lower n r w =
     record {
-      words = lowerWords (lowerAnswer (r .a) (n 0) (r .b) (r .c) (n 1) (w .a) (w .b) (w .c));
+      words = lowerWords (lowerAnswer goldilocks (r .a) (n 0) (r .b) (r .c) (n 1) (w .a) (w .b) (w .c));
       after =
           stores
-          (lowerResult (r .a) (n 0) (r .b) (r .c) (n 1) (w .a) (w .b) (w .c))
-          (lowerWork (r .a) (n 0) (r .b) (r .c) (n 1) (w .a) (w .b) (w .c))
-          (lowerPlaces (r .a) (n 0) (r .b) (r .c) (n 1) (w .a) (w .b) (w .c));
+          (lowerResult goldilocks (r .a) (n 0) (r .b) (r .c) (n 1) (w .a) (w .b) (w .c))
+          (lowerWork goldilocks (r .a) (n 0) (r .b) (r .c) (n 1) (w .a) (w .b) (w .c))
+          (lowerPlaces goldilocks (r .a) (n 0) (r .b) (r .c) (n 1) (w .a) (w .b) (w .c));
     }
 
 -- the recorded answer is the call's, and so is each written store after it

@@ -230,7 +230,9 @@ fn print_name(call: Call) {
 }
 
 // Prints how many answers match.
-fn report(call: Call, matched: u64, cases: u64) {
+fn report(call: Call, s: &[u8], matched: u64, cases: u64)
+    requires { ⌜ matched ≡ Cases.matched call (now s) cases ⌝ }
+{
     print_name(call);
     io::write_all(STDOUT_FILENO, b": ");
     io::print_decimal(STDOUT_FILENO, matched);
@@ -239,10 +241,15 @@ fn report(call: Call, matched: u64, cases: u64) {
     io::write_all(STDOUT_FILENO, b" recorded answers match\n");
 }
 
+// Replays a call's cases.
+fn replay_cases(call: Call, s: &[u8], cases: u64) {
+    report(call, s, compare(call, s, cases), cases);
+}
+
 // Reads a section's cases into a store of their length, and replays them.
-fn replay_cases(call: Call, cases: u64, store: &mut [u8]) {
+fn read_cases(call: Call, cases: u64, store: &mut [u8]) {
     let n = io::read_full(0, store);
-    report(call, compare(call, &store[..n], cases), cases);
+    replay_cases(call, &store[..n], cases);
 }
 
 // Replays the section that standard input is at: whether there is one that the buffer holds.
@@ -257,7 +264,7 @@ fn section(buffer: &mut [u8]) -> bool {
     if words > buffer.len() as u64 / 8 {
         return false;
     }
-    replay_cases(call, word(&head, 1), &mut buffer[..8 * words as usize]);
+    read_cases(call, word(&head, 1), &mut buffer[..8 * words as usize]);
     true
 }
 

@@ -3,10 +3,8 @@ use Prim.Native.Nat.{ℕ, _<_}
 use mathlib.Core.List.{List}
 use mathlib.Core.Path.{_≡_}
 use native.Mathlib.Omega.{arith}
-use lib.Dec.{lit<}
 use lib.ListN.{getD, length}
-use Rattle.field.specs.Field.{p, felt, quad, felt-laws, quad-laws, Below}
-use Rattle.field.specs.Generators.{generator, half}
+use Rattle.field.specs.Fields.{Field, Low, elementLaws}
 use Rattle.field.specs.declared.QuadFelt.{QuadFelt}
 use Rattle.dag.specs.Keys.{ZK}
 use Rattle.dag.specs.Nodes.{nodes}
@@ -25,46 +23,46 @@ use Rattle.worth.specs.Keeps.{Keeps, Are}
 use Rattle.worth.specs.Worth.{nodeWorth}
 use Rattle.worth.specs.PeriodicLaws.{nodes-keep}
 
-module _ (s : List ℕ) (n : ℕ) (ls es : List ℕ) (period : ℕ) where
-  -- the given records stand in front
-  pub lowered-extends : Extends (nodes s n) (lowered s n ls es period .list)
-  unfolding lowered
-  lowered-extends = buildPeriodicNodes quad p felt generator half (columns ls es) (logWithin 32 period) .extends (nodes s n)
-
-  -- the columns' nodes, built behind the given list
-  abbrev Lowered : (ℕ → QuadFelt) → Type 0
-  Lowered given =
-      Keeps Below (nodes s n) (buildPeriodicNodes quad p felt generator half (columns ls es) (logWithin 32 period))
-      (λ k ps. Are quad given k ps (length ls) (nodeWorth quad p felt generator half (columns ls es) (logWithin 32 period) (given ZK)))
-
-  module _ (workWords placeWords : ℕ) (good : lowerCheck s n ls es period workWords placeWords ≡ Good) where
-    lowered-keeps : (given : ℕ → QuadFelt) → ((k : ℕ) → Below (given k)) → Lowered given
-    lowered-keeps given low-given =
-        let q = passed s n ls es period workWords placeWords good in
-        rw (length-columns ls es) at
-        (nodes-keep quad quad-laws given low-given p (lit< tt) (λ c h. (h, lit< tt)) felt felt-laws (λ a h. h) generator half
-        (columns ls es) (logWithin 32 period) (λ j h. q .tested .low j (omega (arith, length-columns ls es))) (sound-well-formed p s n (q .list .sound)))
-
-    -- with zero given to each key
-    zeroed : Lowered (λ _. quad .zero)
-    zeroed = lowered-keeps (λ _. quad .zero) (λ _. quad-laws .low-zero)
-
-    pub lowered-well-formed : WellFormed Below (lowered s n ls es period .list)
+module _ (field : Field) where
+  module _ (s : List ℕ) (n : ℕ) (ls es : List ℕ) (period : ℕ) where
+    -- the given records stand in front
+    pub lowered-extends : Extends (nodes s n) (lowered field s n ls es period .list)
     unfolding lowered
-    lowered-well-formed = zeroed .well-formed
+    lowered-extends = buildPeriodicNodes field (columns ls es) (logWithin (field .mostLog) period) .extends (nodes s n)
 
-    -- a place for each column
-    pub lowered-count : length (lowered s n ls es period .answer) ≡ length ls
-    unfolding lowered
-    lowered-count = zeroed .answers .count
+    -- the columns' nodes, built behind the given list
+    abbrev Lowered : (ℕ → QuadFelt) → Type 0
+    Lowered given =
+        Keeps (Low field) (nodes s n) (buildPeriodicNodes field (columns ls es) (logWithin (field .mostLog) period))
+        (λ k ps. Are (field .elements) given k ps (length ls) (nodeWorth field (columns ls es) (logWithin (field .mostLog) period) (given ZK)))
 
-    pub lowered-inside : (j : ℕ) → j < length ls → getD (lowered s n ls es period .answer) j 0 < length (lowered s n ls es period .list)
-    unfolding lowered
-    lowered-inside j h = zeroed .answers .each j h .inside
+    module _ (workWords placeWords : ℕ) (good : lowerCheck field s n ls es period workWords placeWords ≡ Good) where
+      lowered-keeps : (given : ℕ → QuadFelt) → ((k : ℕ) → Low field (given k)) → Lowered given
+      lowered-keeps given low-given =
+          let q = passed field s n ls es period workWords placeWords good in
+          rw (length-columns ls es) at
+          (nodes-keep field given low-given (columns ls es) (logWithin (field .mostLog) period) (λ j h. q .tested .low j (omega (arith, length-columns ls es))) (sound-well-formed (field .bounds) s n (q .list .sound)))
 
-    -- under any assignment, it is worth the column's value
-    pub lowered-worth : (given : ℕ → QuadFelt) → ((k : ℕ) → Below (given k)) → (j : ℕ) → j < length ls
-        → value quad given (lowered s n ls es period .list) (getD (lowered s n ls es period .answer) j 0)
-        ≡ nodeWorth quad p felt generator half (columns ls es) (logWithin 32 period) (given ZK) j
-    unfolding lowered
-    lowered-worth given low-given j h = lowered-keeps given low-given .answers .each j h .worth
+      -- with zero given to each key
+      zeroed : Lowered (λ _. field .elements .zero)
+      zeroed = lowered-keeps (λ _. field .elements .zero) (λ _. (elementLaws field) .low-zero)
+
+      pub lowered-well-formed : WellFormed (Low field) (lowered field s n ls es period .list)
+      unfolding lowered
+      lowered-well-formed = zeroed .well-formed
+
+      -- a place for each column
+      pub lowered-count : length (lowered field s n ls es period .answer) ≡ length ls
+      unfolding lowered
+      lowered-count = zeroed .answers .count
+
+      pub lowered-inside : (j : ℕ) → j < length ls → getD (lowered field s n ls es period .answer) j 0 < length (lowered field s n ls es period .list)
+      unfolding lowered
+      lowered-inside j h = zeroed .answers .each j h .inside
+
+      -- under any assignment, it is worth the column's value
+      pub lowered-worth : (given : ℕ → QuadFelt) → ((k : ℕ) → Low field (given k)) → (j : ℕ) → j < length ls
+          → value (field .elements) given (lowered field s n ls es period .list) (getD (lowered field s n ls es period .answer) j 0)
+          ≡ nodeWorth field (columns ls es) (logWithin (field .mostLog) period) (given ZK) j
+      unfolding lowered
+      lowered-worth given low-given j h = lowered-keeps given low-given .answers .each j h .worth

@@ -6,6 +6,7 @@ use lib.Dec.{eqb}
 use lib.ListN.{getD, length}
 use Rattle.ring.specs.Ring.{Ops}
 use Rattle.field.specs.Field.{new}
+use Rattle.field.specs.Fields.{Field, modulus}
 use Rattle.field.specs.declared.QuadFelt.{QuadFelt}
 use Rattle.columns.specs.Columns.{logLength, support, values, offset, column, form}
 use Rattle.columns.specs.declared.Form.{Form}
@@ -49,51 +50,51 @@ module _ (F : Ops QuadFelt) where
   sumWorth zpow twiddle n value (suc t) =
       folded (λ k u. F .add u (termWorth zpow (twiddle (k + 1)) n (value (k + 1)))) t (termWorth zpow (twiddle 0) n (value 0))
 
-  module _ (m : ℕ) (o : Ops ℕ) (gen : ℕ → ℕ) (half : ℕ) (c : List ℕ) where
-    unfoldable pub sparseWorth : QuadFelt → QuadFelt
-    sparseWorth z =
-        sumWorth (squared z) (λ i. twiddle o gen half c (getD (support c) i 0)) (logLength c)
-        (λ i. scaledValue o gen half c (getD (support c) i 0)) (length (support c))
+module _ (field : Field) (c : List ℕ) where
+  unfoldable pub sparseWorth : QuadFelt → QuadFelt
+  sparseWorth z =
+      sumWorth (field .elements) (squared (field .elements) z) (λ i. twiddle field c (getD (support c) i 0)) (logLength c)
+      (λ i. scaledValue field c (getD (support c) i 0)) (length (support c))
 
-    unfoldable pub denseWorth : QuadFelt → QuadFelt
-    denseWorth z = hornerWorth z (λ j. number (dense o gen half c j)) (length c)
+  unfoldable pub denseWorth : QuadFelt → QuadFelt
+  denseWorth z = hornerWorth (field .elements) z (λ j. number (dense field c j)) (length c)
 
-    -- z − w^k
-    unfoldable pub rootFactor : QuadFelt → ℕ → QuadFelt
-    rootFactor z k = F .sub z (number (root o gen half c k))
+  -- z − w^k
+  unfoldable pub rootFactor : QuadFelt → ℕ → QuadFelt
+  rootFactor z k = field .elements .sub z (number (root field c k))
 
-    -- over the products before and behind each row
-    module _ (prefix suffix : ℕ → QuadFelt) where
-      -- element j of the basis
-      unfoldable pub elementWorth : ℕ → QuadFelt
-      elementWorth j = F .mul (number (root o gen half c j)) (F .mul (prefix j) (suffix (length c - 1 - j)))
+  -- over the products before and behind each row
+  module _ (prefix suffix : ℕ → QuadFelt) where
+    -- element j of the basis
+    unfoldable pub elementWorth : ℕ → QuadFelt
+    elementWorth j = field .elements .mul (number (root field c j)) (field .elements .mul (prefix j) (suffix (length c - 1 - j)))
 
-      -- the sum of the elements whose entry is v
-      unfoldable pub classWorth : ℕ → QuadFelt
-      classWorth v = folded (λ j u. cond (eqb (getD c j 0) v) (F .add u (elementWorth j)) u) (length c) (number 0)
+    -- the sum of the elements whose entry is v
+    unfoldable pub classWorth : ℕ → QuadFelt
+    classWorth v = folded (λ j u. cond (eqb (getD c j 0) v) (field .elements .add u (elementWorth j)) u) (length c) (number 0)
 
-      -- u, with the class of value v where it is added, or subtracted
-      unfoldable pub addedWorth : ℕ → QuadFelt → QuadFelt
-      addedWorth v u = cond (isAdded F m o gen half c v) (F .add u (F .mul (number (coefficient F m o gen half c v)) (classWorth v))) u
+    -- u, with the class of value v where it is added, or subtracted
+    unfoldable pub addedWorth : ℕ → QuadFelt → QuadFelt
+    addedWorth v u = cond (isAdded field c v) (field .elements .add u (field .elements .mul (number (coefficient field c v)) (classWorth v))) u
 
-      unfoldable pub subtractedWorth : ℕ → QuadFelt → QuadFelt
-      subtractedWorth v u = cond (isSubtracted F m o gen half c v) (F .sub u (classWorth v)) u
+    unfoldable pub subtractedWorth : ℕ → QuadFelt → QuadFelt
+    subtractedWorth v u = cond (isSubtracted field c v) (field .elements .sub u (classWorth v)) u
 
-      -- the offset and its classes: those that are added, then those that are subtracted
-      unfoldable pub combinedWorth : QuadFelt
-      combinedWorth =
-          folded (λ k u. subtractedWorth (getD (values c) k 0) u) (length (values c))
-          (folded (λ k u. addedWorth (getD (values c) k 0) u) (length (values c)) (number (offset m c)))
+    -- the offset and its classes: those that are added, then those that are subtracted
+    unfoldable pub combinedWorth : QuadFelt
+    combinedWorth =
+        folded (λ k u. subtractedWorth (getD (values c) k 0) u) (length (values c))
+        (folded (λ k u. addedWorth (getD (values c) k 0) u) (length (values c)) (number (offset (modulus field) c)))
 
-    unfoldable pub basisWorth : QuadFelt → QuadFelt
-    basisWorth z =
-        combinedWorth (chained (number (sizeInverse o gen half c)) (rootFactor z)) (chained (number 1) (λ i. rootFactor z (length c - (i + 1))))
+  unfoldable pub basisWorth : QuadFelt → QuadFelt
+  basisWorth z =
+      combinedWorth (chained (field .elements) (number (sizeInverse field c)) (rootFactor z)) (chained (field .elements) (number 1) (λ i. rootFactor z (length c - (i + 1))))
 
-    unfoldable pub columnWorth : Form → QuadFelt → QuadFelt
-    columnWorth Sparse z = sparseWorth z
-    columnWorth Dense z = denseWorth z
-    columnWorth Basis z = basisWorth z
+  unfoldable pub columnWorth : Form → QuadFelt → QuadFelt
+  columnWorth Sparse z = sparseWorth z
+  columnWorth Dense z = denseWorth z
+  columnWorth Basis z = basisWorth z
 
-  -- column j under the shared period 2^S, where ZK is z
-  unfoldable pub nodeWorth : ℕ → Ops ℕ → (ℕ → ℕ) → ℕ → List (List ℕ) → ℕ → QuadFelt → ℕ → QuadFelt
-  nodeWorth m o gen half cs S z j = columnWorth m o gen half (column cs j) (form m cs j) (squared z (S - logLength (column cs j)))
+-- column j under the shared period 2^S, where ZK is z
+unfoldable pub nodeWorth : Field → List (List ℕ) → ℕ → QuadFelt → ℕ → QuadFelt
+nodeWorth field cs S z j = columnWorth field (column cs j) (form (modulus field) cs j) (squared (field .elements) z (S - logLength (column cs j)))

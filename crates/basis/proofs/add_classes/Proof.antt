@@ -1,16 +1,15 @@
 -- The invariant: sum is the place after k turns.
+use Rattle.field.specs.Fields.{goldilocks}
 use Rattle.basis.specs.Contracts as Basis
 use Prim.Native.Nat.{_-_, _≤_}
 use mathlib.Core.Path.{ap}
 use native.Mathlib.Omega.{arith}
 use lib.ListN.{length, getD}
-use Rattle.field.specs.Field.{p, quad}
+use Rattle.field.specs.Field.{p}
 use Rattle.periodic.specs.Builder as Builder
 use Rattle.periodic.specs.Periodic as Periodic
 use Rattle.periodic.specs.Contracts as Said
 use Rattle.periodic.specs.RunLaws.{entered-ready, enter-none, enter-next, enter-all}
-use Rattle.field.specs.Field.{felt}
-use Rattle.field.specs.Generators.{generator, half}
 use Rattle.columns.specs.ClassLaws.{below-at}
 use Rattle.periodic.specs.SparseLaws.{entering-same}
 use Rattle.basis.specs.BasisLaws.{products-later}
@@ -18,7 +17,7 @@ use Rattle.basis.proofs.add_classes.Statement.{statement}
 use Rattle.basis.proofs.add_classes.Tie as tie
 
 abbrev Inv-loop : tie.InvT-loop
-Inv-loop list₀ n roots prefix suffix col values d start sum₀ k₀ list sum k = (k ≤ length values) × Said.Entering list₀ n (Builder.turns (λ k sum. Periodic.addTurn quad p felt generator half col prefix suffix (getD values k 0) sum) k start) list sum × Said.Ready list (sum .count) × Basis.Products (sum .count) col roots prefix suffix
+Inv-loop list₀ n roots prefix suffix col values d start sum₀ k₀ list sum k = (k ≤ length values) × Said.Entering goldilocks list₀ n (Builder.turns (λ k sum. Periodic.addTurn goldilocks col prefix suffix (getD values k 0) sum) k start) list sum × Said.Ready goldilocks list (sum .count) × Basis.Products goldilocks (sum .count) col roots prefix suffix
 
 abbrev μ-loop : tie.MeasureT-loop
 μ-loop list₀ n roots prefix suffix col values d start sum₀ k₀ list sum k = length values - k
@@ -26,7 +25,7 @@ abbrev μ-loop : tie.MeasureT-loop
 loop-holds : tie.Need-loop-holds Inv-loop μ-loop
 loop-holds c =
     let start = c .before .before .before .before .before in
-    (omega arith, enter-none _ _ _ _ (start .pre .2), start .pre .0, start .pre .1)
+    (omega arith, enter-none goldilocks _ _ _ _ (start .pre .2), start .pre .0, start .pre .1)
 
 mul-add-turn : tie.Need-mul-add-turn Inv-loop μ-loop
 mul-add-turn c = omega arith
@@ -61,10 +60,10 @@ loop-again c =
     let at-add-turn = c .before .before in
     let at-loop = at-add-turn .before .before .before .before in (
       omega arith,
-      enter-next _ _ _ _ _ _ _ _ _ (at-loop .loop .inv .1) (at-add-turn .add-turn .ensures),
-      entered-ready _ _ _ _ _ (at-loop .loop .inv .2)
+      enter-next goldilocks _ _ _ _ _ _ _ _ _ (at-loop .loop .inv .1) (at-add-turn .add-turn .ensures),
+      entered-ready goldilocks _ _ _ _ _ (at-loop .loop .inv .2)
           (at-add-turn .add-turn .ensures),
-      products-later (at-add-turn .add-turn .ensures .ran .longer) (at-loop .loop .inv .3),
+      products-later goldilocks (at-add-turn .add-turn .ensures .ran .longer) (at-loop .loop .inv .3),
     )
 
 same-length : tie.Need-same-length Inv-loop μ-loop
@@ -75,9 +74,9 @@ unfolding Periodic.addClasses
 returns c =
     let at-loop = c .before in
     let start-2 = at-loop .before .before .before .before .before .before in
-    entering-same _ _ _ _ _ _ (ap (λ vs. Builder.turns (λ k sum. Periodic.addTurn quad p felt generator half (start-2 .args .col .now)
+    entering-same goldilocks _ _ _ _ _ _ (ap (λ vs. Builder.turns (λ k sum. Periodic.addTurn goldilocks (start-2 .args .col .now)
     (start-2 .args .prefix .now) (start-2 .args .suffix .now) (getD vs k 0) sum) (length vs) (start-2 .args .start)) (start-2 .pre .3 .are))
-    (enter-all _ _ _ _ _ _ _ _ (at-loop .loop .inv .0) (c .loop-test .left) (at-loop .loop .inv .1))
+    (enter-all goldilocks _ _ _ _ _ _ _ _ (at-loop .loop .inv .0) (c .loop-test .left) (at-loop .loop .inv .1))
 
 pub add-classes-spec : {M : Type 1} → statement M
 add-classes-spec =

@@ -1,4 +1,5 @@
 use mathlib.Core.Path.{_∙_}
+use Rattle.field.specs.Fields.{goldilocks}
 use Rattle.field.specs.Field.{quad}
 use Rattle.periodic.specs.Builder as Builder
 use Rattle.periodic.specs.Periodic as Periodic
@@ -13,7 +14,7 @@ use Rattle.basis.proofs.add_turn.Tie as tie
 returns : tie.Need-returns
 returns c =
     let start = c .before .before .before .before .before in
-    entering-same _ _ _ _ _ _ (add-offset _ _ _ _ _ 0 _ (start .pre .3 .offset-is) (c .if1 .taken)) (entered-done _ _ _ (start .pre .2))
+    entering-same goldilocks _ _ _ _ _ _ (add-offset goldilocks _ _ _ _ _ 0 _ (start .pre .3 .offset-is) (c .if1 .taken)) (entered-done goldilocks _ _ _ (start .pre .2))
 
 sub-requires : tie.Need-sub-requires
 sub-requires c κs = (c .before .before .before .before .before .pre .3 .value-low, c .before .before .before .before .before .pre .3 .offset-low)
@@ -26,8 +27,8 @@ returns-2 c =
     let at-sub = c .before in
     let at-if1 = at-sub .before in
     let start = at-if1 .before .before .before .before .before in
-    entering-same _ _ _ _ _ _ (add-minus _ _ _ _ _ _ _ (start .pre .3 .offset-is) (at-if1 .if1 .left) (at-sub .sub .ensures .0) (c .if2 .taken))
-    (entered-done _ _ _ (start .pre .2))
+    entering-same goldilocks _ _ _ _ _ _ (add-minus goldilocks _ _ _ _ _ _ _ (start .pre .3 .offset-is) (at-if1 .if1 .left) (at-sub .sub .ensures .0) (c .if2 .taken))
+    (entered-done goldilocks _ _ _ (start .pre .2))
 
 class-sum-requires : tie.Need-class-sum-requires
 class-sum-requires c κs =
@@ -39,14 +40,14 @@ constant-requires c κs =
     let at-class-sum = c .before .before .before in
     let at-sub = at-class-sum .before .before .before in
     let start = at-sub .before .before .before .before .before .before in
-    (entered-ready _ _ _ _ _ (start .pre .0) (at-class-sum .class-sum .ensures), at-sub .sub .ensures .1)
+    (entered-ready goldilocks _ _ _ _ _ (start .pre .0) (at-class-sum .class-sum .ensures), at-sub .sub .ensures .1)
 
 mul-requires : tie.Need-mul-requires
 mul-requires c κs =
     let at-constant = c .before .before .before in
     let at-class-sum = at-constant .before .before .before .before in
     let start = at-class-sum .before .before .before .before .before .before .before .before .before in (
-      entered-ready _ _ _ _ _ (entered-ready _ _ _ _ _ (start .pre .0) (at-class-sum .class-sum .ensures)) (at-constant .constant .ensures),
+      entered-ready goldilocks _ _ _ _ _ (entered-ready goldilocks _ _ _ _ _ (start .pre .0) (at-class-sum .class-sum .ensures)) (at-constant .constant .ensures),
       at-constant .constant .ensures .inside,
       inside-later (at-constant .constant .ensures .ran .longer) (at-class-sum .class-sum .ensures .inside),
     )
@@ -57,7 +58,7 @@ add-requires c κs =
     let at-constant = at-mul .before .before .before .before in
     let at-class-sum = at-constant .before .before .before .before in
     let start = at-class-sum .before .before .before .before .before .before .before .before .before in (
-      entered-ready _ _ _ _ _ (entered-ready _ _ _ _ _ (entered-ready _ _ _ _ _ (start .pre .0) (at-class-sum .class-sum .ensures))
+      entered-ready goldilocks _ _ _ _ _ (entered-ready goldilocks _ _ _ _ _ (entered-ready goldilocks _ _ _ _ _ (start .pre .0) (at-class-sum .class-sum .ensures))
           (at-constant .constant .ensures)) (at-mul .mul .ensures),
       inside-later (at-mul .mul .ensures .ran .longer)
           (inside-later (at-constant .constant .ensures .ran .longer) (inside-later (at-class-sum .class-sum .ensures .ran .longer) (start .pre .2))),
@@ -84,12 +85,12 @@ returns-3 c =
     let at-sub = at-if2 .before in
     let at-if1 = at-sub .before in
     let start = at-if1 .before .before .before .before .before in
-    let k = is-coefficient (start .args .col .now) (start .args .prefix .now) (start .args .suffix .now) (start .args .d) (start .args .v) _ 0
+    let k = is-coefficient goldilocks (start .args .col .now) (start .args .prefix .now) (start .args .suffix .now) (start .args .d) (start .args .v) _ 0
     (start .pre .3 .offset-is) (at-if1 .if1 .left) (at-sub .sub .ensures .0) in
-    entering-same _ _ _ _ _ _ (add-taken _ _ _ _ _ _ _ (start .pre .3 .offset-is) (at-if1 .if1 .left) (at-sub .sub .ensures .0) (at-if2 .if2 .left))
-    (then-enter _ _ _ _ _ _ _ _ (at-class-sum .class-sum .ensures)
-    (then-enter _ _ _ _ _ _ _ _ (entering-at (Builder.constant quad) _ _ _ _ k (at-constant .constant .ensures))
-    (then-enter _ _ _ _ _ _ _ _ (at-mul .mul .ensures) (at-add .add .ensures))))
+    entering-same goldilocks _ _ _ _ _ _ (add-taken goldilocks _ _ _ _ _ _ _ (start .pre .3 .offset-is) (at-if1 .if1 .left) (at-sub .sub .ensures .0) (at-if2 .if2 .left))
+    (then-enter goldilocks _ _ _ _ _ _ _ _ (at-class-sum .class-sum .ensures)
+    (then-enter goldilocks _ _ _ _ _ _ _ _ (entering-at goldilocks (Builder.constant quad) _ _ _ _ k (at-constant .constant .ensures))
+    (then-enter goldilocks _ _ _ _ _ _ _ _ (at-mul .mul .ensures) (at-add .add .ensures))))
 
 pub add-turn-spec : {M : Type 1} → statement M
 add-turn-spec =

@@ -2,6 +2,7 @@ use Prim.Native.Nat.{_+_, _-_}
 use mathlib.Core.Path.{_≡_, sym, _∙_, ap}
 use native.Mathlib.Omega.{arith}
 use lib.ListN.{length}
+use Rattle.field.specs.Fields.{goldilocks}
 use Rattle.field.specs.Field.{quad}
 use Rattle.periodic.specs.Periodic as Periodic
 use Rattle.periodic.specs.RunLaws.{entered-ready, then-enter}
@@ -44,7 +45,7 @@ chain-requires c κs =
     let turned = backwards-is (start .args .factors .now) _ (length (start .args .col .now)) (at-backwards .backwards .ensures)
     (start .pre .1 .suffix-long) in
     let long = length-backwards (start .args .factors .now) ∙ start .pre .1 .suffix-long in (
-      entered-ready _ _ _ _ _ (start .pre .0) (at-constant .constant .ensures),
+      entered-ready goldilocks _ _ _ _ _ (start .pre .0) (at-constant .constant .ensures),
       at-constant .constant .ensures .inside,
       rw turned
           (all-later (at-constant .constant .ensures .ran .longer) (backwards-inside _ _ (start .pre .1 .suffix-inside))),
@@ -67,10 +68,10 @@ basis-sum-requires c κs =
     let at-constant = at-chain .before .before .before .before .before .before .before in
     let start = at-constant .before .before .before .before .before .before in
     let whole : length (start .args .col .now) - 1 + 1 ≡ length (start .args .col .now) = omega (arith, start .pre .2 .some) in
-    let listed = listing-like _ _ _ _ _ _ _ _ _ (same-refl _) whole (at-chain .chain .ensures) in
-    let later = products-later (at-chain .chain .ensures .ran .longer) (products-later (at-constant .constant .ensures .ran .longer) (start .pre .1))
+    let listed = listing-like goldilocks _ _ _ _ _ _ _ _ _ (same-refl _) whole (at-chain .chain .ensures) in
+    let later = products-later goldilocks (at-chain .chain .ensures .ran .longer) (products-later goldilocks (at-constant .constant .ensures .ran .longer) (start .pre .1))
     in (
-      listed-ready _ _ _ _ _ _ _ (entered-ready _ _ _ _ _ (start .pre .0) (at-constant .constant .ensures)) (at-chain .chain .ensures),
+      listed-ready goldilocks _ _ _ _ _ _ _ (entered-ready goldilocks _ _ _ _ _ (start .pre .0) (at-constant .constant .ensures)) (at-chain .chain .ensures),
       record {
         rows = start .pre .1 .rows;
         short = start .pre .1 .short;
@@ -97,10 +98,10 @@ returns c =
     let whole : length (start .args .col .now) - 1 + 1 ≡ length (start .args .col .now) = omega (arith, start .pre .2 .some) in
     let turned = backwards-is (start .args .factors .now) _ (length (start .args .col .now)) (at-backwards .backwards .ensures)
     (start .pre .1 .suffix-long) in
-    let listed = listing-like _ _ _ _ _ _ _ _ _ (same-refl _) whole
-    (listing-same _ _ _ _ _ _ _ _ (ap (λ fs. Periodic.chain quad (at-constant .constant .result .place) fs (length (start .args .col .now) - 1))
+    let listed = listing-like goldilocks _ _ _ _ _ _ _ _ _ (same-refl _) whole
+    (listing-same goldilocks _ _ _ _ _ _ _ _ (ap (λ fs. Periodic.chain quad (at-constant .constant .result .place) fs (length (start .args .col .now) - 1))
     turned) (at-chain .chain .ensures)) in
-    then-enter _ _ _ _ _ _ _ _ (at-constant .constant .ensures) (then-listed _ _ _ _ _ _ _ _ _ _ listed (at-basis-sum .basis-sum .ensures))
+    then-enter goldilocks _ _ _ _ _ _ _ _ (at-constant .constant .ensures) (then-listed goldilocks _ _ _ _ _ _ _ _ _ _ listed (at-basis-sum .basis-sum .ensures))
 
 pub basis-back-spec : {M : Type 1} → statement M
 basis-back-spec =

@@ -1,5 +1,6 @@
 use mathlib.Core.Path.{sym, _∙_}
 use native.Mathlib.Omega.{arith}
+use Rattle.field.specs.Fields.{goldilocks}
 use Rattle.field.specs.Field.{quad}
 use Rattle.periodic.specs.Builder as Builder
 use Rattle.periodic.specs.Periodic as Periodic
@@ -38,11 +39,11 @@ add-classes-requires c κs =
     let at-offset = at-constant .before .before in
     let at-values = at-offset .before .before .before in
     let start = at-values .before .before .before .before .before .before in (
-      entered-ready _ _ _ _ _ (start .pre .0) (at-constant .constant .ensures),
-      products-later (at-constant .constant .ensures .ran .longer)
+      entered-ready goldilocks _ _ _ _ _ (start .pre .0) (at-constant .constant .ensures),
+      products-later goldilocks (at-constant .constant .ensures .ran .longer)
           (start .pre .1),
       at-constant .constant .ensures .inside,
-      offset-of _ _ _ (start .pre .2 .low) (at-values .values .ensures .0)
+      offset-of goldilocks _ _ _ (start .pre .2 .low) (at-values .values .ensures .0)
           (at-offset .offset .ensures .0) (at-offset .offset .ensures .1),
     )
 
@@ -53,11 +54,11 @@ sub-classes-requires c κs =
     let at-offset = at-constant .before .before in
     let at-values = at-offset .before .before .before in
     let start = at-values .before .before .before .before .before .before in (
-      entered-ready _ _ _ _ _ (entered-ready _ _ _ _ _ (start .pre .0) (at-constant .constant .ensures)) (at-add-classes .add-classes .ensures),
-      products-later (at-add-classes .add-classes .ensures .ran .longer)
-          (products-later (at-constant .constant .ensures .ran .longer) (start .pre .1)),
+      entered-ready goldilocks _ _ _ _ _ (entered-ready goldilocks _ _ _ _ _ (start .pre .0) (at-constant .constant .ensures)) (at-add-classes .add-classes .ensures),
+      products-later goldilocks (at-add-classes .add-classes .ensures .ran .longer)
+          (products-later goldilocks (at-constant .constant .ensures .ran .longer) (start .pre .1)),
       at-add-classes .add-classes .ensures .inside,
-      offset-of _ _ _
+      offset-of goldilocks _ _ _
           (start .pre .2 .low) (at-values .values .ensures .0) (at-offset .offset .ensures .0) (at-offset .offset .ensures .1),
     )
 
@@ -75,8 +76,8 @@ returns c =
     let at-add-classes = at-sub-classes .before .before .before .before in
     let at-constant = at-add-classes .before .before .before .before in
     let at-offset = at-constant .before .before in
-    then-enter _ _ _ _ _ _ _ _ (entering-at (Builder.constant quad) _ _ _ _ (at-offset .offset .ensures .0) (at-constant .constant .ensures))
-    (then-enter _ _ _ _ _ _ _ _ (at-add-classes .add-classes .ensures) (at-sub-classes .sub-classes .ensures))
+    then-enter goldilocks _ _ _ _ _ _ _ _ (entering-at goldilocks (Builder.constant quad) _ _ _ _ (at-offset .offset .ensures .0) (at-constant .constant .ensures))
+    (then-enter goldilocks _ _ _ _ _ _ _ _ (at-add-classes .add-classes .ensures) (at-sub-classes .sub-classes .ensures))
 
 pub basis-sum-spec : {M : Type 1} → statement M
 basis-sum-spec =

@@ -1,23 +1,21 @@
 -- The invariant: acc is the place after j turns.
+use Rattle.field.specs.Fields.{goldilocks}
 use Rattle.basis.specs.Contracts as Basis
 use Prim.Native.Nat.{_-_, _≤_}
 use mathlib.Core.Path.{_∙_}
 use native.Mathlib.Omega.{arith}
 use lib.Dec.{lit<}
 use lib.ListN.{length}
-use Rattle.field.specs.Field.{p, quad}
 use Rattle.periodic.specs.Builder as Builder
 use Rattle.periodic.specs.Periodic as Periodic
 use Rattle.periodic.specs.Contracts as Said
 use Rattle.periodic.specs.RunLaws.{entered-ready, then-enter, enter-none, enter-next, enter-all}
-use Rattle.field.specs.Field.{felt}
-use Rattle.field.specs.Generators.{generator, half}
 use Rattle.basis.specs.BasisLaws.{products-later}
 use Rattle.basis.proofs.class_sum.Statement.{statement}
 use Rattle.basis.proofs.class_sum.Tie as tie
 
 abbrev Inv-loop : tie.InvT-loop
-Inv-loop list₀ n roots prefix suffix col v acc₀ j₀ list acc j = (j ≤ length col) × Said.Entering list₀ (acc₀ .count) (Builder.turns (λ j acc. Periodic.classTurn quad p felt generator half col prefix suffix v j acc) j (acc₀ .place)) list acc × Said.Ready list (acc .count) × Basis.Products (acc .count) col roots prefix suffix
+Inv-loop list₀ n roots prefix suffix col v acc₀ j₀ list acc j = (j ≤ length col) × Said.Entering goldilocks list₀ (acc₀ .count) (Builder.turns (λ j acc. Periodic.classTurn goldilocks col prefix suffix v j acc) j (acc₀ .place)) list acc × Said.Ready goldilocks list (acc .count) × Basis.Products goldilocks (acc .count) col roots prefix suffix
 
 abbrev μ-loop : tie.MeasureT-loop
 μ-loop list₀ n roots prefix suffix col v acc₀ j₀ list acc j = length col - j
@@ -30,9 +28,9 @@ loop-holds c =
     let at-constant = c .before .before in
     let start = at-constant .before .before .before .before .before .before in (
       omega arith,
-      enter-none _ _ _ _ (at-constant .constant .ensures .inside),
-      entered-ready _ _ _ _ _ (start .pre .0) (at-constant .constant .ensures),
-      products-later (at-constant .constant .ensures .ran .longer) (start .pre .1),
+      enter-none goldilocks _ _ _ _ (at-constant .constant .ensures .inside),
+      entered-ready goldilocks _ _ _ _ _ (start .pre .0) (at-constant .constant .ensures),
+      products-later goldilocks (at-constant .constant .ensures .ran .longer) (start .pre .1),
     )
 
 class-turn-requires : tie.Need-class-turn-requires Inv-loop μ-loop
@@ -49,10 +47,10 @@ loop-again c =
     let at-class-turn = c .before .before in
     let at-loop = at-class-turn .before .before .before in (
       omega arith,
-      enter-next _ _ _ _ _ _ _ _ _ (at-loop .loop .inv .1) (at-class-turn .class-turn .ensures),
-      entered-ready _ _ _ _ _
+      enter-next goldilocks _ _ _ _ _ _ _ _ _ (at-loop .loop .inv .1) (at-class-turn .class-turn .ensures),
+      entered-ready goldilocks _ _ _ _ _
           (at-loop .loop .inv .2) (at-class-turn .class-turn .ensures),
-      products-later (at-class-turn .class-turn .ensures .ran .longer)
+      products-later goldilocks (at-class-turn .class-turn .ensures .ran .longer)
           (at-loop .loop .inv .3),
     )
 
@@ -61,7 +59,7 @@ same-length c = c .before .loop .inv .1 .ran .kept ∙ c .before .before .before
 
 returns : tie.Need-returns Inv-loop μ-loop
 unfolding Periodic.classSum
-returns c = then-enter _ _ _ _ _ _ _ _ (c .before .before .before .before .constant .ensures) (enter-all _ _ _ _ _ _ _ _ (c .before .loop .inv .0) (c .loop-test .left) (c .before .loop .inv .1))
+returns c = then-enter goldilocks _ _ _ _ _ _ _ _ (c .before .before .before .before .constant .ensures) (enter-all goldilocks _ _ _ _ _ _ _ _ (c .before .loop .inv .0) (c .loop-test .left) (c .before .loop .inv .1))
 
 pub class-sum-spec : {M : Type 1} → statement M
 class-sum-spec =

@@ -1,4 +1,5 @@
 use mathlib.Core.Path.{_∙_}
+use Rattle.field.specs.Fields.{goldilocks}
 use Rattle.periodic.specs.Periodic as Periodic
 use Rattle.periodic.specs.RunLaws.{entered-ready, then-enter, inside-later}
 use Rattle.periodic.specs.SparseLaws.{entering-same}
@@ -10,7 +11,7 @@ use Rattle.basis.proofs.sub_turn.Tie as tie
 returns : tie.Need-returns
 returns c =
     let start = c .before .before .before .before .before in
-    entering-same _ _ _ _ _ _ (sub-offset _ _ _ _ _ 0 _ (start .pre .3 .offset-is) (c .if1 .taken)) (entered-done _ _ _ (start .pre .2))
+    entering-same goldilocks _ _ _ _ _ _ (sub-offset goldilocks _ _ _ _ _ 0 _ (start .pre .3 .offset-is) (c .if1 .taken)) (entered-done goldilocks _ _ _ (start .pre .2))
 
 sub-requires : tie.Need-sub-requires
 sub-requires c κs = (c .before .before .before .before .before .pre .3 .value-low, c .before .before .before .before .before .pre .3 .offset-low)
@@ -23,8 +24,8 @@ returns-2 c =
     let at-sub = c .before in
     let at-if1 = at-sub .before in
     let start = at-if1 .before .before .before .before .before in
-    entering-same _ _ _ _ _ _ (sub-other _ _ _ _ _ _ _ (start .pre .3 .offset-is) (at-if1 .if1 .left) (at-sub .sub .ensures .0) (c .if2 .taken))
-    (entered-done _ _ _ (start .pre .2))
+    entering-same goldilocks _ _ _ _ _ _ (sub-other goldilocks _ _ _ _ _ _ _ (start .pre .3 .offset-is) (at-if1 .if1 .left) (at-sub .sub .ensures .0) (c .if2 .taken))
+    (entered-done goldilocks _ _ _ (start .pre .2))
 
 class-sum-requires : tie.Need-class-sum-requires
 class-sum-requires c κs =
@@ -35,7 +36,7 @@ sub-requires-2 : tie.Need-sub-requires-2
 sub-requires-2 c κs =
     let at-class-sum = c .before .before .before in
     let start = at-class-sum .before .before .before .before .before .before .before .before .before in (
-      entered-ready _ _ _ _ _ (start .pre .0) (at-class-sum .class-sum .ensures),
+      entered-ready goldilocks _ _ _ _ _ (start .pre .0) (at-class-sum .class-sum .ensures),
       inside-later (at-class-sum .class-sum .ensures .ran .longer)
           (start .pre .2),
       at-class-sum .class-sum .ensures .inside,
@@ -56,8 +57,8 @@ returns-3 c =
     let at-sub = at-if2 .before in
     let at-if1 = at-sub .before in
     let start = at-if1 .before .before .before .before .before in
-    entering-same _ _ _ _ _ _ (sub-taken _ _ _ _ _ _ _ (start .pre .3 .offset-is) (at-if1 .if1 .left) (at-sub .sub .ensures .0) (at-if2 .if2 .left))
-    (then-enter _ _ _ _ _ _ _ _ (at-class-sum .class-sum .ensures) (at-sub2 .sub2 .ensures))
+    entering-same goldilocks _ _ _ _ _ _ (sub-taken goldilocks _ _ _ _ _ _ _ (start .pre .3 .offset-is) (at-if1 .if1 .left) (at-sub .sub .ensures .0) (at-if2 .if2 .left))
+    (then-enter goldilocks _ _ _ _ _ _ _ _ (at-class-sum .class-sum .ensures) (at-sub2 .sub2 .ensures))
 
 pub sub-turn-spec : {M : Type 1} → statement M
 sub-turn-spec =

@@ -1,6 +1,7 @@
 use Prim.Native.Nat.{ℕ, _+_, _<_}
 use native.Mathlib.Omega.{arith}
 use mathlib.Core.Path.{subst}
+use Rattle.field.specs.Fields.{goldilocks}
 use Rattle.builder.specs.OutcomeLaws.{operands-below, add-used, add-made, add-handed, add-lower, sub-used, sub-made, sub-handed, sub-lower}
 use borrow.Author.Needs.{needs}
 use borrow.Fn.Kinds.{In}
@@ -68,7 +69,7 @@ add-outcome-add-rule-requires : (t : ℕ) → add-outcome-lts.Need-add-rule-requ
   sub-outcome-below t,
   sub-outcome.Post,
 ) (add-outcome-at t) add-outcome.Post
-add-outcome-add-rule-requires t c κs = operands-below (c .before .before .before .args .list .now) (c .before .before .before .args .n) (c .before .before .before .args .a) (c .before .before .before .args .b) (c .before .before .before .pre .1) _ _ (c .before .node-at .ensures) (c .node-at2 .ensures) (Use 0)
+add-outcome-add-rule-requires t c κs = operands-below goldilocks (c .before .before .before .args .list .now) (c .before .before .before .args .n) (c .before .before .before .args .a) (c .before .before .before .args .b) (c .before .before .before .pre .1) _ _ (c .before .node-at .ensures) (c .node-at2 .ensures) (Use 0)
 
 add-outcome-enum-known-rule : (t : ℕ) → add-outcome-lts.Need-enum-known-rule (
   node-at-reads.Asked,
@@ -108,7 +109,7 @@ add-outcome-sub-outcome-requires : (t : ℕ) → add-outcome-lts.Need-sub-outcom
   sub-outcome-below t,
   sub-outcome.Post,
 ) (add-outcome-at t) add-outcome.Post
-add-outcome-sub-outcome-requires t c κs = let h = add-lower (c .before .before .before .before .before .before .before .args .list .now) (c .before .before .before .before .before .before .before .args .n) (c .before .before .before .before .before .before .before .args .a) (c .before .before .before .before .before .before .before .args .b) (c .before .before .before .before .before .before .before .pre .1) _ _ (c .before .before .before .before .before .node-at .ensures) (c .before .before .before .before .node-at2 .ensures) (c .before .before .before .add-rule .result) (c .before .before .before .add-rule .ensures) _ _ (c .before .rule3 .given .1) in (subst (λ (j : ℕ). c .before .rule3 .given .0 .0 + c .before .rule3 .given .0 .1 .0 < j) (c .before .before .before .before .before .before .before .pre .0) (h .0), h .1)
+add-outcome-sub-outcome-requires t c κs = let h = add-lower goldilocks (c .before .before .before .before .before .before .before .args .list .now) (c .before .before .before .before .before .before .before .args .n) (c .before .before .before .before .before .before .before .args .a) (c .before .before .before .before .before .before .before .args .b) (c .before .before .before .before .before .before .before .pre .1) _ _ (c .before .before .before .before .before .node-at .ensures) (c .before .before .before .before .node-at2 .ensures) (c .before .before .before .add-rule .result) (c .before .before .before .add-rule .ensures) _ _ (c .before .rule3 .given .1) in (subst (λ (j : ℕ). c .before .rule3 .given .0 .0 + c .before .rule3 .given .0 .1 .0 < j) (c .before .before .before .before .before .before .before .pre .0) (h .0), h .1)
 
 add-outcome-returns : (t : ℕ) → add-outcome-lts.Need-returns (
   node-at-reads.Asked,
@@ -118,7 +119,7 @@ add-outcome-returns : (t : ℕ) → add-outcome-lts.Need-returns (
   sub-outcome-below t,
   sub-outcome.Post,
 ) (add-outcome-at t) add-outcome.Post
-add-outcome-returns t c = add-used (c .before .before .before .before .before .before .before .args .list .now) (c .before .before .before .before .before .before .before .args .n) (c .before .before .before .before .before .before .before .args .a) (c .before .before .before .before .before .before .before .args .b) (c .before .before .before .before .before .before .before .pre .1) _ _ (c .before .before .before .before .before .node-at .ensures) (c .before .before .before .before .node-at2 .ensures) (c .before .before .before .add-rule .result) (c .before .before .before .add-rule .ensures) _ (c .before .rule .given .1)
+add-outcome-returns t c = add-used goldilocks (c .before .before .before .before .before .before .before .args .list .now) (c .before .before .before .before .before .before .before .args .n) (c .before .before .before .before .before .before .before .args .a) (c .before .before .before .before .before .before .before .args .b) (c .before .before .before .before .before .before .before .pre .1) _ _ (c .before .before .before .before .before .node-at .ensures) (c .before .before .before .before .node-at2 .ensures) (c .before .before .before .add-rule .result) (c .before .before .before .add-rule .ensures) _ (c .before .rule .given .1)
 
 add-outcome-returns-2 : (t : ℕ) → add-outcome-lts.Need-returns-2 (
   node-at-reads.Asked,
@@ -128,7 +129,7 @@ add-outcome-returns-2 : (t : ℕ) → add-outcome-lts.Need-returns-2 (
   sub-outcome-below t,
   sub-outcome.Post,
 ) (add-outcome-at t) add-outcome.Post
-add-outcome-returns-2 t c = add-made (c .before .before .before .before .before .before .before .args .list .now) (c .before .before .before .before .before .before .before .args .n) (c .before .before .before .before .before .before .before .args .a) (c .before .before .before .before .before .before .before .args .b) (c .before .before .before .before .before .before .before .pre .1) _ _ (c .before .before .before .before .before .node-at .ensures) (c .before .before .before .before .node-at2 .ensures) (c .before .before .before .add-rule .result) (c .before .before .before .add-rule .ensures) _ (c .before .rule2 .given .1)
+add-outcome-returns-2 t c = add-made goldilocks (c .before .before .before .before .before .before .before .args .list .now) (c .before .before .before .before .before .before .before .args .n) (c .before .before .before .before .before .before .before .args .a) (c .before .before .before .before .before .before .before .args .b) (c .before .before .before .before .before .before .before .pre .1) _ _ (c .before .before .before .before .before .node-at .ensures) (c .before .before .before .before .node-at2 .ensures) (c .before .before .before .add-rule .result) (c .before .before .before .add-rule .ensures) _ (c .before .rule2 .given .1)
 
 add-outcome-returns-3 : (t : ℕ) → add-outcome-lts.Need-returns-3 (
   node-at-reads.Asked,
@@ -138,7 +139,7 @@ add-outcome-returns-3 : (t : ℕ) → add-outcome-lts.Need-returns-3 (
   sub-outcome-below t,
   sub-outcome.Post,
 ) (add-outcome-at t) add-outcome.Post
-add-outcome-returns-3 t c = add-handed (c .before .before .before .before .before .before .before .before .args .list .now) (c .before .before .before .before .before .before .before .before .args .n) (c .before .before .before .before .before .before .before .before .args .a) (c .before .before .before .before .before .before .before .before .args .b) (c .before .before .before .before .before .before .before .before .pre .1) _ _ (c .before .before .before .before .before .before .node-at .ensures) (c .before .before .before .before .before .node-at2 .ensures) (c .before .before .before .before .add-rule .result) (c .before .before .before .before .add-rule .ensures) _ _ _ (c .before .before .rule3 .given .1) (c .sub-outcome .ensures)
+add-outcome-returns-3 t c = add-handed goldilocks (c .before .before .before .before .before .before .before .before .args .list .now) (c .before .before .before .before .before .before .before .before .args .n) (c .before .before .before .before .before .before .before .before .args .a) (c .before .before .before .before .before .before .before .before .args .b) (c .before .before .before .before .before .before .before .before .pre .1) _ _ (c .before .before .before .before .before .before .node-at .ensures) (c .before .before .before .before .before .node-at2 .ensures) (c .before .before .before .before .add-rule .result) (c .before .before .before .before .add-rule .ensures) _ _ _ (c .before .before .rule3 .given .1) (c .sub-outcome .ensures)
 
 sub-outcome-node-at-requires : (t : ℕ) → sub-outcome-lts.Need-node-at-requires (
   node-at-reads.Asked,
@@ -168,7 +169,7 @@ sub-outcome-sub-rule-requires : (t : ℕ) → sub-outcome-lts.Need-sub-rule-requ
   add-outcome-below t,
   add-outcome.Post,
 ) (sub-outcome-at t) sub-outcome.Post
-sub-outcome-sub-rule-requires t c κs = operands-below (c .before .before .before .args .list .now) (c .before .before .before .args .n) (c .before .before .before .args .a) (c .before .before .before .args .b) (c .before .before .before .pre .1) _ _ (c .before .node-at .ensures) (c .node-at2 .ensures) (Use 0)
+sub-outcome-sub-rule-requires t c κs = operands-below goldilocks (c .before .before .before .args .list .now) (c .before .before .before .args .n) (c .before .before .before .args .a) (c .before .before .before .args .b) (c .before .before .before .pre .1) _ _ (c .before .node-at .ensures) (c .node-at2 .ensures) (Use 0)
 
 sub-outcome-enum-known-rule : (t : ℕ) → sub-outcome-lts.Need-enum-known-rule (
   node-at-reads.Asked,
@@ -208,7 +209,7 @@ sub-outcome-add-outcome-requires : (t : ℕ) → sub-outcome-lts.Need-add-outcom
   add-outcome-below t,
   add-outcome.Post,
 ) (sub-outcome-at t) sub-outcome.Post
-sub-outcome-add-outcome-requires t c κs = let h = sub-lower (c .before .before .before .before .before .before .before .args .list .now) (c .before .before .before .before .before .before .before .args .n) (c .before .before .before .before .before .before .before .args .a) (c .before .before .before .before .before .before .before .args .b) (c .before .before .before .before .before .before .before .pre .1) _ _ (c .before .before .before .before .before .node-at .ensures) (c .before .before .before .before .node-at2 .ensures) (c .before .before .before .sub-rule .result) (c .before .before .before .sub-rule .ensures) _ _ (c .before .rule3 .given .1) in (subst (λ (j : ℕ). c .before .rule3 .given .0 .0 + c .before .rule3 .given .0 .1 .0 < j) (c .before .before .before .before .before .before .before .pre .0) (h .0), h .1)
+sub-outcome-add-outcome-requires t c κs = let h = sub-lower goldilocks (c .before .before .before .before .before .before .before .args .list .now) (c .before .before .before .before .before .before .before .args .n) (c .before .before .before .before .before .before .before .args .a) (c .before .before .before .before .before .before .before .args .b) (c .before .before .before .before .before .before .before .pre .1) _ _ (c .before .before .before .before .before .node-at .ensures) (c .before .before .before .before .node-at2 .ensures) (c .before .before .before .sub-rule .result) (c .before .before .before .sub-rule .ensures) _ _ (c .before .rule3 .given .1) in (subst (λ (j : ℕ). c .before .rule3 .given .0 .0 + c .before .rule3 .given .0 .1 .0 < j) (c .before .before .before .before .before .before .before .pre .0) (h .0), h .1)
 
 sub-outcome-returns : (t : ℕ) → sub-outcome-lts.Need-returns (
   node-at-reads.Asked,
@@ -218,7 +219,7 @@ sub-outcome-returns : (t : ℕ) → sub-outcome-lts.Need-returns (
   add-outcome-below t,
   add-outcome.Post,
 ) (sub-outcome-at t) sub-outcome.Post
-sub-outcome-returns t c = sub-used (c .before .before .before .before .before .before .before .args .list .now) (c .before .before .before .before .before .before .before .args .n) (c .before .before .before .before .before .before .before .args .a) (c .before .before .before .before .before .before .before .args .b) (c .before .before .before .before .before .before .before .pre .1) _ _ (c .before .before .before .before .before .node-at .ensures) (c .before .before .before .before .node-at2 .ensures) (c .before .before .before .sub-rule .result) (c .before .before .before .sub-rule .ensures) _ (c .before .rule .given .1)
+sub-outcome-returns t c = sub-used goldilocks (c .before .before .before .before .before .before .before .args .list .now) (c .before .before .before .before .before .before .before .args .n) (c .before .before .before .before .before .before .before .args .a) (c .before .before .before .before .before .before .before .args .b) (c .before .before .before .before .before .before .before .pre .1) _ _ (c .before .before .before .before .before .node-at .ensures) (c .before .before .before .before .node-at2 .ensures) (c .before .before .before .sub-rule .result) (c .before .before .before .sub-rule .ensures) _ (c .before .rule .given .1)
 
 sub-outcome-returns-2 : (t : ℕ) → sub-outcome-lts.Need-returns-2 (
   node-at-reads.Asked,
@@ -228,7 +229,7 @@ sub-outcome-returns-2 : (t : ℕ) → sub-outcome-lts.Need-returns-2 (
   add-outcome-below t,
   add-outcome.Post,
 ) (sub-outcome-at t) sub-outcome.Post
-sub-outcome-returns-2 t c = sub-made (c .before .before .before .before .before .before .before .args .list .now) (c .before .before .before .before .before .before .before .args .n) (c .before .before .before .before .before .before .before .args .a) (c .before .before .before .before .before .before .before .args .b) (c .before .before .before .before .before .before .before .pre .1) _ _ (c .before .before .before .before .before .node-at .ensures) (c .before .before .before .before .node-at2 .ensures) (c .before .before .before .sub-rule .result) (c .before .before .before .sub-rule .ensures) _ (c .before .rule2 .given .1)
+sub-outcome-returns-2 t c = sub-made goldilocks (c .before .before .before .before .before .before .before .args .list .now) (c .before .before .before .before .before .before .before .args .n) (c .before .before .before .before .before .before .before .args .a) (c .before .before .before .before .before .before .before .args .b) (c .before .before .before .before .before .before .before .pre .1) _ _ (c .before .before .before .before .before .node-at .ensures) (c .before .before .before .before .node-at2 .ensures) (c .before .before .before .sub-rule .result) (c .before .before .before .sub-rule .ensures) _ (c .before .rule2 .given .1)
 
 sub-outcome-returns-3 : (t : ℕ) → sub-outcome-lts.Need-returns-3 (
   node-at-reads.Asked,
@@ -238,7 +239,7 @@ sub-outcome-returns-3 : (t : ℕ) → sub-outcome-lts.Need-returns-3 (
   add-outcome-below t,
   add-outcome.Post,
 ) (sub-outcome-at t) sub-outcome.Post
-sub-outcome-returns-3 t c = sub-handed (c .before .before .before .before .before .before .before .before .args .list .now) (c .before .before .before .before .before .before .before .before .args .n) (c .before .before .before .before .before .before .before .before .args .a) (c .before .before .before .before .before .before .before .before .args .b) (c .before .before .before .before .before .before .before .before .pre .1) _ _ (c .before .before .before .before .before .before .node-at .ensures) (c .before .before .before .before .before .node-at2 .ensures) (c .before .before .before .before .sub-rule .result) (c .before .before .before .before .sub-rule .ensures) _ _ _ (c .before .before .rule3 .given .1) (c .add-outcome .ensures)
+sub-outcome-returns-3 t c = sub-handed goldilocks (c .before .before .before .before .before .before .before .before .args .list .now) (c .before .before .before .before .before .before .before .before .args .n) (c .before .before .before .before .before .before .before .before .args .a) (c .before .before .before .before .before .before .before .before .args .b) (c .before .before .before .before .before .before .before .before .pre .1) _ _ (c .before .before .before .before .before .before .node-at .ensures) (c .before .before .before .before .before .node-at2 .ensures) (c .before .before .before .before .sub-rule .result) (c .before .before .before .before .sub-rule .ensures) _ _ _ (c .before .before .rule3 .given .1) (c .add-outcome .ensures)
 
 pub +add-outcome+sub-outcome-spec : {M : Type 1} → statement M
 +add-outcome+sub-outcome-spec = close μ-add-outcome μ-sub-outcome (λ t. add-outcome-lts.spec (

@@ -1,3 +1,4 @@
+use Rattle.field.specs.Fields.{goldilocks}
 use Rattle.builder.specs.BuildLaws.{ready, build-refused, build-done}
 use Rattle.dag.specs.BranchLaws.{told}
 use lib.ListN.{length}
@@ -19,7 +20,7 @@ build-ready-requires c κs =
     let at-enum-told = c .before .before in
     let at-build-check = at-enum-told .before .before in
     let start = at-build-check .before .before .before .before in
-    ready (start .args .list .now) (start .args .n) (start .args .root) (length (start .args .result .now)) (length (start .args .map .now))
+    ready goldilocks (start .args .list .now) (start .args .n) (start .args .root) (length (start .args .result .now)) (length (start .args .map .now))
     (told (at-build-check .build-check .ensures) (at-enum-told .enum-told .given .1))
 
 returns : tie.Need-returns
@@ -27,7 +28,7 @@ returns c =
     let at-checked = c .before in
     let at-build-check = at-checked .before .before in
     let start = at-build-check .before .before .before .before in
-    let h = build-refused (start .args .list .now) (start .args .n) (start .args .root) (start .args .result .now) (start .args .map .now) _
+    let h = build-refused goldilocks (start .args .list .now) (start .args .n) (start .args .root) (start .args .result .now) (start .args .map .now) _
     (told (at-build-check .build-check .ensures) (at-checked .checked .given .1)) in (h .answer, (h .list-is, h .places-are))
 
 same-length : tie.Need-same-length
@@ -42,7 +43,7 @@ returns-2 c =
     let at-enum-told = at-build-ready .before .before .before in
     let at-build-check = at-enum-told .before .before in
     let start = at-build-check .before .before .before .before in
-    let h = build-done (start .args .list .now) (start .args .n) (start .args .root) (start .args .result .now) (start .args .map .now) _ _ _
+    let h = build-done goldilocks (start .args .list .now) (start .args .n) (start .args .root) (start .args .result .now) (start .args .map .now) _ _ _
     (told (at-build-check .build-check .ensures) (at-enum-told .enum-told .given .1)) (at-build-ready .build-ready .ensures) in
     (h .answer, (h .list-is, h .places-are))
 

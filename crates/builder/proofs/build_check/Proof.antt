@@ -1,5 +1,5 @@
+use Rattle.field.specs.Fields.{goldilocks}
 use Rattle.dag.specs.PassLaws.{rooted}
-use Rattle.field.specs.Field.{p}
 use native.Mathlib.Omega.{arith}
 use Rattle.builder.specs.Calls as Calls
 use Rattle.dag.specs.CheckLaws.{refused-then, good-told, bad-told}
@@ -20,7 +20,7 @@ unfolding Calls.buildCheck
 returns c = c .before .before .list-check .ensures ∙ refused-then _ _ (bad-told (c .before .before .list-check .ensures) (c .before .is-refused .ensures) (c .if1 .taken))
 
 mul-if2 : tie.Need-mul-if2
-mul-if2 c = let h = rooted p _ _ _ (good-told (c .before .before .list-check .ensures) (c .before .is-refused .ensures) (c .if1 .left)) in omega (arith, h .list .most)
+mul-if2 c = let h = rooted (goldilocks .bounds) _ _ _ (good-told (c .before .before .list-check .ensures) (c .before .is-refused .ensures) (c .if1 .left)) in omega (arith, h .list .most)
 
 returns-2 : tie.Need-returns-2
 unfolding Calls.buildCheck

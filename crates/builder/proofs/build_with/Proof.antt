@@ -1,3 +1,4 @@
+use Rattle.field.specs.Fields.{goldilocks}
 use Rattle.builder.specs.BuildLaws.{finished}
 use borrow.Author.Needs.{needs}
 use Rattle.builder.proofs.build_with.Statement.{statement}
@@ -33,7 +34,7 @@ returns c =
     let at-blank-from = at-blank-from2 .before .before .before .before in
     let at-replay = at-blank-from .before .before .before .before .before .before .before .before in
     let start = at-replay .before .before .before .before .before .before .before .before in
-    finished (start .args .list .now) (start .args .n) (start .args .root) (start .args .result .now) (start .args .map .now) (start .pre .0 .sound)
+    finished goldilocks (start .args .list .now) (start .args .n) (start .args .root) (start .args .result .now) (start .args .map .now) (start .pre .0 .sound)
     (start .pre .0 .inside) _ _ _ (at-replay .replay .ensures) (at-replay .replay .kept .1 .1 .0) (at-replay .replay .kept .1 .1 .1 .0)
     (start .pre .0 .map-room) _ _ _ (at-blank-from .blank-from .ensures) (at-blank-from2 .blank-from2 .ensures) (c .mapped .ensures)
 

@@ -1,3 +1,4 @@
+use Rattle.field.specs.Fields.{goldilocks}
 use Rattle.builder.specs.CallLaws.{stays, stepped-as, step-resolved}
 use borrow.Author.Needs.{needs}
 use Rattle.builder.proofs.enter.Statement.{statement}
@@ -22,8 +23,8 @@ returns : tie.Need-returns
 returns c =
     let searched = c .before .before .before in
     let a = searched .before .before .before in
-    stays (a .args .list .now) (a .args .n) (a .pre .0 .sound) _ _
-    (step-resolved (a .args .list .now) (a .args .n) (a .args .x) _ _ (searched .resolve-searching .ensures) (c .before .result .given .1))
+    stays goldilocks (a .args .list .now) (a .args .n) (a .pre .0 .sound) _ _
+    (step-resolved goldilocks (a .args .list .now) (a .args .n) (a .args .x) _ _ (searched .resolve-searching .ensures) (c .before .result .given .1))
 
 same-length-2 : tie.Need-same-length-2
 same-length-2 c = search needs
@@ -34,7 +35,7 @@ returns-2 c =
     let searched = told .before .before in
     let a = searched .before .before .before in
     stepped-as (a .args .list .now) (a .args .n) _ _ _ _
-    (step-resolved (a .args .list .now) (a .args .n) (a .args .x) _ _ (searched .resolve-searching .ensures) (told .result2 .given .1))
+    (step-resolved goldilocks (a .args .list .now) (a .args .n) (a .args .x) _ _ (searched .resolve-searching .ensures) (told .result2 .given .1))
     (c .before .before .append .ensures)
 
 pub enter-spec : {M : Type 1} → statement M

@@ -1,3 +1,4 @@
+use Rattle.field.specs.Fields.{goldilocks}
 use Rattle.builder.specs.RequestLaws.{noted-place, noted-node}
 use borrow.Author.Needs.{needs}
 use Rattle.builder.proofs.push.Statement.{statement}
@@ -41,7 +42,7 @@ returns c =
     let at-result = c .before in
     let at-resolve = at-result .before .before in
     let start = at-resolve .before .before .before .before .before in
-    noted-place (start .args .list .now) (start .args .n) (start .args .x) (start .pre .0) _ _ _ (at-resolve .resolve .ensures)
+    noted-place goldilocks (start .args .list .now) (start .args .n) (start .args .x) (start .pre .0) _ _ _ (at-resolve .resolve .ensures)
     (at-result .result .given .1) (start .pre .1)
 
 same-length-3 : tie.Need-same-length-3
@@ -60,7 +61,7 @@ returns-2 c =
     let at-result2 = at-put-node .before .before .before in
     let at-resolve = at-result2 .before .before in
     let start = at-resolve .before .before .before .before .before in
-    noted-node (start .args .list .now) (start .args .n) (start .args .x) (start .pre .0) _ _ _ _ _ _ _ _ (at-resolve .resolve .ensures)
+    noted-node goldilocks (start .args .list .now) (start .args .n) (start .args .x) (start .pre .0) _ _ _ _ _ _ _ _ (at-resolve .resolve .ensures)
     (at-result2 .result2 .given .1) (at-put-node .put-node .ensures) (start .pre .1) (at-tag-of .tag-of .ensures) (at-first-of .first-of .ensures)
     (at-second-of .second-of .ensures) (at-note .note .ensures)
 

@@ -5,8 +5,7 @@ use native.Mathlib.Nat.{lt-of-lt-of-le}
 use native.Mathlib.Omega.{arith}
 use borrow.Author.Needs.{needs}
 use lib.ListN.{length}
-use Rattle.field.specs.Field.{felt}
-use Rattle.field.specs.Generators.{generator, half}
+use Rattle.field.specs.Fields.{goldilocks}
 use Rattle.columns.specs.Prepare as Prepare
 use Rattle.columns.specs.ArrayLaws.{fill-next, fill-all}
 use Rattle.coefficients.specs.Terms as Terms
@@ -16,7 +15,7 @@ use Rattle.coefficients.proofs.dense.Statement.{statement}
 use Rattle.coefficients.proofs.dense.Tie as tie
 
 abbrev Inv-loop : tie.InvT-loop
-Inv-loop col scale sums coefficients₀ j₀ coefficients j = (j ≤ length col) × (coefficients ≡ Prepare.padded 0 128 (Prepare.upTo (Terms.dense felt generator half col) j))
+Inv-loop col scale sums coefficients₀ j₀ coefficients j = (j ≤ length col) × (coefficients ≡ Prepare.padded 0 128 (Prepare.upTo (Terms.dense goldilocks col) j))
 
 abbrev μ-loop : tie.MeasureT-loop
 μ-loop col scale sums coefficients₀ j₀ coefficients j = length col - j
@@ -64,7 +63,7 @@ loop-again c =
     let at-sums = at-loop .before in
     let at-size-inverse = at-sums .before in
     let start = at-size-inverse .before .before in
-    let told = dense-told _ (start .pre) _ _ _ _ _ (at-loop-test .loop-test .taken) (at-sums .sums .ensures) refl
+    let told = dense-told goldilocks _ (start .pre) _ _ _ _ _ (at-loop-test .loop-test .taken) (at-sums .sums .ensures) refl
     (at-size-inverse .size-inverse .ensures .0) (c .mul .ensures .0) in
     (omega arith, fill-next _ _ _ _ _ _ (lt-of-lt-of-le (at-loop-test .loop-test .taken) (start .pre .short)) (at-loop .loop .inv .1) told)
 

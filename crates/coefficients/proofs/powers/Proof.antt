@@ -4,6 +4,7 @@ use mathlib.Core.Path.{_≡_, refl}
 use native.Mathlib.Nat.{lt-of-lt-of-le}
 use native.Mathlib.Omega.{arith}
 use lib.Dec.{lit<}
+use Rattle.field.specs.Fields.{goldilocks}
 use Rattle.ring.specs.Power.{pow}
 use Rattle.field.specs.Field.{p, felt}
 use Rattle.columns.specs.Prepare as Prepare
@@ -21,7 +22,7 @@ abbrev μ-loop : tie.MeasureT-loop
 
 loop-holds : tie.Need-loop-holds Inv-loop μ-loop
 unfolding Prepare.padded Prepare.upTo
-loop-holds c = (omega arith, refl, pow-start _, lit< tt)
+loop-holds c = (omega arith, refl, pow-start goldilocks _, lit< tt)
 
 mul-row : tie.Need-mul-row Inv-loop μ-loop
 mul-row c = omega arith
@@ -46,7 +47,7 @@ loop-again c =
       omega arith,
       fill-next _ _ _ _ _ _ (lt-of-lt-of-le (at-loop-test .loop-test .taken) (start .pre .1)) (at-loop .loop .inv .1)
           (at-loop .loop .inv .2),
-      pow-next _ _ _ _ (at-loop .loop .inv .2) (c .mul .ensures .0),
+      pow-next goldilocks _ _ _ _ (at-loop .loop .inv .2) (c .mul .ensures .0),
       c .mul .ensures .1,
     )
 

@@ -6,8 +6,7 @@ use native.Mathlib.Nat.{lt-of-lt-of-le}
 use native.Mathlib.Omega.{arith}
 use borrow.Author.Needs.{needs}
 use lib.ListN.{length, replicate}
-use Rattle.field.specs.Field.{felt}
-use Rattle.field.specs.Generators.{generator, half}
+use Rattle.field.specs.Fields.{goldilocks}
 use Rattle.columns.specs.Prepare as Prepare
 use Rattle.columns.specs.ArrayLaws.{fill-next, fill-all}
 use Rattle.coefficients.specs.Arrays as Arrays
@@ -16,7 +15,7 @@ use Rattle.coefficients.proofs.sparse_twiddles.Statement.{statement}
 use Rattle.coefficients.proofs.sparse_twiddles.Tie as tie
 
 abbrev Inv-loop : tie.InvT-loop
-Inv-loop col places step log rows₀ k₀ rows k = (k ≤ length places) × (rows ≡ Prepare.padded (replicate 7 0) 11 (Prepare.upTo (Arrays.twiddles felt generator half col) k))
+Inv-loop col places step log rows₀ k₀ rows k = (k ≤ length places) × (rows ≡ Prepare.padded (replicate 7 0) 11 (Prepare.upTo (Arrays.twiddles goldilocks col) k))
 
 abbrev μ-loop : tie.MeasureT-loop
 μ-loop col places step log rows₀ k₀ rows k = length places - k
@@ -68,7 +67,7 @@ loop-again c =
     let at-log-length = at-loop .before in
     let at-root-inverse = at-log-length .before in
     let start = at-root-inverse .before .before .before in
-    let told = row-told _ _ _ _ _ _ _ (ap (λ l. getD l (at-loop .loop .k) 0) (start .pre .1 .are)) (at-root-inverse .root-inverse .ensures .0)
+    let told = row-told goldilocks _ _ _ _ _ _ _ (ap (λ l. getD l (at-loop .loop .k) 0) (start .pre .1 .are)) (at-root-inverse .root-inverse .ensures .0)
     (at-pow .pow .ensures .0) (at-log-length .log-length .ensures .0) (c .squares .ensures) in
     (omega arith, fill-next _ _ _ _ _ _ (lt-of-lt-of-le (at-loop-test .loop-test .taken) (start .pre .1 .few)) (at-loop .loop .inv .1) told)
 

@@ -5,8 +5,8 @@ use native.Mathlib.Nat.{lt-of-lt-of-le}
 use native.Mathlib.Omega.{arith}
 use borrow.Author.Needs.{needs}
 use lib.ListN.{length, getD}
-use Rattle.field.specs.Field.{p, felt}
-use Rattle.field.specs.Generators.{generator, half}
+use Rattle.field.specs.Fields.{goldilocks}
+use Rattle.field.specs.Field.{p}
 use Rattle.columns.specs.Columns as Columns
 use Rattle.columns.specs.Prepare as Prepare
 use Rattle.columns.specs.ArrayLaws.{fill-next, fill-all}
@@ -18,7 +18,7 @@ use Rattle.coefficients.proofs.sparse_values.Statement.{statement}
 use Rattle.coefficients.proofs.sparse_values.Tie as tie
 
 abbrev Inv-loop : tie.InvT-loop
-Inv-loop col places scale values₀ k₀ values k = (k ≤ length places) × (values ≡ Prepare.padded 0 11 (Prepare.upTo (λ i. Terms.scaledValue felt generator half col (getD (Columns.support col) i 0)) k))
+Inv-loop col places scale values₀ k₀ values k = (k ≤ length places) × (values ≡ Prepare.padded 0 11 (Prepare.upTo (λ i. Terms.scaledValue goldilocks col (getD (Columns.support col) i 0)) k))
 
 abbrev μ-loop : tie.MeasureT-loop
 μ-loop col places scale values₀ k₀ values k = length places - k
@@ -81,7 +81,7 @@ loop-again c =
     let start = at-size-inverse .before .before .before in (
       omega arith,
       fill-next _ _ _ _ _ _ (lt-of-lt-of-le (at-loop-test .loop-test .taken) (start .pre .1 .few)) (at-loop .loop .inv .1)
-          (value-told _ _ _ _ _ (start .pre .1 .are) (at-size-inverse .size-inverse .ensures .0) (c .mul .ensures .0)),
+          (value-told goldilocks _ _ _ _ _ (start .pre .1 .are) (at-size-inverse .size-inverse .ensures .0) (c .mul .ensures .0)),
     )
 
 returns : tie.Need-returns Inv-loop μ-loop

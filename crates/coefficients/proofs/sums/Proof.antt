@@ -3,7 +3,7 @@ use Prim.Native.Nat.{_/_}
 use native.Mathlib.Omega.{arith}
 use borrow.Author.Needs.{needs}
 use lib.ListN.{length}
-use Rattle.field.specs.Field.{felt}
+use Rattle.field.specs.Fields.{goldilocks}
 use Rattle.coefficients.specs.Arrays as Arrays
 use Rattle.coefficients.specs.Split as Split
 use Rattle.coefficients.specs.SplitLaws.{reached-start, reached-next, reached-end, reached-fits, low-powers, rows-fit}
@@ -11,7 +11,7 @@ use Rattle.coefficients.proofs.sums.Statement.{statement}
 use Rattle.coefficients.proofs.sums.Tie as tie
 
 abbrev Inv-loop : tie.InvT-loop
-Inv-loop col factors table₀ s₀ n₀ table s n = Split.Reached col s n table
+Inv-loop col factors table₀ s₀ n₀ table s n = Split.Reached goldilocks col s n table
 
 abbrev μ-loop : tie.MeasureT-loop
 μ-loop col factors table₀ s₀ n₀ table s n = s
@@ -26,7 +26,7 @@ copied-requires : tie.Need-copied-requires Inv-loop μ-loop
 copied-requires c κs = c .before .before .before .pre .short
 
 loop-holds : tie.Need-loop-holds Inv-loop μ-loop
-loop-holds c = rw (c .copied .ensures) (reached-start _ (c .before .before .before .before .pre))
+loop-holds c = rw (c .copied .ensures) (reached-start goldilocks _ (c .before .before .before .before .pre))
 
 halved-requires : tie.Need-halved-requires Inv-loop μ-loop
 halved-requires c κs =
@@ -36,9 +36,9 @@ halved-requires c κs =
     let start-2 = at-powers .before .before .before in
     let start = start-2 .pre in (
       at-loop .loop .inv .low,
-      low-powers _ start _ _ (at-powers .powers .ensures),
+      low-powers goldilocks _ start _ _ (at-powers .powers .ensures),
       omega (arith, at-loop-test .loop-test .taken),
-      reached-fits _
+      reached-fits goldilocks _
           start _ _ _ (at-loop .loop .inv),
     )
 
@@ -48,7 +48,7 @@ mul-n c =
     let at-loop = at-loop-test .before in
     let start-2 = at-loop .before .before .before .before .before in
     let start = start-2 .pre in
-    let fits = reached-fits _ start _ _ _ (at-loop .loop .inv) in
+    let fits = reached-fits goldilocks _ start _ _ _ (at-loop .loop .inv) in
     omega (arith, rows-fit (at-loop .loop .s / 2) _ (omega (arith, at-loop-test .loop-test .taken)) fits)
 
 loop-less : tie.Need-loop-less Inv-loop μ-loop
@@ -61,14 +61,14 @@ loop-again c =
     let at-powers = at-loop .before .before in
     let at-root-inverse = at-powers .before in
     let start = at-root-inverse .before .before in
-    reached-next _ (start .pre) _ _ _ _ _ _ (at-loop-test .loop-test .taken) (at-root-inverse .root-inverse .ensures .0) (at-powers .powers .ensures)
+    reached-next goldilocks _ (start .pre) _ _ _ _ _ _ (at-loop-test .loop-test .taken) (at-root-inverse .root-inverse .ensures .0) (at-powers .powers .ensures)
     (at-loop .loop .inv) (c .halved .ensures)
 
 returns : tie.Need-returns Inv-loop μ-loop
 returns c =
     let at-loop = c .before in
     let start = at-loop .before .before .before .before .before in
-    reached-end _ (start .pre) _ _ _ (c .loop-test .left) (at-loop .loop .inv)
+    reached-end goldilocks _ (start .pre) _ _ _ (c .loop-test .left) (at-loop .loop .inv)
 
 pub sums-spec : {M : Type 1} → statement M
 sums-spec =

@@ -5,16 +5,18 @@ use mathlib.Core.Path.{_≡_, sym, _∙_, ap}
 use native.Mathlib.Omega.{arith}
 use borrow.Author.Needs.{needs}
 use lib.ListN.{length}
+use Rattle.dag.specs.CheckLaws.{first-all, first-stop, first-next, first-none}
+use Rattle.dag.specs.Refusals.{firstRefused}
 use Rattle.field.specs.Field.{p}
 use Rattle.dag.specs.BranchLaws.{told}
 use Rattle.dag.specs.declared.Checked.the-variants.{Good}
 use Rattle.columns.specs.Prepare as Prepare
-use Rattle.columns.specs.PrepareLaws.{first-none, first-next, first-stop, first-all, entries-good, entries-bad}
+use Rattle.columns.specs.PrepareLaws.{entries-good, entries-bad}
 use Rattle.columns.proofs.entries_check.Statement.{statement}
 use Rattle.columns.proofs.entries_check.Tie as tie
 
 abbrev Inv-loop : tie.InvT-loop
-Inv-loop lengths entries j₀ j = (j ≤ length lengths) × (Prepare.firstOf (Prepare.entriesCheck p (Prepare.columns lengths entries)) j ≡ Good)
+Inv-loop lengths entries j₀ j = (j ≤ length lengths) × (firstRefused (Prepare.entriesCheck p (Prepare.columns lengths entries)) j ≡ Good)
 
 abbrev μ-loop : tie.MeasureT-loop
 μ-loop lengths entries j₀ j = length lengths - j

@@ -1,3 +1,4 @@
+use Rattle.field.specs.Fields.{goldilocks}
 use Rattle.columns.specs.CostLaws.{unit-told, scaled-told}
 use borrow.Author.Tests.{eq-eqb}
 use Rattle.columns.specs.Columns as Columns
@@ -13,13 +14,13 @@ sub-requires : tie.Need-sub-requires
 sub-requires c κs = search needs
 
 returns-2 : tie.Need-returns-2
-returns-2 c = unit-told _ _ _ (c .before .before .if1 .left) (c .before .sub .ensures .0) (c .if2 .taken)
+returns-2 c = unit-told goldilocks _ _ _ (c .before .before .if1 .left) (c .before .sub .ensures .0) (c .if2 .taken)
 
 sub-result : tie.Need-sub-result
 sub-result c = search needs
 
 returns-3 : tie.Need-returns-3
-returns-3 c = scaled-told _ _ _ (c .before .before .if1 .left) (c .before .sub .ensures .0) (c .if2 .left)
+returns-3 c = scaled-told goldilocks _ _ _ (c .before .before .if1 .left) (c .before .sub .ensures .0) (c .if2 .left)
 
 pub is-scaled-spec : {M : Type 1} → statement M
 is-scaled-spec = tie.close (tie.spec returns sub-requires returns-2 sub-result returns-3)

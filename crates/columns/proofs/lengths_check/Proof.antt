@@ -5,15 +5,17 @@ use mathlib.Core.Path.{_≡_}
 use native.Mathlib.Omega.{arith}
 use borrow.Author.Needs.{needs}
 use lib.ListN.{length}
+use Rattle.dag.specs.CheckLaws.{first-all, first-stop, first-next, first-none}
+use Rattle.dag.specs.Refusals.{firstRefused}
 use Rattle.dag.specs.BranchLaws.{told}
 use Rattle.dag.specs.declared.Checked.the-variants.{Good}
 use Rattle.columns.specs.Prepare as Prepare
-use Rattle.columns.specs.PrepareLaws.{first-none, first-next, first-stop, first-all, length-good, length-bad}
+use Rattle.columns.specs.PrepareLaws.{length-good, length-bad}
 use Rattle.columns.proofs.lengths_check.Statement.{statement}
 use Rattle.columns.proofs.lengths_check.Tie as tie
 
 abbrev Inv-loop : tie.InvT-loop
-Inv-loop lengths i₀ i = (i ≤ length lengths) × (Prepare.firstOf (Prepare.lengthCheck lengths) i ≡ Good)
+Inv-loop lengths i₀ i = (i ≤ length lengths) × (firstRefused (Prepare.lengthCheck lengths) i ≡ Good)
 
 abbrev μ-loop : tie.MeasureT-loop
 μ-loop lengths i₀ i = length lengths - i

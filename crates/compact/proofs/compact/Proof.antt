@@ -1,4 +1,5 @@
 use native.Mathlib.Omega.{arith}
+use Rattle.field.specs.Fields.{goldilocks}
 use Rattle.compact.specs.CallLaws.{answer-refused, result-refused, may-compact, may-blank, answer-done, result-done}
 use Rattle.dag.specs.BranchLaws.{told}
 use borrow.Author.Needs.{needs}
@@ -19,7 +20,7 @@ compact-sized-requires c κs =
     let at-enum-told = c .before in
     let at-compact-check = at-enum-told .before .before in
     let start = at-compact-check .before .before .before in
-    may-compact (start .args .list .now) (start .args .n) (start .args .root) (start .args .result .now)
+    may-compact goldilocks (start .args .list .now) (start .args .n) (start .args .root) (start .args .result .now)
     (told (at-compact-check .compact-check .ensures) (at-enum-told .enum-told .given .1))
 
 mul-blank-from : tie.Need-mul-blank-from
@@ -30,7 +31,7 @@ mul-blank-from c =
     let start = at-compact-check .before .before .before in
     omega (
       arith,
-      may-blank (start .args .list .now) (start .args .n) (start .args .root) (start .args .result .now)
+      may-blank goldilocks (start .args .list .now) (start .args .n) (start .args .root) (start .args .result .now)
           (told (at-compact-check .compact-check .ensures) (at-enum-told .enum-told .given .1)) _ (at-compact-sized .compact-sized .ensures .0) _
           (at-compact-sized .compact-sized .ensures .1),
       (at-compact-sized .compact-sized .kept .1 .1 .1 .0),
@@ -45,7 +46,7 @@ blank-from-requires c κs =
     let start = at-compact-check .before .before .before in
     omega (
       arith,
-      may-blank (start .args .list .now) (start .args .n) (start .args .root) (start .args .result .now)
+      may-blank goldilocks (start .args .list .now) (start .args .n) (start .args .root) (start .args .result .now)
           (told (at-compact-check .compact-check .ensures) (at-enum-told .enum-told .given .1)) _ (at-compact-sized .compact-sized .ensures .0) _
           (at-compact-sized .compact-sized .ensures .1),
     )
@@ -55,9 +56,9 @@ returns c =
     let at-checked = c .before in
     let at-compact-check = at-checked .before .before in
     let start = at-compact-check .before .before .before in (
-      answer-refused (start .args .list .now) (start .args .n) (start .args .root) (start .args .result .now) _
+      answer-refused goldilocks (start .args .list .now) (start .args .n) (start .args .root) (start .args .result .now) _
           (told (at-compact-check .compact-check .ensures) (at-checked .checked .given .1)),
-      result-refused (start .args .list .now) (start .args .n)
+      result-refused goldilocks (start .args .list .now) (start .args .n)
           (start .args .root) (start .args .result .now) _ (told (at-compact-check .compact-check .ensures) (at-checked .checked .given .1)),
     )
 
@@ -71,9 +72,9 @@ returns-2 c =
     let at-enum-told = at-compact-sized .before .before in
     let at-compact-check = at-enum-told .before .before in
     let start = at-compact-check .before .before .before in (
-      answer-done (start .args .list .now) (start .args .n) (start .args .root) (start .args .result .now)
+      answer-done goldilocks (start .args .list .now) (start .args .n) (start .args .root) (start .args .result .now)
           (told (at-compact-check .compact-check .ensures) (at-enum-told .enum-told .given .1)) _ (at-compact-sized .compact-sized .ensures .0),
-      result-done (start .args .list .now) (start .args .n) (start .args .root) (start .args .result .now)
+      result-done goldilocks (start .args .list .now) (start .args .n) (start .args .root) (start .args .result .now)
           (told (at-compact-check .compact-check .ensures) (at-enum-told .enum-told .given .1)) _ (at-compact-sized .compact-sized .ensures .0) _
           (at-compact-sized .compact-sized .ensures .1) _ (at-blank-from .blank-from .ensures),
     )

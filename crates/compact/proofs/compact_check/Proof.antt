@@ -1,9 +1,9 @@
 use mathlib.Core.Path.{_∙_}
 use borrow.Author.Tests.{le-leb, lt-leb}
+use Rattle.field.specs.Fields.{goldilocks}
 use Rattle.dag.specs.CheckLaws.{refused-then, good-told, bad-told}
 use Rattle.compact.specs.Calls as Calls
 use native.Mathlib.Omega.{arith}
-use Rattle.field.specs.Field.{p}
 use Rattle.dag.specs.PassLaws.{rooted}
 use borrow.Author.Needs.{needs}
 use Rattle.compact.proofs.compact_check.Statement.{statement}
@@ -20,7 +20,7 @@ unfolding Calls.compactCheck
 returns c = c .before .before .list-check .ensures ∙ refused-then _ _ (bad-told (c .before .before .list-check .ensures) (c .before .is-refused .ensures) (c .if1 .taken))
 
 mul-if2 : tie.Need-mul-if2
-mul-if2 c = let h = rooted p _ _ _ (good-told (c .before .before .list-check .ensures) (c .before .is-refused .ensures) (c .if1 .left)) in omega (arith, h .list .most)
+mul-if2 c = let h = rooted (goldilocks .bounds) _ _ _ (good-told (c .before .before .list-check .ensures) (c .before .is-refused .ensures) (c .if1 .left)) in omega (arith, h .list .most)
 
 returns-2 : tie.Need-returns-2
 unfolding Calls.compactCheck

@@ -1,3 +1,4 @@
+use Rattle.field.specs.Fields.{goldilocks}
 use Rattle.compact.specs.LoopLaws.{sweep-none}
 use Rattle.dag.specs.NodeLaws.{at-nodes}
 use Rattle.compact.specs.LoopLaws.{operands-inside, sweep-marked, sweep-unmarked}
@@ -32,7 +33,7 @@ node-at-requires : tie.Need-node-at-requires Inv-loop μ-loop
 node-at-requires c κs =
     let at-point = c .before .before .before .before .before .before .before in
     let start = at-point in
-    omega (arith, start .pre .sound .room)
+    omega (arith, start .pre .sound .1 .room)
 
 mark-operands-requires : tie.Need-mark-operands-requires Inv-loop μ-loop
 mark-operands-requires c κs =

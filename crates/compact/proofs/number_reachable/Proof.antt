@@ -1,4 +1,5 @@
 use native.Mathlib.Omega.{arith}
+use Rattle.field.specs.Fields.{goldilocks}
 use Rattle.compact.specs.CallLaws.{unmarked-long, numbered}
 use borrow.Author.Needs.{needs}
 use Rattle.compact.proofs.number_reachable.Statement.{statement}

@@ -3,6 +3,7 @@ use mathlib.Core.Path.{_≡_, refl, sym, _∙_}
 use native.Mathlib.Nat.{le-antisymm}
 use native.Mathlib.Omega.{arith}
 use lib.ListN.{length}
+use Rattle.field.specs.Fields.{goldilocks}
 use Rattle.dag.specs.Nodes.{nodes}
 use Rattle.compact.specs.Compact.{kept}
 use Rattle.compact.specs.LoopLaws.{record-fine, place-room, write-kept, write-skipped}
@@ -43,7 +44,7 @@ node-at-requires : tie.Need-node-at-requires Inv-loop μ-loop
 node-at-requires c κs =
     let at-point = c .before .before .before .before .before .before .before .before .before .before in
     let start = at-point in
-    omega (arith, (start .pre .sound .room))
+    omega (arith, (start .pre .sound .1 .room))
 
 renamed-requires : tie.Need-renamed-requires Inv-loop μ-loop
 renamed-requires c κs =

@@ -1,4 +1,5 @@
 use mathlib.Core.Path.{_∙_, ap}
+use Rattle.field.specs.Fields.{goldilocks}
 use Rattle.compact.specs.CallLaws.{kept-list, root-place, may-write}
 use Rattle.dag.specs.Store.{written}
 use borrow.Author.Needs.{needs}

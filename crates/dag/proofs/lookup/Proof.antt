@@ -1,4 +1,3 @@
-use Rattle.field.specs.Field.{p}
 use Rattle.dag.specs.BranchLaws.{told}
 use Rattle.dag.specs.StoreLaws.{search-on, search-hit, search-none}
 use Prim.Native.Nat.{_≤_}
@@ -33,7 +32,7 @@ sub-i c = omega arith
 words-are-requires : tie.Need-words-are-requires Inv-loop μ-loop
 words-are-requires c κs =
     let start = c .before .before .before .before .before .before in
-    omega (arith, start .pre .room)
+    omega (arith, start .pre .1 .room)
 
 returns : tie.Need-returns Inv-loop μ-loop
 returns c =
@@ -44,8 +43,8 @@ returns c =
     let at-first-of = at-second-of .before in
     let at-tag-of = at-first-of .before in
     let start = at-tag-of .before .before in
-    search-hit p (start .args .list .now) (start .args .n) (start .args .x) (at-tag-of .tag-of .result) (at-first-of .first-of .result)
-    (at-second-of .second-of .result) (start .pre) (at-tag-of .tag-of .ensures) (at-first-of .first-of .ensures) (at-second-of .second-of .ensures)
+    search-hit (start .pre .0) (start .args .list .now) (start .args .n) (start .args .x) (at-tag-of .tag-of .result) (at-first-of .first-of .result)
+    (at-second-of .second-of .result) (start .pre .1) (at-tag-of .tag-of .ensures) (at-first-of .first-of .ensures) (at-second-of .second-of .ensures)
     (at-loop .loop .i) (at-loop-test .loop-test .taken) (at-loop .loop .inv .1) (told (at-words-are .words-are .ensures) (c .if1 .taken))
 
 loop-less : tie.Need-loop-less Inv-loop μ-loop
@@ -61,7 +60,7 @@ loop-again c =
     let at-tag-of = at-first-of .before in
     let start = at-tag-of .before .before in (
       omega arith,
-      search-on p (start .args .list .now) (start .args .n) (start .args .x) (at-tag-of .tag-of .result) (at-first-of .first-of .result)
+      search-on (start .pre .0) (start .args .list .now) (start .args .n) (start .args .x) (at-tag-of .tag-of .result) (at-first-of .first-of .result)
           (at-second-of .second-of .result) (at-loop .loop .i) (at-loop-test .loop-test .taken) (at-loop .loop .inv .1)
           (told (at-words-are .words-are .ensures) (c .if1 .left)),
     )
@@ -73,8 +72,8 @@ returns-2 c =
     let at-first-of = at-second-of .before in
     let at-tag-of = at-first-of .before in
     let start = at-tag-of .before .before in
-    search-none p (start .args .list .now) (start .args .n) (start .args .x) (at-tag-of .tag-of .result) (at-first-of .first-of .result)
-    (at-second-of .second-of .result) (start .pre) (at-tag-of .tag-of .ensures) (at-first-of .first-of .ensures) (at-second-of .second-of .ensures)
+    search-none (start .pre .0) (start .args .list .now) (start .args .n) (start .args .x) (at-tag-of .tag-of .result) (at-first-of .first-of .result)
+    (at-second-of .second-of .result) (start .pre .1) (at-tag-of .tag-of .ensures) (at-first-of .first-of .ensures) (at-second-of .second-of .ensures)
     (at-loop .loop .i) (c .loop-test .left) (at-loop .loop .inv .1)
 
 pub lookup-spec : {M : Type 1} → statement M

@@ -1,3 +1,5 @@
+use Rattle.dag.specs.Refusals.{firstRefused}
+use Rattle.field.specs.Fields.{goldilocks}
 use Rattle.dag.specs.CheckLaws.{good-told, bad-told}
 use Prim.Native.Nat.{_≤_, _-_}
 use native.Mathlib.Nat.{le-antisymm}
@@ -5,21 +7,20 @@ use native.Mathlib.Numerals.{add-one}
 use native.Mathlib.Omega.{arith}
 use borrow.Author.Needs.{needs}
 use mathlib.Core.Path.{_≡_, refl, sym, _∙_}
-use Rattle.field.specs.Field.{p}
 use Rattle.dag.specs.Check as Check
-use Rattle.dag.specs.CheckLaws.{check-next, stops-here}
+use Rattle.dag.specs.CheckLaws.{first-next, first-bad}
 use Rattle.dag.specs.declared.Checked.the-variants.{Good}
 use Rattle.dag.proofs.records_check.Statement.{statement}
 use Rattle.dag.proofs.records_check.Tie as tie
 
 abbrev Inv-loop : tie.InvT-loop
-Inv-loop list n i₀ i = (i ≤ n) × (Check.recordsCheck p list i ≡ Good)
+Inv-loop list n i₀ i = (i ≤ n) × (Check.recordsCheck (goldilocks .bounds) list i ≡ Good)
 
 abbrev μ-loop : tie.MeasureT-loop
 μ-loop list n i₀ i = n - i
 
 loop-holds : tie.Need-loop-holds Inv-loop μ-loop
-unfolding Check.recordsCheck
+unfolding firstRefused
 loop-holds c = (omega arith, refl)
 
 check-at-requires : tie.Need-check-at-requires Inv-loop μ-loop
@@ -33,7 +34,7 @@ returns c =
     let at-is-refused = c .before in
     let at-check-at = at-is-refused .before in
     let at-loop = at-check-at .before .before in
-    at-check-at .check-at .ensures ∙ stops-here p _ _ _ (at-loop .loop .inv .1)
+    at-check-at .check-at .ensures ∙ first-bad (Check.checkAt (goldilocks .bounds) _) _ _ (at-loop .loop .inv .1)
     (bad-told (at-check-at .check-at .ensures) (at-is-refused .is-refused .ensures) (c .if1 .taken)) (omega arith)
 
 add-i : tie.Need-add-i Inv-loop μ-loop
@@ -48,7 +49,7 @@ loop-again c =
     let at-check-at = at-is-refused .before in
     let at-loop = at-check-at .before .before in (
       omega arith,
-      rw add-one (check-next p _ _ (at-loop .loop .inv .1) ∙ good-told (at-check-at .check-at .ensures) (at-is-refused .is-refused .ensures)
+      first-next (Check.checkAt (goldilocks .bounds) _) _ (at-loop .loop .inv .1) (good-told (at-check-at .check-at .ensures) (at-is-refused .is-refused .ensures)
           (c .if1 .left)),
     )
 

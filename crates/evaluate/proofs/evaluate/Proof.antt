@@ -1,4 +1,5 @@
 -- `evaluate::evaluate` meets its contract.
+use Rattle.field.specs.Fields.{goldilocks}
 use Rattle.dag.specs.BranchLaws.{told}
 use Rattle.evaluate.specs.CallLaws.{words-refused, words-tested}
 use borrow.Author.Needs.{needs}
@@ -15,10 +16,10 @@ enum-told : tie.Need-enum-told
 enum-told c = search needs
 
 evaluate-sized-requires : tie.Need-evaluate-sized-requires
-evaluate-sized-requires c κs = words-tested _ _ _ _ _ (told (c .before .before .words-check .ensures) (c .enum-told .given .1))
+evaluate-sized-requires c κs = words-tested goldilocks _ _ _ _ _ (told (c .before .before .words-check .ensures) (c .enum-told .given .1))
 
 returns : tie.Need-returns
-returns c = words-refused _ _ _ _ _ _ (told (c .before .before .before .words-check .ensures) (c .before .checked .given .1))
+returns c = words-refused goldilocks _ _ _ _ _ _ (told (c .before .before .before .words-check .ensures) (c .before .checked .given .1))
 
 returns-2 : tie.Need-returns-2
 returns-2 c = search needs

@@ -1,4 +1,5 @@
 -- `evaluate::evaluate_sized` meets its contract.
+use Rattle.field.specs.Fields.{goldilocks}
 use Rattle.evaluate.specs.CallLaws.{list-most, entries-most}
 use borrow.Author.Needs.{needs}
 use Rattle.evaluate.proofs.evaluate_sized.Statement.{statement}
@@ -22,7 +23,7 @@ returns-2 c = search needs
 evaluate-large-requires : tie.Need-evaluate-large-requires
 evaluate-large-requires c κs =
     let start = c .before .before .before .before .before in
-    (start .pre, list-most _ _ _ _ _ (start .pre), entries-most _ _ _ _ _ (start .pre))
+    (start .pre, list-most goldilocks _ _ _ _ _ (start .pre), entries-most goldilocks _ _ _ _ _ (start .pre))
 
 returns-3 : tie.Need-returns-3
 returns-3 c = search needs

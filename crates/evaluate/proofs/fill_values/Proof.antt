@@ -5,11 +5,13 @@ use native.Mathlib.Nat.{le-antisymm}
 use native.Mathlib.Omega.{arith}
 use borrow.Author.Needs.{needs}
 use lib.ListN.{length}
+use Rattle.dag.specs.Refusals.{firstRefused}
+use Rattle.field.specs.Fields.{goldilocks}
 use Rattle.dag.specs.Nodes.{nodes}
 use Rattle.dag.specs.BranchLaws.{told}
 use Rattle.dag.specs.declared.Checked.the-variants.{Good, Refused}
 use Rattle.dag.specs.declared.Refusal.{Refusal}
-use Rattle.evaluate.specs.Entries.{inputsCheck, firstRefused, entryOf}
+use Rattle.evaluate.specs.Entries.{inputsCheck, entryOf}
 use Rattle.evaluate.specs.Calls.{entryWords}
 use Rattle.evaluate.specs.Contracts.{Filled}
 use Rattle.evaluate.specs.ValueStepLaws.{may-value, filled-more, input-more, input-none}
@@ -23,7 +25,7 @@ never e = let z : _≡_ {A = ℕ} 0 1 = cc in absurd (omega arith)
 abbrev Inv-loop : tie.InvT-loop
 Inv-loop list n assignment m links c0₀ c1₀ i₀ c0 c1 i =
     (i ≤ n) × (length c0 ≡ length c0₀) × (length c1 ≡ length c1₀)
-    × Filled list n assignment m c0 c1 i × (inputsCheck (entryOf entryWords assignment m) (nodes list n) i ≡ Good)
+    × Filled goldilocks list n assignment m c0 c1 i × (inputsCheck (entryOf entryWords assignment m) (nodes list n) i ≡ Good)
 
 abbrev μ-loop : tie.MeasureT-loop
 μ-loop list n assignment m links c0₀ c1₀ i₀ c0 c1 i = n - i
@@ -36,7 +38,7 @@ value-of-requires : tie.Need-value-of-requires Inv-loop μ-loop
 value-of-requires c κs =
     let at-loop = c .before .before .before in
     let start = at-loop .before .before .before .before .before .before in (
-      may-value _ _ _ _ _ (start .pre .0 .0) _ _ _ (omega arith) (omega (arith, start .pre .0 .0 .fits, at-loop .loop .inv .1))
+      may-value goldilocks _ _ _ _ _ (start .pre .0 .0) _ _ _ (omega arith) (omega (arith, start .pre .0 .0 .fits, at-loop .loop .inv .1))
           (omega (arith, start .pre .0 .1, at-loop .loop .inv .2)) (at-loop .loop .inv .3),
       (start .pre .0 .0 .lent, start .pre .1),
     )
@@ -59,7 +61,7 @@ returns c =
     let at-value-of = c .before .before in
     let at-loop = at-value-of .before .before .before .before in
     let start = at-loop .before .before .before .before .before .before in (
-      input-none _ _ _ _ _ (start .pre .0 .0) _ _ (omega arith) (at-loop .loop .inv .4)
+      input-none goldilocks _ _ _ _ _ (start .pre .0 .0) _ _ (omega arith) (at-loop .loop .inv .4)
           (sym (told (at-value-of .value-of .ensures) (c .enum-told .given .1))),
       λ e. never e,
     )
@@ -90,10 +92,10 @@ loop-again c =
       omega arith,
       at-put-element .put-element .kept .0 ∙ at-loop .loop .inv .1,
       at-put-element .put-element .kept .1 .0 ∙ at-loop .loop .inv .2,
-      filled-more _ _ _ _ _ (start .pre .0 .0) _ _ _ (omega arith) (omega (arith, start .pre .0 .0 .fits, at-loop .loop .inv .1))
+      filled-more goldilocks _ _ _ _ _ (start .pre .0 .0) _ _ _ (omega arith) (omega (arith, start .pre .0 .0 .fits, at-loop .loop .inv .1))
           (omega (arith, start .pre .0 .1, at-loop .loop .inv .2)) (at-loop .loop .inv .3) _ _ _ e (at-put-element .put-element .ensures .0)
           (at-put-element .put-element .ensures .1),
-      input-more _ _ _ _ _ (start .pre .0 .0) _ _ (omega arith) (at-loop .loop .inv .4) _ e,
+      input-more goldilocks _ _ _ _ _ (start .pre .0 .0) _ _ (omega arith) (at-loop .loop .inv .4) _ e,
     )
 
 same-length-3 : tie.Need-same-length-3 Inv-loop μ-loop

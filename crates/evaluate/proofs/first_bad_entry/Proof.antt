@@ -1,9 +1,10 @@
-use Rattle.evaluate.specs.EntryLaws.{entry-room, refused-here, refused-next}
+use Rattle.dag.specs.Refusals.{firstRefused}
+use Rattle.field.specs.Fields.{goldilocks}
+use Rattle.evaluate.specs.EntryLaws.{entry-room}
 use Rattle.dag.specs.declared.Checked.the-variants.{Good}
-use Rattle.dag.specs.CheckLaws.{good-told, bad-told}
+use Rattle.dag.specs.CheckLaws.{first-next, first-bad, good-told, bad-told}
 use native.Mathlib.Nat.{le-antisymm}
 use Rattle.evaluate.specs.Entries as Entries
-use Rattle.field.specs.Field.{p}
 use borrow.Author.Needs.{needs}
 use native.Mathlib.Omega.{arith}
 use mathlib.Core.Path.{_≡_, refl, sym, _∙_}
@@ -12,13 +13,13 @@ use Rattle.evaluate.proofs.first_bad_entry.Statement.{statement}
 use Rattle.evaluate.proofs.first_bad_entry.Tie as tie
 
 abbrev Inv-loop : tie.InvT-loop
-Inv-loop entries width m i₀ i = (i ≤ m) × (Entries.firstRefused (Entries.entryCheck p width entries) i ≡ Good)
+Inv-loop entries width m i₀ i = (i ≤ m) × (firstRefused (Entries.entryCheck (goldilocks .bounds) width entries) i ≡ Good)
 
 abbrev μ-loop : tie.MeasureT-loop
 μ-loop entries width m i₀ i = m - i
 
 loop-holds : tie.Need-loop-holds Inv-loop μ-loop
-unfolding Entries.firstRefused
+unfolding firstRefused
 loop-holds c = (omega arith, refl)
 
 entry-check-requires : tie.Need-entry-check-requires Inv-loop μ-loop
@@ -32,7 +33,7 @@ returns c =
     let at-is-refused = c .before in
     let at-entry-check = at-is-refused .before in
     let at-loop = at-entry-check .before .before in
-    at-entry-check .entry-check .ensures ∙ refused-here (Entries.entryCheck p _ _) _ _ (at-loop .loop .inv .1)
+    at-entry-check .entry-check .ensures ∙ first-bad (Entries.entryCheck (goldilocks .bounds) _ _) _ _ (at-loop .loop .inv .1)
     (bad-told (at-entry-check .entry-check .ensures) (at-is-refused .is-refused .ensures) (c .if1 .taken)) (omega arith)
 
 add-i : tie.Need-add-i Inv-loop μ-loop
@@ -47,7 +48,7 @@ loop-again c =
     let at-entry-check = at-is-refused .before in
     let at-loop = at-entry-check .before .before in (
       omega arith,
-      refused-next (Entries.entryCheck p _ _) _ (at-loop .loop .inv .1)
+      first-next (Entries.entryCheck (goldilocks .bounds) _ _) _ (at-loop .loop .inv .1)
           (good-told (at-entry-check .entry-check .ensures) (at-is-refused .is-refused .ensures) (c .if1 .left)),
     )
 

@@ -1,4 +1,5 @@
 -- `evaluate::value_of` meets its contract, record by record.
+use Rattle.field.specs.Fields.{goldilocks}
 use Rattle.evaluate.specs.RecordLaws.{input-value, constant-value, add-value, sub-value, mul-value, neg-value, add-before, sub-before, mul-before, neg-before, low-read}
 use Rattle.evaluate.specs.Contracts.{elementAt}
 use native.Mathlib.Omega.{arith}
@@ -30,7 +31,7 @@ element-at-requires c κs =
     let start = at-node-at .before .before .before .before .before .before in
     omega (
       arith,
-      add-before (start .args .list .now) (start .args .i) (start .args .c0 .now) (start .args .c1 .now) (start .pre .0)
+      add-before goldilocks (start .args .list .now) (start .args .i) (start .args .c0 .now) (start .args .c1 .now) (start .pre .0)
           (at-node-at .node-at .ensures) (at-x3 .x3 .given .1),
       start .pre .0 .first,
       start .pre .0 .second,
@@ -43,7 +44,7 @@ element-at-requires-2 c κs =
     let start = at-node-at .before .before .before .before .before .before in
     omega (
       arith,
-      add-before (start .args .list .now) (start .args .i) (start .args .c0 .now) (start .args .c1 .now) (start .pre .0)
+      add-before goldilocks (start .args .list .now) (start .args .i) (start .args .c0 .now) (start .args .c1 .now) (start .pre .0)
           (at-node-at .node-at .ensures) (at-x3 .x3 .given .1),
       start .pre .0 .first,
       start .pre .0 .second,
@@ -55,10 +56,10 @@ add-requires c κs =
     let at-x3 = at-element-at .before .before in
     let at-node-at = at-x3 .before .before in
     let start = at-node-at .before .before .before .before .before .before in
-    let h = add-before (start .args .list .now) (start .args .i) (start .args .c0 .now) (start .args .c1 .now) (start .pre .0)
+    let h = add-before goldilocks (start .args .list .now) (start .args .i) (start .args .c0 .now) (start .args .c1 .now) (start .pre .0)
     (at-node-at .node-at .ensures) (at-x3 .x3 .given .1) in (
-      low-read (start .pre .0) _ (omega arith) (at-element-at .element-at .ensures),
-      low-read (start .pre .0) _ (omega arith)
+      low-read goldilocks (start .pre .0) _ (omega arith) (at-element-at .element-at .ensures),
+      low-read goldilocks (start .pre .0) _ (omega arith)
           (c .element-at2 .ensures),
     )
 
@@ -72,7 +73,7 @@ element-at-requires-3 c κs =
     let start = at-node-at .before .before .before .before .before .before in
     omega (
       arith,
-      sub-before (start .args .list .now) (start .args .i) (start .args .c0 .now) (start .args .c1 .now) (start .pre .0)
+      sub-before goldilocks (start .args .list .now) (start .args .i) (start .args .c0 .now) (start .args .c1 .now) (start .pre .0)
           (at-node-at .node-at .ensures) (at-x4 .x4 .given .1),
       start .pre .0 .first,
       start .pre .0 .second,
@@ -85,7 +86,7 @@ element-at-requires-4 c κs =
     let start = at-node-at .before .before .before .before .before .before in
     omega (
       arith,
-      sub-before (start .args .list .now) (start .args .i) (start .args .c0 .now) (start .args .c1 .now) (start .pre .0)
+      sub-before goldilocks (start .args .list .now) (start .args .i) (start .args .c0 .now) (start .args .c1 .now) (start .pre .0)
           (at-node-at .node-at .ensures) (at-x4 .x4 .given .1),
       start .pre .0 .first,
       start .pre .0 .second,
@@ -97,10 +98,10 @@ sub-requires c κs =
     let at-x4 = at-element-at3 .before .before in
     let at-node-at = at-x4 .before .before in
     let start = at-node-at .before .before .before .before .before .before in
-    let h = sub-before (start .args .list .now) (start .args .i) (start .args .c0 .now) (start .args .c1 .now) (start .pre .0)
+    let h = sub-before goldilocks (start .args .list .now) (start .args .i) (start .args .c0 .now) (start .args .c1 .now) (start .pre .0)
     (at-node-at .node-at .ensures) (at-x4 .x4 .given .1) in (
-      low-read (start .pre .0) _ (omega arith) (at-element-at3 .element-at3 .ensures),
-      low-read (start .pre .0) _ (omega arith)
+      low-read goldilocks (start .pre .0) _ (omega arith) (at-element-at3 .element-at3 .ensures),
+      low-read goldilocks (start .pre .0) _ (omega arith)
           (c .element-at4 .ensures),
     )
 
@@ -114,7 +115,7 @@ element-at-requires-5 c κs =
     let start = at-node-at .before .before .before .before .before .before in
     omega (
       arith,
-      mul-before (start .args .list .now) (start .args .i) (start .args .c0 .now) (start .args .c1 .now) (start .pre .0)
+      mul-before goldilocks (start .args .list .now) (start .args .i) (start .args .c0 .now) (start .args .c1 .now) (start .pre .0)
           (at-node-at .node-at .ensures) (at-x5 .x5 .given .1),
       start .pre .0 .first,
       start .pre .0 .second,
@@ -127,7 +128,7 @@ element-at-requires-6 c κs =
     let start = at-node-at .before .before .before .before .before .before in
     omega (
       arith,
-      mul-before (start .args .list .now) (start .args .i) (start .args .c0 .now) (start .args .c1 .now) (start .pre .0)
+      mul-before goldilocks (start .args .list .now) (start .args .i) (start .args .c0 .now) (start .args .c1 .now) (start .pre .0)
           (at-node-at .node-at .ensures) (at-x5 .x5 .given .1),
       start .pre .0 .first,
       start .pre .0 .second,
@@ -139,10 +140,10 @@ mul-requires c κs =
     let at-x5 = at-element-at5 .before .before in
     let at-node-at = at-x5 .before .before in
     let start = at-node-at .before .before .before .before .before .before in
-    let h = mul-before (start .args .list .now) (start .args .i) (start .args .c0 .now) (start .args .c1 .now) (start .pre .0)
+    let h = mul-before goldilocks (start .args .list .now) (start .args .i) (start .args .c0 .now) (start .args .c1 .now) (start .pre .0)
     (at-node-at .node-at .ensures) (at-x5 .x5 .given .1) in (
-      low-read (start .pre .0) _ (omega arith) (at-element-at5 .element-at5 .ensures),
-      low-read (start .pre .0) _ (omega arith)
+      low-read goldilocks (start .pre .0) _ (omega arith) (at-element-at5 .element-at5 .ensures),
+      low-read goldilocks (start .pre .0) _ (omega arith)
           (c .element-at6 .ensures),
     )
 
@@ -156,7 +157,7 @@ element-at-requires-7 c κs =
     let start = at-node-at .before .before .before .before .before .before in
     omega (
       arith,
-      neg-before (start .args .list .now) (start .args .i) (start .args .c0 .now) (start .args .c1 .now) (start .pre .0)
+      neg-before goldilocks (start .args .list .now) (start .args .i) (start .args .c0 .now) (start .args .c1 .now) (start .pre .0)
           (at-node-at .node-at .ensures) (at-x6 .x6 .given .1),
       start .pre .0 .first,
       start .pre .0 .second,
@@ -167,7 +168,7 @@ neg-requires c κs =
     let at-x6 = c .before .before in
     let at-node-at = at-x6 .before .before in
     let start = at-node-at .before .before .before .before .before .before in
-    low-read (start .pre .0) _ (neg-before (start .args .list .now) (start .args .i) (start .args .c0 .now) (start .args .c1 .now) (start .pre .0)
+    low-read goldilocks (start .pre .0) _ (neg-before goldilocks (start .args .list .now) (start .args .i) (start .args .c0 .now) (start .args .c1 .now) (start .pre .0)
     (at-node-at .node-at .ensures) (at-x6 .x6 .given .1)) (c .element-at7 .ensures)
 
 returns : tie.Need-returns
@@ -175,7 +176,7 @@ returns c =
     let at-x = c .before .before in
     let at-node-at = at-x .before .before in
     let start = at-node-at .before .before .before .before .before .before in
-    input-value (start .args .assignment .now) (start .args .m) (elementAt (start .args .c0 .now) (start .args .c1 .now)) (at-node-at .node-at .ensures)
+    input-value goldilocks (start .args .assignment .now) (start .args .m) (elementAt (start .args .c0 .now) (start .args .c1 .now)) (at-node-at .node-at .ensures)
     (at-x .x .given .1) (c .given .ensures)
 
 returns-2 : tie.Need-returns-2
@@ -183,7 +184,7 @@ returns-2 c =
     let at-x2 = c .before in
     let at-node-at = at-x2 .before .before in
     let start = at-node-at .before .before .before .before .before .before in
-    constant-value (start .args .assignment .now) (start .args .m) (elementAt (start .args .c0 .now) (start .args .c1 .now))
+    constant-value goldilocks (start .args .assignment .now) (start .args .m) (elementAt (start .args .c0 .now) (start .args .c1 .now))
     (at-node-at .node-at .ensures) (at-x2 .x2 .given .1)
 
 returns-3 : tie.Need-returns-3
@@ -193,7 +194,7 @@ returns-3 c =
     let at-x3 = at-element-at .before .before in
     let at-node-at = at-x3 .before .before in
     let start = at-node-at .before .before .before .before .before .before in
-    add-value (start .args .assignment .now) (start .args .m) (elementAt (start .args .c0 .now) (start .args .c1 .now)) (at-node-at .node-at .ensures)
+    add-value goldilocks (start .args .assignment .now) (start .args .m) (elementAt (start .args .c0 .now) (start .args .c1 .now)) (at-node-at .node-at .ensures)
     (at-element-at .element-at .ensures) (at-element-at2 .element-at2 .ensures) (at-x3 .x3 .given .1) (c .add .ensures .0)
 
 returns-4 : tie.Need-returns-4
@@ -203,7 +204,7 @@ returns-4 c =
     let at-x4 = at-element-at3 .before .before in
     let at-node-at = at-x4 .before .before in
     let start = at-node-at .before .before .before .before .before .before in
-    sub-value (start .args .assignment .now) (start .args .m) (elementAt (start .args .c0 .now) (start .args .c1 .now)) (at-node-at .node-at .ensures)
+    sub-value goldilocks (start .args .assignment .now) (start .args .m) (elementAt (start .args .c0 .now) (start .args .c1 .now)) (at-node-at .node-at .ensures)
     (at-element-at3 .element-at3 .ensures) (at-element-at4 .element-at4 .ensures) (at-x4 .x4 .given .1) (c .sub .ensures .0)
 
 returns-5 : tie.Need-returns-5
@@ -213,7 +214,7 @@ returns-5 c =
     let at-x5 = at-element-at5 .before .before in
     let at-node-at = at-x5 .before .before in
     let start = at-node-at .before .before .before .before .before .before in
-    mul-value (start .args .assignment .now) (start .args .m) (elementAt (start .args .c0 .now) (start .args .c1 .now)) (at-node-at .node-at .ensures)
+    mul-value goldilocks (start .args .assignment .now) (start .args .m) (elementAt (start .args .c0 .now) (start .args .c1 .now)) (at-node-at .node-at .ensures)
     (at-element-at5 .element-at5 .ensures) (at-element-at6 .element-at6 .ensures) (at-x5 .x5 .given .1) (c .mul .ensures .0)
 
 returns-6 : tie.Need-returns-6
@@ -222,7 +223,7 @@ returns-6 c =
     let at-x6 = at-element-at7 .before .before in
     let at-node-at = at-x6 .before .before in
     let start = at-node-at .before .before .before .before .before .before in
-    neg-value (start .args .assignment .now) (start .args .m) (elementAt (start .args .c0 .now) (start .args .c1 .now)) (at-node-at .node-at .ensures)
+    neg-value goldilocks (start .args .assignment .now) (start .args .m) (elementAt (start .args .c0 .now) (start .args .c1 .now)) (at-node-at .node-at .ensures)
     (at-element-at7 .element-at7 .ensures) (at-x6 .x6 .given .1) (c .neg .ensures .0)
 
 pub value-of-spec : {M : Type 1} → statement M

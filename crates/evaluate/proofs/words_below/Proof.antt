@@ -3,14 +3,14 @@ use mathlib.Core.Bool.{true}
 use mathlib.Core.Path.{_≡_, sym}
 use native.Mathlib.Omega.{arith}
 use native.Mathlib.Nat.{le-antisymm}
+use Rattle.field.specs.Fields.{goldilocks, bound-p}
 use Rattle.evaluate.specs.EntryLaws.{words-none, words-next, words-fail}
 use Rattle.evaluate.specs.Entries.{wordsBelow}
-use Rattle.field.specs.Field.{p}
 use Rattle.evaluate.proofs.words_below.Statement.{statement}
 use Rattle.evaluate.proofs.words_below.Tie as tie
 
 abbrev Inv-loop : tie.InvT-loop
-Inv-loop entries from to i₀ i = (from ≤ i) × (i ≤ to) × (wordsBelow p entries from (i - from) ≡ true)
+Inv-loop entries from to i₀ i = (from ≤ i) × (i ≤ to) × (wordsBelow (goldilocks .bounds) entries from (i - from) ≡ true)
 
 abbrev μ-loop : tie.MeasureT-loop
 μ-loop entries from to i₀ i = to - i
@@ -25,7 +25,10 @@ shared-slice-read-if1 : tie.Need-shared-slice-read-if1 Inv-loop μ-loop
 shared-slice-read-if1 c = omega arith
 
 returns : tie.Need-returns Inv-loop μ-loop
-returns c = words-fail _ _ _ _ _ (omega arith) (omega arith) (c .if1 .taken)
+returns c =
+    let at-loop = c .before .before .before in
+    let start = at-loop .before in
+    words-fail (goldilocks .bounds) (start .args .entries .now) (start .args .from) (at-loop .loop .i) _ (omega arith) (omega arith) (rw bound-p (c .if1 .taken))
 
 add-i : tie.Need-add-i Inv-loop μ-loop
 add-i c = omega arith
@@ -34,7 +37,7 @@ loop-less : tie.Need-loop-less Inv-loop μ-loop
 loop-less c = omega arith
 
 loop-again : tie.Need-loop-again Inv-loop μ-loop
-loop-again c = (omega arith, omega arith, words-next _ _ _ _ (omega arith) (c .before .before .before .loop .inv .2) (c .if1 .left))
+loop-again c = (omega arith, omega arith, words-next _ _ _ _ (omega arith) (c .before .before .before .loop .inv .2) (rw bound-p (c .if1 .left)))
 
 returns-2 : tie.Need-returns-2 Inv-loop μ-loop
 returns-2 c = sym (rw (le-antisymm (c .before .loop .inv .1) (c .loop-test .left)) at (c .before .loop .inv .2))

@@ -4,9 +4,10 @@ use native.Mathlib.Numerals.{add-one}
 use native.Mathlib.Nat.{le-antisymm}
 use native.Mathlib.Omega.{arith}
 use borrow.Author.Needs.{needs}
-use Rattle.field.specs.Field.{p}
+use Rattle.dag.specs.Refusals.{firstRefused}
+use Rattle.field.specs.Fields.{goldilocks}
 use Rattle.dag.specs.declared.Checked.the-variants.{Good}
-use Rattle.dag.specs.CheckLaws.{good-told, bad-told, check-next, stops-here}
+use Rattle.dag.specs.CheckLaws.{good-told, bad-told, first-next, first-bad}
 use Rattle.dag.specs.Check as Check
 use Rattle.house_file.specs.FileLaws.{checked}
 use Rattle.house_file.specs.File as File
@@ -14,13 +15,13 @@ use Rattle.house_file.proofs.records_check.Statement.{statement}
 use Rattle.house_file.proofs.records_check.Tie as tie
 
 abbrev Inv-loop : tie.InvT-loop
-Inv-loop file n i₀ i = (i ≤ n) × (Check.recordsCheck p (File.wordsOfFirst file n) i ≡ Good)
+Inv-loop file n i₀ i = (i ≤ n) × (Check.recordsCheck (goldilocks .bounds) (File.wordsOfFirst file n) i ≡ Good)
 
 abbrev μ-loop : tie.MeasureT-loop
 μ-loop file n i₀ i = n - i
 
 loop-holds : tie.Need-loop-holds Inv-loop μ-loop
-unfolding Check.recordsCheck
+unfolding firstRefused
 loop-holds c = (omega arith, refl)
 
 words-at-requires : tie.Need-words-at-requires Inv-loop μ-loop
@@ -41,7 +42,7 @@ returns c =
     let at-loop = at-loop-test .before in
     let start = at-loop .before .before in
     checked (start .args .file .now) (start .args .n) (at-loop .loop .i) (at-loop-test .loop-test .taken) _ (at-words-at .words-at .ensures)
-    (at-record-check .record-check .ensures) ∙ stops-here p _ _ _ (at-loop .loop .inv .1)
+    (at-record-check .record-check .ensures) ∙ first-bad (Check.checkAt (goldilocks .bounds) _) _ _ (at-loop .loop .inv .1)
     (bad-told (checked (start .args .file .now) (start .args .n) (at-loop .loop .i) (at-loop-test .loop-test .taken) _
     (at-words-at .words-at .ensures) (at-record-check .record-check .ensures)) (at-is-refused .is-refused .ensures) (c .if1 .taken))
     (at-loop-test .loop-test .taken)
@@ -61,7 +62,7 @@ loop-again c =
     let at-loop = at-loop-test .before in
     let start = at-loop .before .before in (
       omega arith,
-      rw add-one (check-next p _ _ (at-loop .loop .inv .1) ∙ good-told
+      first-next (Check.checkAt (goldilocks .bounds) _) _ (at-loop .loop .inv .1) (good-told
           (checked (start .args .file .now) (start .args .n) (at-loop .loop .i) (at-loop-test .loop-test .taken) _ (at-words-at .words-at .ensures)
           (at-record-check .record-check .ensures)) (at-is-refused .is-refused .ensures) (c .if1 .left)),
     )

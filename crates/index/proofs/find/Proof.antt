@@ -1,6 +1,5 @@
 use native.Mathlib.Omega.{arith}
 use borrow.Author.Needs.{needs}
-use Rattle.field.specs.Field.{p}
 use Rattle.dag.specs.BranchLaws.{told}
 use Rattle.dag.specs.NodeLaws.{length-nodes}
 use Rattle.index.specs.NodeIndexLaws.{Standing, sound-first, standing-below, find-begin, find-on, find-down, find-hit, find-none, find-plain}
@@ -45,13 +44,13 @@ loop-holds c =
     let at-tag-of = at-first-of .before in
     let start = at-tag-of .before .before .before in
     find-begin (start .args .list .now) (start .args .n) (start .args .links .now) (at-tag-of .tag-of .result) (at-first-of .first-of .result)
-    (at-second-of .second-of .result) p (start .pre .0) (start .pre .1) _ _ (at-bucket-of .bucket-of .ensures .0) (at-hash .hash .ensures .0)
+    (at-second-of .second-of .result) (start .pre .0 .0) (start .pre .0 .1) (start .pre .1) _ _ (at-bucket-of .bucket-of .ensures .0) (at-hash .hash .ensures .0)
 
 lookup-requires : tie.Need-lookup-requires Inv-loop μ-loop
 lookup-requires c κs =
     let at-loop = c .before .before in
     let start = at-loop .before .before .before .before .before .before .before .before .before in
-    let h = standing-below _ _ _ _ _ _ _ (at-loop .loop .inv) in sound-first p _ _ _ h (start .pre .0)
+    let h = standing-below _ _ _ _ _ _ _ (at-loop .loop .inv) in (start .pre .0 .0, sound-first (start .pre .0 .0) _ _ _ h (start .pre .0 .1))
 
 returns : tie.Need-returns Inv-loop μ-loop
 returns c =
@@ -61,7 +60,7 @@ returns c =
     let at-tag-of = at-first-of .before in
     let start = at-tag-of .before .before .before in
     find-plain (start .args .list .now) (start .args .n) (start .args .links .now) (at-tag-of .tag-of .result) (at-first-of .first-of .result)
-    (at-second-of .second-of .result) p (start .pre .0) (start .pre .1) (start .args .x) (at-tag-of .tag-of .ensures)
+    (at-second-of .second-of .result) (start .pre .0 .0) (start .pre .0 .1) (start .pre .1) (start .args .x) (at-tag-of .tag-of .ensures)
     (at-first-of .first-of .ensures) (at-second-of .second-of .ensures) _ (at-loop .loop .inv) (c .lookup .ensures)
 
 sub-i : tie.Need-sub-i Inv-loop μ-loop
@@ -72,7 +71,7 @@ words-are-requires c κs =
     let at-loop-test = c .before in
     let at-loop = at-loop-test .before in
     let start = at-loop .before .before .before .before .before .before .before .before .before in
-    let h = standing-below _ _ _ _ _ _ _ (at-loop .loop .inv) in omega (arith, h, (at-loop-test .loop-test .taken), (start .pre .0 .room))
+    let h = standing-below _ _ _ _ _ _ _ (at-loop .loop .inv) in omega (arith, h, (at-loop-test .loop-test .taken), (start .pre .0 .1 .room))
 
 returns-2 : tie.Need-returns-2 Inv-loop μ-loop
 returns-2 c =
@@ -84,7 +83,7 @@ returns-2 c =
     let at-tag-of = at-first-of .before in
     let start = at-tag-of .before .before .before in
     find-hit (start .args .list .now) (start .args .n) (start .args .links .now) (at-tag-of .tag-of .result) (at-first-of .first-of .result)
-    (at-second-of .second-of .result) p (start .pre .0) (start .pre .1) (start .args .x) (at-tag-of .tag-of .ensures)
+    (at-second-of .second-of .result) (start .pre .0 .0) (start .pre .0 .1) (start .pre .1) (start .args .x) (at-tag-of .tag-of .ensures)
     (at-first-of .first-of .ensures) (at-second-of .second-of .ensures) _ (at-loop .loop .inv) (omega (arith, (at-loop-test .loop-test .taken)))
     (told (at-words-are .words-are .ensures) (c .if2 .taken))
 
@@ -124,7 +123,7 @@ loop-less c =
     let at-tag-of = at-first-of .before in
     let start = at-tag-of .before .before .before in
     find-down (start .args .list .now) (start .args .n) (start .args .links .now) (at-tag-of .tag-of .result) (at-first-of .first-of .result)
-    (at-second-of .second-of .result) p (start .pre .0) (start .pre .1) _ (at-loop .loop .inv) (omega (arith, (at-loop-test .loop-test .taken)))
+    (at-second-of .second-of .result) (start .pre .0 .0) (start .pre .0 .1) (start .pre .1) _ (at-loop .loop .inv) (omega (arith, (at-loop-test .loop-test .taken)))
 
 loop-again : tie.Need-loop-again Inv-loop μ-loop
 loop-again c =
@@ -137,7 +136,7 @@ loop-again c =
     let at-tag-of = at-first-of .before in
     let start = at-tag-of .before .before .before in
     find-on (start .args .list .now) (start .args .n) (start .args .links .now) (at-tag-of .tag-of .result) (at-first-of .first-of .result)
-    (at-second-of .second-of .result) p (start .pre .0) (start .pre .1) _ (at-loop .loop .inv) (omega (arith, (at-loop-test .loop-test .taken)))
+    (at-second-of .second-of .result) (start .pre .0 .0) (start .pre .0 .1) (start .pre .1) _ (at-loop .loop .inv) (omega (arith, (at-loop-test .loop-test .taken)))
     (told (at-words-are .words-are .ensures) (at-if2 .if2 .left))
 
 returns-3 : tie.Need-returns-3 Inv-loop μ-loop
@@ -148,7 +147,7 @@ returns-3 c =
     let at-tag-of = at-first-of .before in
     let start = at-tag-of .before .before .before in
     find-none (start .args .list .now) (start .args .n) (start .args .links .now) (at-tag-of .tag-of .result) (at-first-of .first-of .result)
-    (at-second-of .second-of .result) p (start .pre .0) (start .pre .1) (start .args .x) (at-tag-of .tag-of .ensures)
+    (at-second-of .second-of .result) (start .pre .0 .0) (start .pre .0 .1) (start .pre .1) (start .args .x) (at-tag-of .tag-of .ensures)
     (at-first-of .first-of .ensures) (at-second-of .second-of .ensures) _ (at-loop .loop .inv) (omega (arith, (c .loop-test .left)))
 
 pub find-spec : {M : Type 1} → statement M

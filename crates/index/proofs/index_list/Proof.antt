@@ -4,7 +4,6 @@ use native.Mathlib.Nat.{le-antisymm}
 use native.Mathlib.Omega.{arith}
 use lib.ListN.{length}
 use borrow.Author.Needs.{needs}
-use Rattle.field.specs.Field.{p}
 use Rattle.dag.specs.Nodes as Nodes
 use Rattle.index.specs.Index as Index
 use Rattle.index.specs.NodeIndexLaws.{index-next}
@@ -28,67 +27,67 @@ mul-note : tie.Need-mul-note Inv-loop μ-loop
 mul-note c =
     let at-loop-test = c .before in
     let start = at-loop-test .before .before .before .before .before .before .before .before in
-    omega (arith, (at-loop-test .loop-test .taken), (start .pre .0 .room))
+    omega (arith, (at-loop-test .loop-test .taken), (start .pre .0 .1 .room))
 
 mul-note-2 : tie.Need-mul-note-2 Inv-loop μ-loop
 mul-note-2 c =
     let at-loop-test = c .before in
     let start = at-loop-test .before .before .before .before .before .before .before .before in
-    omega (arith, (at-loop-test .loop-test .taken), (start .pre .0 .room))
+    omega (arith, (at-loop-test .loop-test .taken), (start .pre .0 .1 .room))
 
 shared-slice-read-note : tie.Need-shared-slice-read-note Inv-loop μ-loop
 shared-slice-read-note c =
     let at-loop-test = c .before .before in
     let start = at-loop-test .before .before .before .before .before .before .before .before in
-    omega (arith, (at-loop-test .loop-test .taken), (start .pre .0 .room))
+    omega (arith, (at-loop-test .loop-test .taken), (start .pre .0 .1 .room))
 
 mul-note-3 : tie.Need-mul-note-3 Inv-loop μ-loop
 mul-note-3 c =
     let at-loop-test = c .before .before in
     let start = at-loop-test .before .before .before .before .before .before .before .before in
-    omega (arith, (at-loop-test .loop-test .taken), (start .pre .0 .room))
+    omega (arith, (at-loop-test .loop-test .taken), (start .pre .0 .1 .room))
 
 add-note : tie.Need-add-note Inv-loop μ-loop
 add-note c =
     let at-loop-test = c .before .before in
     let start = at-loop-test .before .before .before .before .before .before .before .before in
-    omega (arith, (at-loop-test .loop-test .taken), (start .pre .0 .room))
+    omega (arith, (at-loop-test .loop-test .taken), (start .pre .0 .1 .room))
 
 mul-note-4 : tie.Need-mul-note-4 Inv-loop μ-loop
 mul-note-4 c =
     let at-loop-test = c .before .before in
     let start = at-loop-test .before .before .before .before .before .before .before .before in
-    omega (arith, (at-loop-test .loop-test .taken), (start .pre .0 .room))
+    omega (arith, (at-loop-test .loop-test .taken), (start .pre .0 .1 .room))
 
 shared-slice-read-note-2 : tie.Need-shared-slice-read-note-2 Inv-loop μ-loop
 shared-slice-read-note-2 c =
     let at-loop-test = c .before .before .before in
     let start = at-loop-test .before .before .before .before .before .before .before .before in
-    omega (arith, (at-loop-test .loop-test .taken), (start .pre .0 .room))
+    omega (arith, (at-loop-test .loop-test .taken), (start .pre .0 .1 .room))
 
 mul-note-5 : tie.Need-mul-note-5 Inv-loop μ-loop
 mul-note-5 c =
     let at-loop-test = c .before .before .before in
     let start = at-loop-test .before .before .before .before .before .before .before .before in
-    omega (arith, (at-loop-test .loop-test .taken), (start .pre .0 .room))
+    omega (arith, (at-loop-test .loop-test .taken), (start .pre .0 .1 .room))
 
 add-note-2 : tie.Need-add-note-2 Inv-loop μ-loop
 add-note-2 c =
     let at-loop-test = c .before .before .before in
     let start = at-loop-test .before .before .before .before .before .before .before .before in
-    omega (arith, (at-loop-test .loop-test .taken), (start .pre .0 .room))
+    omega (arith, (at-loop-test .loop-test .taken), (start .pre .0 .1 .room))
 
 mul-note-6 : tie.Need-mul-note-6 Inv-loop μ-loop
 mul-note-6 c =
     let at-loop-test = c .before .before .before in
     let start = at-loop-test .before .before .before .before .before .before .before .before in
-    omega (arith, (at-loop-test .loop-test .taken), (start .pre .0 .room))
+    omega (arith, (at-loop-test .loop-test .taken), (start .pre .0 .1 .room))
 
 shared-slice-read-note-3 : tie.Need-shared-slice-read-note-3 Inv-loop μ-loop
 shared-slice-read-note-3 c =
     let at-loop-test = c .before .before .before .before in
     let start = at-loop-test .before .before .before .before .before .before .before .before in
-    omega (arith, (at-loop-test .loop-test .taken), (start .pre .0 .room))
+    omega (arith, (at-loop-test .loop-test .taken), (start .pre .0 .1 .room))
 
 note-requires : tie.Need-note-requires Inv-loop μ-loop
 note-requires c κs =
@@ -118,7 +117,7 @@ loop-again c =
     let start = at-clear .before .before .before .before in (
       omega (arith, (at-loop-test .loop-test .taken)),
       (at-note .note .kept .0) ∙ (at-loop .loop .inv .1),
-      index-next p _ _ _ _ _ (start .pre .0)
+      index-next (start .pre .0 .0) _ _ _ _ _ (start .pre .0 .1)
           (at-loop-test .loop-test .taken) (rw ((at-loop .loop .inv .1), (at-clear .clear .kept .0)) (start .pre .2)) (at-loop .loop .inv .2)
           (at-note .note .ensures),
     )

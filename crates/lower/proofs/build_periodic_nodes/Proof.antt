@@ -4,14 +4,13 @@ use mathlib.Core.Path.{_≡_, refl, sym, _∙_, ap}
 use mathlib.Core.List.{[]}
 use native.Mathlib.Omega.{arith}
 use lib.ListN.{length}
-use Rattle.field.specs.Field.{p, quad}
+use Rattle.field.specs.Fields.{goldilocks}
+use Rattle.field.specs.Field.{p}
 use Rattle.periodic.specs.Builder as Builder
 use Rattle.periodic.specs.Periodic as Periodic
 use Rattle.periodic.specs.Contracts as Said
 use Rattle.periodic.specs.RunLaws.{entered-ready}
 use Rattle.periodic.specs.ListLaws.{list-none, list-next, list-all, set-length}
-use Rattle.field.specs.Field.{felt}
-use Rattle.field.specs.Generators.{generator, half}
 use Rattle.columns.specs.Prepare as Prepare
 use Rattle.columns.specs.ColumnLaws.{length-columns}
 use Rattle.columns.specs.SavingLaws.{length-gains, length-each}
@@ -20,7 +19,7 @@ use Rattle.lower.proofs.build_periodic_nodes.Statement.{statement}
 use Rattle.lower.proofs.build_periodic_nodes.Tie as tie
 
 abbrev Inv-loop : tie.InvT-loop
-Inv-loop list₀ n lengths entries log places₀ gains each count₀ j₀ list places count j = (j ≤ length lengths) × (length places ≡ length places₀) × Said.Listing list₀ count₀ (Builder.turns (λ j ps. Builder.also ps (Periodic.columnNode quad p felt generator half (Prepare.columns lengths entries) log j)) j []) list count places j × Said.Ready list count
+Inv-loop list₀ n lengths entries log places₀ gains each count₀ j₀ list places count j = (j ≤ length lengths) × (length places ≡ length places₀) × Said.Listing goldilocks list₀ count₀ (Builder.turns (λ j ps. Builder.also ps (Periodic.columnNode goldilocks (Prepare.columns lengths entries) log j)) j []) list count places j × Said.Ready goldilocks list count
 
 abbrev μ-loop : tie.MeasureT-loop
 μ-loop list₀ n lengths entries log places₀ gains each count₀ j₀ list places count j = length lengths - j
@@ -43,7 +42,7 @@ savings-each-requires c κs =
 loop-holds : tie.Need-loop-holds Inv-loop μ-loop
 loop-holds c =
     let start = c .before .before .before .before .before .before .before in
-    (omega arith, refl, list-none _ _ _ _ _ _ refl (none-inside _), start .pre .0)
+    (omega arith, refl, list-none goldilocks _ _ _ _ _ _ refl (none-inside _), start .pre .0)
 
 slice-aggregate-column-node : tie.Need-slice-aggregate-column-node Inv-loop μ-loop
 slice-aggregate-column-node c =
@@ -94,9 +93,9 @@ loop-again c =
     let h : at-loop .loop .j < length (at-loop .loop .places) = omega (arith, start .pre .2) in (
       omega arith,
       set-length (at-loop .loop .places) _ _ _ (at-loop .loop .inv .1),
-      list-next _ _ _ _ _ _ _ _ _ _ _ h (at-loop .loop .inv .2)
+      list-next goldilocks _ _ _ _ _ _ _ _ _ _ _ h (at-loop .loop .inv .2)
           (at-column-node .column-node .ensures),
-      entered-ready _ _ _ _ _ (at-loop .loop .inv .3) (at-column-node .column-node .ensures),
+      entered-ready goldilocks _ _ _ _ _ (at-loop .loop .inv .3) (at-column-node .column-node .ensures),
     )
 
 same-length : tie.Need-same-length Inv-loop μ-loop
@@ -111,7 +110,7 @@ returns c =
     let at-loop = c .before in
     let start = at-loop .before .before .before .before .before .before .before .before in
     let n = length-columns (start .args .lengths .now) (start .args .entries .now) in
-    rw n (list-all _ _ _ _ _ _ _ _ _ _ _ (at-loop .loop .inv .0) (c .loop-test .left) (omega arith) (at-loop .loop .inv .2))
+    rw n (list-all goldilocks _ _ _ _ _ _ _ _ _ _ _ (at-loop .loop .inv .0) (c .loop-test .left) (omega arith) (at-loop .loop .inv .2))
 
 pub build-periodic-nodes-spec : {M : Type 1} → statement M
 build-periodic-nodes-spec =

@@ -1,5 +1,6 @@
 use mathlib.Core.Path.{ap}
 use native.Mathlib.Omega.{arith}
+use Rattle.field.specs.Fields.{goldilocks}
 use Rattle.field.specs.Field.{p}
 use Rattle.columns.specs.Columns as Columns
 use Rattle.columns.specs.PrepareLaws.{tested-column}
@@ -33,7 +34,7 @@ column-value-requires c κs =
     let start = at-column .before .before .before .before .before .before in (
       start .pre .0,
       rw (at-column .column .ensures) (tested-column p _ _ _ (start .pre .3) (start .pre .2 .tested)),
-      formed-of _ _ _ _ _
+      formed-of goldilocks _ _ _ _ _
           (start .pre .2 .tested .handed) (start .pre .3) (at-column .column .ensures) (at-column-form .column-form .ensures),
     )
 
@@ -46,7 +47,7 @@ returns c =
     let at-log-length = at-column-value .before in
     let at-column-form = at-log-length .before .before in
     let at-column = at-column-form .before in
-    entering-same _ _ _ _ _ _ (node-is _ _ _ _ _ _ (at-column .column .ensures) (at-column-form .column-form .ensures)
+    entering-same goldilocks _ _ _ _ _ _ (node-is goldilocks _ _ _ _ _ _ (at-column .column .ensures) (at-column-form .column-form .ensures)
     (at-log-length .log-length .ensures .0)) (at-column-value .column-value .ensures)
 
 pub column-node-spec : {M : Type 1} → statement M

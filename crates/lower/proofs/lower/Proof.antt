@@ -1,4 +1,5 @@
 use mathlib.Core.Path.{sym, _∙_}
+use Rattle.field.specs.Fields.{goldilocks}
 use Rattle.lower.specs.CallLaws.{passed, lower-refused, lower-done}
 use borrow.Author.Needs.{needs}
 use Rattle.lower.proofs.lower.Statement.{statement}
@@ -14,11 +15,11 @@ enum-told : tie.Need-enum-told
 enum-told c = search needs
 
 lower-ready-requires : tie.Need-lower-ready-requires
-lower-ready-requires c κs = passed _ _ _ _ _ _ _ (sym (c .before .before .before .before .before .lower-check .ensures) ∙ c .before .before .before .enum-told .given .1)
+lower-ready-requires c κs = passed goldilocks _ _ _ _ _ _ _ (sym (c .before .before .before .before .before .lower-check .ensures) ∙ c .before .before .before .enum-told .given .1)
 
 returns : tie.Need-returns
 returns c =
-    let d = lower-refused _ _ _ _ _ _ _ _ _ (sym (c .before .before .before .lower-check .ensures) ∙ c .before .checked .given .1) in
+    let d = lower-refused goldilocks _ _ _ _ _ _ _ _ _ (sym (c .before .before .before .lower-check .ensures) ∙ c .before .checked .given .1) in
     (d .answer, (d .result-is, (d .work-is, d .places-are)))
 
 same-length : tie.Need-same-length
@@ -35,7 +36,7 @@ returns-2 c =
     let at-lower-ready = c .before .before .before .before .before .before in
     let at-enum-told = at-lower-ready .before .before .before .before in
     let at-lower-check = at-enum-told .before .before in
-    let d = lower-done _ _ _ _ _ _ _ _ _ _ _ _ (sym (at-lower-check .lower-check .ensures) ∙ at-enum-told .enum-told .given .1)
+    let d = lower-done goldilocks _ _ _ _ _ _ _ _ _ _ _ _ (sym (at-lower-check .lower-check .ensures) ∙ at-enum-told .enum-told .given .1)
     (at-lower-ready .lower-ready .ensures .0) (at-lower-ready .lower-ready .ensures .1) in
     (d .answer, (d .result-is, (d .work-is, d .places-are)))
 

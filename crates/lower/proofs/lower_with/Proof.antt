@@ -2,6 +2,7 @@ use mathlib.Core.Path.{sym, subst}
 use native.Mathlib.Nat.{le-trans, le-of-eq}
 use native.Mathlib.Omega.{arith}
 use lib.Seq.{length-take-le}
+use Rattle.field.specs.Fields.{goldilocks}
 use Rattle.lower.specs.Contracts as Said
 use Rattle.lower.specs.CallLaws.{stored-ready, finished}
 use borrow.Author.Needs.{needs}
@@ -22,9 +23,9 @@ build-periodic-nodes-requires c κs =
     let at-power-within = c .before .before in
     let at-store-list = at-power-within .before .before .before in
     let start = at-store-list .before .before .before .before .before .before .before .before in (
-      stored-ready _ _ (start .pre .0 .list .most) (start .pre .0 .list .sound) _ (at-store-list .store-list .ensures),
+      stored-ready goldilocks _ _ (start .pre .0 .list .most) (start .pre .0 .list .sound) _ (at-store-list .store-list .ensures),
       subst
-          (Said.Covered (start .args .lengths .now) (start .args .entries .now)) (sym (at-power-within .power-within .ensures .0))
+          (Said.Covered goldilocks (start .args .lengths .now) (start .args .entries .now)) (sym (at-power-within .power-within .ensures .0))
           (start .pre .0 .covered),
       start .pre .0 .tested .handed .few,
     )
@@ -64,7 +65,7 @@ returns c =
     let at-power-within = at-build-periodic-nodes .before .before .before in
     let at-store-list = at-power-within .before .before .before in
     let start = at-store-list .before .before .before .before .before .before .before .before in
-    finished _ _ _ _ _ _ _ _ _ _ _ _ _ _ _ (start .pre .0) (at-store-list .store-list .ensures) (at-power-within .power-within .ensures .0)
+    finished goldilocks _ _ _ _ _ _ _ _ _ _ _ _ _ _ _ (start .pre .0) (at-store-list .store-list .ensures) (at-power-within .power-within .ensures .0)
     (at-build-periodic-nodes .build-periodic-nodes .ensures) (at-hand-over .hand-over .ensures)
 
 pub lower-with-spec : {M : Type 1} → statement M

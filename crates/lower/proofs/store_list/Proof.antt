@@ -1,3 +1,4 @@
+use Rattle.field.specs.Fields.{goldilocks}
 use Rattle.dag.specs.BlankLaws.{copied-front}
 use mathlib.Core.Path.{_∙_}
 use Rattle.lower.specs.CallLaws.{stored}
@@ -31,7 +32,7 @@ returns c =
     let at-index-list = c .before .before in
     let at-copy-words = at-index-list .before .before .before .before in
     let start = at-copy-words .before .before .before .before in
-    stored _ _ (start .pre .1) _ _ (copied-front _ _ _ (start .pre .0 .room) (at-copy-words .copy-words .ensures))
+    stored goldilocks _ _ (start .pre .1) _ _ (copied-front _ _ _ (start .pre .0 .room) (at-copy-words .copy-words .ensures))
     ((at-copy-words .copy-words .kept .1 .1 .0) ∙ (start .pre .2)) (at-index-list .index-list .ensures) (at-index-list .index-list .kept .1 .1 .0)
 
 pub store-list-spec : {M : Type 1} → statement M

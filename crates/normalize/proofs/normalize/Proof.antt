@@ -1,3 +1,4 @@
+use Rattle.field.specs.Fields.{goldilocks}
 use Rattle.normalize.specs.CallLaws.{passed, normalize-refused, normalize-done}
 use Rattle.dag.specs.BranchLaws.{told}
 use lib.ListN.{length}
@@ -19,7 +20,7 @@ normalize-ready-requires c κs =
     let at-enum-told = c .before .before in
     let at-normalize-check = at-enum-told .before .before in
     let start = at-normalize-check .before .before .before .before in
-    passed (start .args .list .now) (start .args .n) (start .args .root) (length (start .args .result .now)) (length (start .args .work .now))
+    passed goldilocks (start .args .list .now) (start .args .n) (start .args .root) (length (start .args .result .now)) (length (start .args .work .now))
     (told (at-normalize-check .normalize-check .ensures) (at-enum-told .enum-told .given .1))
 
 returns : tie.Need-returns
@@ -27,7 +28,7 @@ returns c =
     let at-checked = c .before in
     let at-normalize-check = at-checked .before .before in
     let start = at-normalize-check .before .before .before .before in
-    let h = normalize-refused (start .args .list .now) (start .args .n) (start .args .root) (start .args .result .now) (start .args .work .now) _
+    let h = normalize-refused goldilocks (start .args .list .now) (start .args .n) (start .args .root) (start .args .result .now) (start .args .work .now) _
     (told (at-normalize-check .normalize-check .ensures) (at-checked .checked .given .1)) in (h .answer, (h .list-is, h .work-is))
 
 same-length : tie.Need-same-length
@@ -42,7 +43,7 @@ returns-2 c =
     let at-enum-told = at-normalize-ready .before .before .before in
     let at-normalize-check = at-enum-told .before .before in
     let start = at-normalize-check .before .before .before .before in
-    let h = normalize-done (start .args .list .now) (start .args .n) (start .args .root) (start .args .result .now) (start .args .work .now) _ _ _
+    let h = normalize-done goldilocks (start .args .list .now) (start .args .n) (start .args .root) (start .args .result .now) (start .args .work .now) _ _ _
     (told (at-normalize-check .normalize-check .ensures) (at-enum-told .enum-told .given .1)) (at-normalize-ready .normalize-ready .ensures) in
     (h .answer, (h .list-is, h .work-is))
 

@@ -1,7 +1,7 @@
+use Rattle.field.specs.Fields.{goldilocks}
 use Rattle.normalize.specs.Calls as Calls
 use Rattle.dag.specs.PassLaws.{rooted}
 use Rattle.dag.specs.CheckLaws.{refused-then, good-told, bad-told}
-use Rattle.field.specs.Field.{p}
 use borrow.Author.Tests.{le-leb, lt-leb}
 use mathlib.Core.Path.{_∙_}
 use native.Mathlib.Omega.{arith}
@@ -20,14 +20,14 @@ unfolding Calls.normalizeCheck
 returns c = c .before .before .list-check .ensures ∙ refused-then _ _ (bad-told (c .before .before .list-check .ensures) (c .before .is-refused .ensures) (c .if1 .taken))
 
 mul-if2 : tie.Need-mul-if2
-mul-if2 c = let h = rooted p _ _ _ (good-told (c .before .before .list-check .ensures) (c .before .is-refused .ensures) (c .if1 .left)) in omega (arith, h .list .most)
+mul-if2 c = let h = rooted (goldilocks .bounds) _ _ _ (good-told (c .before .before .list-check .ensures) (c .before .is-refused .ensures) (c .if1 .left)) in omega (arith, h .list .most)
 
 returns-2 : tie.Need-returns-2
 unfolding Calls.normalizeCheck
 returns-2 c = rw (good-told (c .before .before .before .list-check .ensures) (c .before .before .is-refused .ensures) (c .before .if1 .left), lt-leb _ _ (c .if2 .taken))
 
 mul-if3 : tie.Need-mul-if3
-mul-if3 c = let h = rooted p _ _ _ (good-told (c .before .before .before .list-check .ensures) (c .before .before .is-refused .ensures) (c .before .if1 .left)) in omega (arith, h .list .most)
+mul-if3 c = let h = rooted (goldilocks .bounds) _ _ _ (good-told (c .before .before .before .list-check .ensures) (c .before .before .is-refused .ensures) (c .before .if1 .left)) in omega (arith, h .list .most)
 
 returns-3 : tie.Need-returns-3
 unfolding Calls.normalizeCheck

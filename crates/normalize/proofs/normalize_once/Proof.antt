@@ -1,6 +1,7 @@
 use mathlib.Core.Path.{refl, _∙_}
 use native.Mathlib.Omega.{arith}
 use borrow.Author.Tests.{not-true, not-false}
+use Rattle.field.specs.Fields.{goldilocks}
 use Rattle.normalize.specs.OnceLaws as Rounded
 use borrow.Author.Needs.{needs}
 use Rattle.normalize.proofs.normalize_once.Statement.{statement}
@@ -13,7 +14,7 @@ fanout-requires : tie.Need-fanout-requires
 fanout-requires c κs =
     let at-fill = c .before .before .before .before in
     let start = at-fill .before .before .before .before .before .before .before .before in
-    Rounded.counting (start .pre .0) (start .pre .1) _ (at-fill .fill .ensures)
+    Rounded.counting goldilocks (start .pre .0) (start .pre .1) _ (at-fill .fill .ensures)
 
 index-list-requires : tie.Need-index-list-requires
 index-list-requires c κs = search needs
@@ -24,8 +25,8 @@ round-requires c κs =
     let at-fanout = at-index-list .before .before .before .before .before in
     let at-fill = at-fanout .before .before .before .before .before in
     let start = at-fill .before .before .before .before .before .before .before .before in
-    let u = Rounded.linkable (start .pre .0) (start .pre .1) in (
-      Rounded.rounding (start .pre .0) (start .pre .1) _ _ (at-fanout .fanout .kept .1 .1 .1 .0 ∙ at-fill .fill .kept .0) refl,
+    let u = Rounded.linkable goldilocks (start .pre .0) (start .pre .1) in (
+      Rounded.rounding goldilocks (start .pre .0) (start .pre .1) _ _ (at-fanout .fanout .kept .1 .1 .1 .0 ∙ at-fill .fill .kept .0) refl,
       at-index-list .index-list .ensures,
       u .0,
       u .1,
@@ -54,7 +55,7 @@ returns c =
     let at-round = c .before .before .before .before .before .before .before .before in
     let at-fanout = at-round .before .before .before .before .before .before .before .before .before .before .before .before .before .before in
     let start = at-fanout .before .before .before .before .before .before .before .before .before .before .before .before .before in
-    Rounded.not-fired (start .pre .0) (at-round .round .ensures) (at-fanout .fanout .ensures) (not-true _ (c .if1 .taken))
+    Rounded.not-fired goldilocks (start .pre .0) (at-round .round .ensures) (at-fanout .fanout .ensures) (not-true _ (c .if1 .taken))
 
 mapped-requires : tie.Need-mapped-requires
 mapped-requires c κs =
@@ -72,8 +73,8 @@ number-reachable-requires c κs =
     let at-index-list = at-round .before .before .before .before .before .before .before .before .before in
     let at-fanout = at-index-list .before .before .before .before .before in
     let start = at-fanout .before .before .before .before .before .before .before .before .before .before .before .before .before in
-    let h = Rounded.round-short (start .pre .0) (at-round .round .ensures) (at-fanout .fanout .ensures) in (
-      Rounded.markable (start .pre .0) (at-round .round .ensures) (at-fanout .fanout .ensures) (at-mapped .mapped .ensures),
+    let h = Rounded.round-short goldilocks (start .pre .0) (at-round .round .ensures) (at-fanout .fanout .ensures) in (
+      Rounded.markable goldilocks (start .pre .0) (at-round .round .ensures) (at-fanout .fanout .ensures) (at-mapped .mapped .ensures),
       refl,
       omega (arith, h, at-index-list .index-list .kept .1 .1 .0, start .pre .1 .own-long),
     )
@@ -106,7 +107,7 @@ returns-2 c =
     let at-round = at-mapped .before .before .before .before .before .before .before .before .before .before in
     let at-fanout = at-round .before .before .before .before .before .before .before .before .before .before .before .before .before .before in
     let start = at-fanout .before .before .before .before .before .before .before .before .before .before .before .before .before in
-    Rounded.no-shorter (start .pre .0) (at-round .round .ensures) (at-fanout .fanout .ensures) (at-mapped .mapped .ensures)
+    Rounded.no-shorter goldilocks (start .pre .0) (at-round .round .ensures) (at-fanout .fanout .ensures) (at-mapped .mapped .ensures)
     (at-number-reachable .number-reachable .ensures .0) (omega (arith, c .if2 .taken))
 
 slice-aggregate-write-numbered : tie.Need-slice-aggregate-write-numbered
@@ -122,7 +123,7 @@ write-numbered-requires c κs =
     let at-fanout = at-round .before .before .before .before .before .before .before .before .before .before .before .before .before .before in
     let start = at-fanout .before .before .before .before .before .before .before .before .before .before .before .before .before in (
       at-number-reachable .number-reachable .ensures .1,
-      Rounded.write-fits (start .pre .0) (at-round .round .ensures) (at-fanout .fanout .ensures) (at-mapped .mapped .ensures)
+      Rounded.write-fits goldilocks (start .pre .0) (at-round .round .ensures) (at-fanout .fanout .ensures) (at-mapped .mapped .ensures)
           (at-number-reachable .number-reachable .ensures .0) (not-false _ (at-if1 .if1 .left)) (omega (arith, at-if2 .if2 .left)),
     )
 
@@ -160,7 +161,7 @@ returns-3 c =
     let at-round = at-if1 .before .before .before .before .before .before .before .before in
     let at-fanout = at-round .before .before .before .before .before .before .before .before .before .before .before .before .before .before in
     let start = at-fanout .before .before .before .before .before .before .before .before .before .before .before .before .before in
-    Rounded.kept-once (start .pre .0) (at-round .round .ensures) (at-fanout .fanout .ensures) (at-mapped .mapped .ensures)
+    Rounded.kept-once goldilocks (start .pre .0) (at-round .round .ensures) (at-fanout .fanout .ensures) (at-mapped .mapped .ensures)
     (at-number-reachable .number-reachable .ensures .0) (not-false _ (at-if1 .if1 .left)) (omega (arith, at-if2 .if2 .left))
     (at-write-numbered .write-numbered .ensures .0) (at-write-numbered .write-numbered .ensures .1)
 

@@ -1,4 +1,5 @@
 use mathlib.Core.Path.{_∙_}
+use Rattle.field.specs.Fields.{goldilocks}
 use Rattle.normalize.specs.CallLaws.{copied-ready, finished}
 use borrow.Author.Needs.{needs}
 use Rattle.normalize.proofs.normalize_ready.Statement.{statement}
@@ -14,7 +15,7 @@ normalize-sized-requires : tie.Need-normalize-sized-requires
 normalize-sized-requires c κs =
     let at-copy-words = c .before .before .before .before in
     let start = at-copy-words .before .before .before .before .before in
-    copied-ready (start .pre) (start .args .result .now) (at-copy-words .copy-words .ensures)
+    copied-ready goldilocks (start .pre) (start .args .result .now) (at-copy-words .copy-words .ensures)
 
 mul-blank-from : tie.Need-mul-blank-from
 mul-blank-from c = search needs
@@ -38,7 +39,7 @@ returns c =
     let at-sized = at-blank-from .before .before .before .before .before .before .before in
     let at-copy-words = at-sized .before .before .before .before .before in
     let start = at-copy-words .before .before .before .before .before in
-    finished (start .pre) (start .args .result .now) (at-copy-words .copy-words .ensures) (at-sized .normalize-sized .ensures)
+    finished goldilocks (start .pre) (start .args .result .now) (at-copy-words .copy-words .ensures) (at-sized .normalize-sized .ensures)
     (at-sized .normalize-sized .kept .1 .1 .0 ∙ at-copy-words .copy-words .kept .1 .1 .0) (at-sized .normalize-sized .last .1 .1 .1 .0)
     (at-blank-from .blank-from .ensures) (at-sized .normalize-sized .kept .1 .1 .1 .0) (at-blank-from2 .blank-from2 .ensures)
 

@@ -4,6 +4,7 @@ use borrow.Author.Tests.{not-true, not-false}
 use lib.ListN.{length}
 use Prim.Native.Nat.{_*_}
 use lib.Seq.{length-take-le, length-front}
+use Rattle.field.specs.Fields.{goldilocks}
 use Rattle.normalize.specs.OnceLaws.{scratch-part}
 use Rattle.normalize.specs.CallLaws.{running-begins, running-ready, running-on, fewer, ended}
 use Rattle.normalize.specs.Contracts.{Running}
@@ -12,7 +13,7 @@ use Rattle.normalize.proofs.normalize_rounds.Tie as tie
 
 abbrev Inv-loop : tie.InvT-loop
 Inv-loop n root result₀ work₀ fan₀ map₀ own₀ links₀ count₀ place₀ rounds₀ result work fan map own links count place rounds =
-    Running result₀ n root result count place rounds
+    Running goldilocks result₀ n root result count place rounds
     × (length result ≡ length result₀)
     × (length work ≡ length work₀)
     × (length fan ≡ length fan₀)
@@ -26,7 +27,7 @@ abbrev μ-loop : tie.MeasureT-loop
 loop-holds : tie.Need-loop-holds Inv-loop μ-loop
 loop-holds c =
     let start = c .before .before .before .before .before .before in
-    (running-begins (start .pre .0), refl, refl, refl, refl, refl, refl)
+    (running-begins goldilocks (start .pre .0), refl, refl, refl, refl, refl, refl)
 
 slice-relend-prefix-normalize-once : tie.Need-slice-relend-prefix-normalize-once Inv-loop μ-loop
 slice-relend-prefix-normalize-once c =
@@ -93,7 +94,7 @@ normalize-once-requires c κs =
     let at-loop = c .before .before .before .before .before .before in
     let start = at-loop .before .before .before .before .before .before .before in
     let inv = at-loop .loop .inv in (
-      running-ready (inv .0) _ (start .pre .0 .few) (omega (arith, start .pre .0 .room, inv .2)),
+      running-ready goldilocks (inv .0) _ (start .pre .0 .few) (omega (arith, start .pre .0 .room, inv .2)),
       scratch-part (start .pre .1) _ (omega (arith, inv .0 .lost)) _ _ _ _ (inv .3) (inv .4) (inv .5) (inv .6),
     )
 
@@ -137,7 +138,7 @@ returns : tie.Need-returns Inv-loop μ-loop
 returns c =
     let at-once = c .before .before .before .before .before .before .before .before .before .before .before .before .before .before in
     let at-loop = at-once .before .before .before .before .before .before .before in
-    ended (at-loop .loop .inv .0) (at-once .normalize-once .ensures) (not-true _ (c .if1 .taken))
+    ended goldilocks (at-loop .loop .inv .0) (at-once .normalize-once .ensures) (not-true _ (c .if1 .taken))
 
 add-rounds : tie.Need-add-rounds Inv-loop μ-loop
 add-rounds c =
@@ -149,13 +150,13 @@ loop-less : tie.Need-loop-less Inv-loop μ-loop
 loop-less c =
     let at-once = c .before .before .before .before .before .before .before .before .before .before .before .before .before .before in
     let at-loop = at-once .before .before .before .before .before .before .before in
-    fewer (at-loop .loop .inv .0) (at-once .normalize-once .ensures) (not-false _ (c .if1 .left))
+    fewer goldilocks (at-loop .loop .inv .0) (at-once .normalize-once .ensures) (not-false _ (c .if1 .left))
 
 loop-again : tie.Need-loop-again Inv-loop μ-loop
 loop-again c =
     let at-once = c .before .before .before .before .before .before .before .before .before .before .before .before .before .before in
     let at-loop = at-once .before .before .before .before .before .before .before in (
-      running-on (at-loop .loop .inv .0) (at-once .normalize-once .ensures) (not-false _ (c .if1 .left)),
+      running-on goldilocks (at-loop .loop .inv .0) (at-once .normalize-once .ensures) (not-false _ (c .if1 .left)),
       at-once .normalize-once .kept .0 ∙ at-loop .loop .inv .1,
       at-once .normalize-once .kept .1 .1 .1 .0 ∙ at-loop .loop .inv .2,
       length-front (at-loop .loop .fan) (at-once .normalize-once .last .1 .1 .1 .1 .0) (at-loop .loop .count) (at-once .normalize-once .kept .1 .1 .1 .1 .0) ∙ at-loop .loop .inv .3,

@@ -1,3 +1,4 @@
+use Rattle.field.specs.Fields.{goldilocks}
 use Rattle.index.specs.Index.{NodeIndex}
 use Rattle.dag.specs.Nodes as Nodes
 use Rattle.normalize.specs.TurnLaws as Turn
@@ -12,7 +13,7 @@ use Rattle.normalize.proofs.round.Statement.{statement}
 use Rattle.normalize.proofs.round.Tie as tie
 
 abbrev Inv-loop : tie.InvT-loop
-Inv-loop list n own fan work₀ links₀ map₀ count₀ fired₀ i₀ work links map count fired i = (i ≤ n) × (length work ≡ length work₀) × (length map ≡ length map₀) × Contracts.RoundHeld list n fan i work map count fired × (length links ≡ length links₀) × NodeIndex (Nodes.nodes work count) links
+Inv-loop list n own fan work₀ links₀ map₀ count₀ fired₀ i₀ work links map count fired i = (i ≤ n) × (length work ≡ length work₀) × (length map ≡ length map₀) × Contracts.RoundHeld goldilocks list n fan i work map count fired × (length links ≡ length links₀) × NodeIndex (Nodes.nodes work count) links
 
 abbrev μ-loop : tie.MeasureT-loop
 μ-loop list n own fan work₀ links₀ map₀ count₀ fired₀ i₀ work links map count fired i = n - i
@@ -24,7 +25,7 @@ clear-requires c κs =
 
 loop-holds : tie.Need-loop-holds Inv-loop μ-loop
 unfolding Nodes.nodes
-loop-holds c = (omega arith, refl, refl, Turn.round-begins _ _ _ _ _, refl, (c .before .before .clear .ensures))
+loop-holds c = (omega arith, refl, refl, Turn.round-begins goldilocks _ _ _ _ _, refl, (c .before .before .clear .ensures))
 
 node-at-requires : tie.Need-node-at-requires Inv-loop μ-loop
 node-at-requires c κs =
@@ -36,7 +37,7 @@ plan-of-requires c κs =
     let at-loop-test = c .before in
     let at-loop = at-loop-test .before in
     let start = at-loop .before .before .before .before .before .before .before .before .before .before .before in (
-      Turn.turn-planning (start .args .list .now) (start .args .n) (start .args .fan .now) (start .args .work .now) (start .args .map .now)
+      Turn.turn-planning goldilocks (start .args .list .now) (start .args .n) (start .args .fan .now) (start .args .work .now) (start .args .map .now)
           (start .pre .0) (at-loop .loop .i) (at-loop .loop .work) (at-loop .loop .map) (at-loop .loop .count) (at-loop .loop .fired)
           (at-loop .loop .inv .1) (at-loop .loop .inv .2) (at-loop .loop .inv .3) (at-loop-test .loop-test .taken) _
           ((c .node-at .ensures) ∙ sym (at-nodes _ _ _ (at-loop-test .loop-test .taken))),
@@ -51,12 +52,12 @@ enter-planned-requires c κs =
     let at-loop = at-loop-test .before in
     let at-clear = at-loop .before .before .before in
     let start = at-clear .before .before .before .before .before .before .before .before in
-    let h = Turn.round-count (start .args .list .now) (start .args .n) (start .args .fan .now) (start .args .work .now) (start .args .map .now)
+    let h = Turn.round-count goldilocks (start .args .list .now) (start .args .n) (start .args .fan .now) (start .args .work .now) (start .args .map .now)
     (start .pre .0) (at-loop .loop .i) (at-loop .loop .work) (at-loop .loop .map) (at-loop .loop .count) (at-loop .loop .fired)
     (at-loop .loop .inv .1) (at-loop .loop .inv .2) (at-loop .loop .inv .3) in (
       (
         (at-loop .loop .i),
-        Turn.turn-entering (start .args .list .now) (start .args .n) (start .args .fan .now) (start .args .work .now)
+        Turn.turn-entering goldilocks (start .args .list .now) (start .args .n) (start .args .fan .now) (start .args .work .now)
             (start .args .map .now) (start .pre .0) (at-loop .loop .i) (at-loop .loop .work) (at-loop .loop .map) (at-loop .loop .count)
             (at-loop .loop .fired) (at-loop .loop .inv .1) (at-loop .loop .inv .2) (at-loop .loop .inv .3) (at-loop-test .loop-test .taken) _
             ((at-node-at .node-at .ensures) ∙ sym (at-nodes _ _ _ (at-loop-test .loop-test .taken))) _ (at-plan-of .plan-of .ensures),
@@ -111,7 +112,7 @@ loop-again c =
       (at-enter-planned .enter-planned .kept .0) ∙ (at-loop .loop .inv .1),
       simp length-set
           (at-loop .loop .inv .2),
-      Turn.turn-held (start .args .list .now) (start .args .n) (start .args .fan .now) (start .args .work .now)
+      Turn.turn-held goldilocks (start .args .list .now) (start .args .n) (start .args .fan .now) (start .args .work .now)
           (start .args .map .now) (start .pre .0) (at-loop .loop .i) (at-loop .loop .work) (at-loop .loop .map) (at-loop .loop .count)
           (at-loop .loop .fired) (at-loop .loop .inv .1) (at-loop .loop .inv .2) (at-loop .loop .inv .3) (at-loop-test .loop-test .taken) _
           ((at-node-at .node-at .ensures) ∙ sym (at-nodes _ _ _ (at-loop-test .loop-test .taken))) _ (at-plan-of .plan-of .ensures) _ _ _

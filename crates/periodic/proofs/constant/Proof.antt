@@ -1,3 +1,4 @@
+use Rattle.field.specs.Fields.{goldilocks}
 use Rattle.periodic.specs.EnterLaws.{entering-as}
 use Rattle.dag.specs.declared.NodeKind.the-variants.{Constant}
 use mathlib.Core.Path.{ap}
@@ -18,7 +19,7 @@ same-length : tie.Need-same-length
 same-length c = search needs
 
 returns : tie.Need-returns
-returns c = entering-as _ _ _ _ _ _ (ap Constant (c .before .before .before .from-base .ensures)) (c .before .before .enter .ensures)
+returns c = entering-as goldilocks _ _ _ _ _ _ (ap Constant (c .before .before .before .from-base .ensures)) (c .before .before .enter .ensures)
 
 pub constant-spec : {M : Type 1} → statement M
 constant-spec = tie.close (tie.spec from-base-requires enter-requires same-length returns)

@@ -1,11 +1,12 @@
 use native.Mathlib.Omega.{arith}
+use Rattle.field.specs.Fields.{goldilocks}
 use Rattle.periodic.specs.EnterLaws.{enter-long, enter-place, enter-node}
 use borrow.Author.Needs.{needs}
 use Rattle.periodic.proofs.enter.Statement.{statement}
 use Rattle.periodic.proofs.enter.Tie as tie
 
 returns : tie.Need-returns
-returns c = enter-long _ _ _ (c .if1 .taken)
+returns c = enter-long goldilocks _ _ _ (c .if1 .taken)
 
 resolve-requires : tie.Need-resolve-requires
 resolve-requires c κs =
@@ -34,7 +35,7 @@ returns-2 c =
     let at-resolve = at-result .before .before in
     let at-if1 = at-resolve .before .before in
     let start = at-if1 .before .before in
-    enter-place (start .args .list .now) (start .args .n) (start .args .x) (at-if1 .if1 .left)
+    enter-place goldilocks (start .args .list .now) (start .args .n) (start .args .x) (at-if1 .if1 .left)
     (record { sound = start .pre .0 .sound (at-if1 .if1 .left); fine = start .pre .1 (at-if1 .if1 .left) })
     (start .pre .0 .indexed (at-if1 .if1 .left)) _ (at-resolve .resolve .ensures) _ (at-result .result .given .1)
 
@@ -48,7 +49,7 @@ returns-3 c =
     let at-resolve = at-result2 .before .before in
     let at-if1 = at-resolve .before .before in
     let start = at-if1 .before .before in
-    enter-node (start .args .list .now) (start .args .n) (start .args .x) (at-if1 .if1 .left)
+    enter-node goldilocks (start .args .list .now) (start .args .n) (start .args .x) (at-if1 .if1 .left)
     (record { sound = start .pre .0 .sound (at-if1 .if1 .left); fine = start .pre .1 (at-if1 .if1 .left) })
     (start .pre .0 .indexed (at-if1 .if1 .left)) _ (at-resolve .resolve .ensures) _ _ _ (start .pre .0 .long) (at-result2 .result2 .given .1)
     (at-append .append .ensures)

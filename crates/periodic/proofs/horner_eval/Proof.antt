@@ -4,6 +4,7 @@ use mathlib.Core.Path.{_∙_}
 use native.Mathlib.Omega.{arith}
 use lib.Dec.{lit<}
 use lib.ListN.{length}
+use Rattle.field.specs.Fields.{goldilocks}
 use Rattle.field.specs.Field.{quad}
 use Rattle.periodic.specs.Builder as Builder
 use Rattle.periodic.specs.Periodic as Periodic
@@ -15,7 +16,7 @@ use Rattle.periodic.proofs.horner_eval.Statement.{statement}
 use Rattle.periodic.proofs.horner_eval.Tie as tie
 
 abbrev Inv-loop : tie.InvT-loop
-Inv-loop list₀ n point coeffs acc₀ i₀ list acc i = (i ≤ length coeffs) × Said.Entering list₀ (acc₀ .count) (Builder.turns (Periodic.hornerTurn quad point coeffs (length coeffs)) i (acc₀ .place)) list acc × Said.Ready list (acc .count) × Said.Inside (acc .count) point × Said.AllInside (acc .count) coeffs
+Inv-loop list₀ n point coeffs acc₀ i₀ list acc i = (i ≤ length coeffs) × Said.Entering goldilocks list₀ (acc₀ .count) (Builder.turns (Periodic.hornerTurn quad point coeffs (length coeffs)) i (acc₀ .place)) list acc × Said.Ready goldilocks list (acc .count) × Said.Inside (acc .count) point × Said.AllInside (acc .count) coeffs
 
 abbrev μ-loop : tie.MeasureT-loop
 μ-loop list₀ n point coeffs acc₀ i₀ list acc i = length coeffs - i
@@ -28,8 +29,8 @@ loop-holds c =
     let at-constant = c .before .before in
     let start = at-constant .before .before .before .before in (
       omega arith,
-      enter-none _ _ _ _ (at-constant .constant .ensures .inside),
-      entered-ready _ _ _ _ _ (start .pre .0) (at-constant .constant .ensures),
+      enter-none goldilocks _ _ _ _ (at-constant .constant .ensures .inside),
+      entered-ready goldilocks _ _ _ _ _ (start .pre .0) (at-constant .constant .ensures),
       inside-later (at-constant .constant .ensures .ran .longer) (start .pre .1),
       all-later (at-constant .constant .ensures .ran .longer)
           (start .pre .2),
@@ -56,7 +57,7 @@ add-requires c κs =
     let at-loop = at-mul .before .before .before in
     let start = at-loop .before .before .before .before .before .before .before in
     let f : length (start .args .coeffs .now) - (at-loop .loop .i + 1) < length (start .args .coeffs .now) = omega arith in (
-      entered-ready _ _ _ _ _ (at-loop .loop .inv .2) (at-mul .mul .ensures),
+      entered-ready goldilocks _ _ _ _ _ (at-loop .loop .inv .2) (at-mul .mul .ensures),
       inside-later (at-mul .mul .ensures .ran .longer)
           (at-loop .loop .inv .4 .at _ f),
       at-mul .mul .ensures .inside,
@@ -76,8 +77,8 @@ loop-again c =
     let at-loop = at-mul .before .before .before in
     let up = le-trans (at-mul .mul .ensures .ran .longer) (at-add .add .ensures .ran .longer) in (
       omega arith,
-      enter-next _ _ _ _ _ _ _ _ _ (at-loop .loop .inv .1) (then-enter _ _ _ _ _ _ _ _ (at-mul .mul .ensures) (at-add .add .ensures)),
-      entered-ready _ _ _ _ _ (entered-ready _ _ _ _ _ (at-loop .loop .inv .2) (at-mul .mul .ensures)) (at-add .add .ensures),
+      enter-next goldilocks _ _ _ _ _ _ _ _ _ (at-loop .loop .inv .1) (then-enter goldilocks _ _ _ _ _ _ _ _ (at-mul .mul .ensures) (at-add .add .ensures)),
+      entered-ready goldilocks _ _ _ _ _ (entered-ready goldilocks _ _ _ _ _ (at-loop .loop .inv .2) (at-mul .mul .ensures)) (at-add .add .ensures),
       inside-later up
           (at-loop .loop .inv .3),
       all-later up (at-loop .loop .inv .4),
@@ -88,7 +89,7 @@ same-length c = c .before .loop .inv .1 .ran .kept ∙ c .before .before .before
 
 returns : tie.Need-returns Inv-loop μ-loop
 unfolding Periodic.hornerEval
-returns c = then-enter _ _ _ _ _ _ _ _ (c .before .before .before .before .constant .ensures) (enter-all _ _ _ _ _ _ _ _ (c .before .loop .inv .0) (c .loop-test .left) (c .before .loop .inv .1))
+returns c = then-enter goldilocks _ _ _ _ _ _ _ _ (c .before .before .before .before .constant .ensures) (enter-all goldilocks _ _ _ _ _ _ _ _ (c .before .loop .inv .0) (c .loop-test .left) (c .before .loop .inv .1))
 
 pub horner-eval-spec : {M : Type 1} → statement M
 horner-eval-spec =

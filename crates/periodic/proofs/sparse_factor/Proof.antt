@@ -4,6 +4,7 @@ use mathlib.Core.Path.{_∙_}
 use native.Mathlib.Omega.{arith}
 use lib.Dec.{lit<}
 use lib.ListN.{length, getD}
+use Rattle.field.specs.Fields.{goldilocks}
 use Rattle.field.specs.Field.{quad}
 use Rattle.periodic.specs.Builder as Builder
 use Rattle.periodic.specs.Periodic as Periodic
@@ -14,7 +15,7 @@ use Rattle.periodic.proofs.sparse_factor.Statement.{statement}
 use Rattle.periodic.proofs.sparse_factor.Tie as tie
 
 abbrev Inv-loop : tie.InvT-loop
-Inv-loop list₀ n zpow log row factor₀ i₀ list factor i = (i ≤ log) × Said.Entering list₀ (factor₀ .count) (Builder.turns (λ i factor. Periodic.sparseTurn quad (getD row i 0) (getD zpow i 0) factor) i (factor₀ .place)) list factor × Said.Ready list (factor .count) × Said.AllInside (factor .count) zpow
+Inv-loop list₀ n zpow log row factor₀ i₀ list factor i = (i ≤ log) × Said.Entering goldilocks list₀ (factor₀ .count) (Builder.turns (λ i factor. Periodic.sparseTurn quad (getD row i 0) (getD zpow i 0) factor) i (factor₀ .place)) list factor × Said.Ready goldilocks list (factor .count) × Said.AllInside (factor .count) zpow
 
 abbrev μ-loop : tie.MeasureT-loop
 μ-loop list₀ n zpow log row factor₀ i₀ list factor i = log - i
@@ -27,8 +28,8 @@ loop-holds c =
     let at-constant = c .before .before in
     let start = at-constant .before .before .before .before in (
       omega arith,
-      enter-none _ _ _ _ (at-constant .constant .ensures .inside),
-      entered-ready _ _ _ _ _ (start .pre .0) (at-constant .constant .ensures),
+      enter-none goldilocks _ _ _ _ (at-constant .constant .ensures .inside),
+      entered-ready goldilocks _ _ _ _ _ (start .pre .0) (at-constant .constant .ensures),
       all-later (at-constant .constant .ensures .ran .longer) (start .pre .1),
     )
 
@@ -71,8 +72,8 @@ loop-again c =
     let at-sparse-turn = c .before .before in
     let at-loop = at-sparse-turn .before .before .before .before in (
       omega arith,
-      enter-next _ _ _ _ _ _ _ _ _ (at-loop .loop .inv .1) (at-sparse-turn .sparse-turn .ensures),
-      entered-ready _ _ _ _ _
+      enter-next goldilocks _ _ _ _ _ _ _ _ _ (at-loop .loop .inv .1) (at-sparse-turn .sparse-turn .ensures),
+      entered-ready goldilocks _ _ _ _ _
           (at-loop .loop .inv .2) (at-sparse-turn .sparse-turn .ensures),
       all-later (at-sparse-turn .sparse-turn .ensures .ran .longer)
           (at-loop .loop .inv .3),
@@ -83,7 +84,7 @@ same-length c = c .before .loop .inv .1 .ran .kept ∙ c .before .before .before
 
 returns : tie.Need-returns Inv-loop μ-loop
 unfolding Periodic.sparseFactor
-returns c = then-enter _ _ _ _ _ _ _ _ (c .before .before .before .before .constant .ensures) (enter-all _ _ _ _ _ _ _ _ (c .before .loop .inv .0) (c .loop-test .left) (c .before .loop .inv .1))
+returns c = then-enter goldilocks _ _ _ _ _ _ _ _ (c .before .before .before .before .constant .ensures) (enter-all goldilocks _ _ _ _ _ _ _ _ (c .before .loop .inv .0) (c .loop-test .left) (c .before .loop .inv .1))
 
 pub sparse-factor-spec : {M : Type 1} → statement M
 sparse-factor-spec =

@@ -23,7 +23,7 @@ loop-holds c =
     (omega arith, refl, Fanouts.counted-none (Nodes.nodes (start .args .list .now) (start .args .n)) (start .args .fan .now) (start .pre .zeros))
 
 node-at-requires : tie.Need-node-at-requires Inv-loop μ-loop
-node-at-requires c κs = omega (arith, c .before .before .before .before .before .pre .sound .room, c .before .loop-test .taken)
+node-at-requires c κs = omega (arith, c .before .before .before .before .before .pre .sound .1 .room, c .before .loop-test .taken)
 
 mention-operands-requires : tie.Need-mention-operands-requires Inv-loop μ-loop
 mention-operands-requires c κs =

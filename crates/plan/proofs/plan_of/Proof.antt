@@ -1,4 +1,3 @@
-use Rattle.field.specs.Field.{Below}
 use Rattle.dag.specs.WellFormed as Well
 use Rattle.dag.specs.WellFormedLaws.{fine-as}
 use Rattle.plan.specs.Plan as Plans
@@ -15,7 +14,7 @@ unfolding Well.Fine
 add-plan-requires c κs =
     let at-x = c .before in
     let start = at-x .before .before .before .before .before in
-    (fanned _ _ _ _ _ (start .pre .0) _ _ (fine-as Below _ (at-x .x .given .1) (start .pre .0 .fine)), start .pre .1)
+    (fanned _ _ _ _ _ (start .pre .0) _ _ (fine-as Well.Any _ (at-x .x .given .1) (start .pre .0 .fine)), start .pre .1)
 
 enum-known-x-2 : tie.Need-enum-known-x-2
 enum-known-x-2 c = search needs
@@ -25,7 +24,7 @@ unfolding Well.Fine
 common-factor-requires c κs =
     let at-x2 = c .before in
     let start = at-x2 .before .before .before .before .before in
-    fanned _ _ _ _ _ (start .pre .0) _ _ (fine-as Below _ (at-x2 .x2 .given .1) (start .pre .0 .fine))
+    fanned _ _ _ _ _ (start .pre .0) _ _ (fine-as Well.Any _ (at-x2 .x2 .given .1) (start .pre .0 .fine))
 
 enum-known-x-3 : tie.Need-enum-known-x-3
 enum-known-x-3 c = search needs
@@ -35,7 +34,7 @@ unfolding Well.Fine
 either-rotation-requires c κs =
     let at-x3 = c .before in
     let start = at-x3 .before .before .before .before .before in
-    (fanned _ _ _ _ _ (start .pre .0) _ _ (fine-as Below _ (at-x3 .x3 .given .1) (start .pre .0 .fine)), start .pre .1)
+    (fanned _ _ _ _ _ (start .pre .0) _ _ (fine-as Well.Any _ (at-x3 .x3 .given .1) (start .pre .0 .fine)), start .pre .1)
 
 enum-told : tie.Need-enum-told
 enum-told c = search needs

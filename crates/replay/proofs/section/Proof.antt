@@ -43,17 +43,17 @@ slice-aggregate-word-3 c = search needs
 word-requires-3 : tie.Need-word-requires-3
 word-requires-3 c κs = search needs
 
-mul-replay-cases : tie.Need-mul-replay-cases
-mul-replay-cases c = search needs
+mul-read-cases : tie.Need-mul-read-cases
+mul-read-cases c = search needs
 
-slice-relend-prefix-replay-cases : tie.Need-slice-relend-prefix-replay-cases
-slice-relend-prefix-replay-cases c = search needs
+slice-relend-prefix-read-cases : tie.Need-slice-relend-prefix-read-cases
+slice-relend-prefix-read-cases c = search needs
 
-slice-aggregate-replay-cases : tie.Need-slice-aggregate-replay-cases
-slice-aggregate-replay-cases c = simp length-take (omega arith)
+slice-aggregate-read-cases : tie.Need-slice-aggregate-read-cases
+slice-aggregate-read-cases c = simp length-take (omega arith)
 
-replay-cases-requires : tie.Need-replay-cases-requires
-replay-cases-requires c κs = search needs
+read-cases-requires : tie.Need-read-cases-requires
+read-cases-requires c κs = search needs
 
 same-length : tie.Need-same-length
 same-length c = search needs
@@ -78,9 +78,9 @@ section-spec =
     returns-2
     slice-aggregate-word-3
     word-requires-3
-    mul-replay-cases
-    slice-relend-prefix-replay-cases
-    slice-aggregate-replay-cases
-    replay-cases-requires
+    mul-read-cases
+    slice-relend-prefix-read-cases
+    slice-aggregate-read-cases
+    read-cases-requires
     same-length
     returns-3)
