@@ -1,6 +1,6 @@
 -- A word of digits fits, tests of operands, and a line more.
 use Prim.Native.Nat.{ℕ, zero, suc, _+_, _*_, _-_, _/_, _%_, _^_, _<_, _≤_}
-use mathlib.Core.Bool.{Bool, true, false, cond, _&&_, false≢true}
+use mathlib.Core.Bool.{Bool, true, false, cond, _&&_, and-eq-true-iff}
 use mathlib.Core.List.{List}
 use mathlib.Core.Path.{_≡_, refl, sym, _∙_, ap}
 use native.Mathlib.Nat.{mod-eq-of-lt, pow-le-pow-right, pow-succ'}
@@ -13,10 +13,6 @@ use Rattle.field.specs.Field.{p, quad, Below, same}
 use Rattle.field.specs.Generators.{generator, generators}
 use Rattle.field.specs.declared.QuadFelt.{QuadFelt}
 use Rattle.field_vectors.specs.Vectors.{line, digit, digits, element, low, asked, agrees, score, matched}
-
-both : {X : Type 0} (t u : Bool) → (t && u) ≡ true → (t ≡ true → u ≡ true → X) → X
-both true u e f = f refl e
-both false u e f = absurd (false≢true e)
 
 -- the value of a digit
 module _ (b : ℕ) where
@@ -46,8 +42,8 @@ module _ (b : ℕ) where
   digit-low = go (leb 48 b && leb b 57) (leb 97 b && leb b 102) refl refl
     where
       go : (t u : Bool) → (leb 48 b && leb b 57) ≡ t → (leb 97 b && leb b 102) ≡ u → cond t (b - 48) (cond u (b - 87) 0) < 16
-      go true u e q = both (leb 48 b) (leb b 57) e (λ h k. omega (arith, leb-true b 57 k))
-      go false true e q = both (leb 97 b) (leb b 102) q (λ h k. omega (arith, leb-true b 102 k))
+      go true u e q = omega (arith, leb-true b 57 (and-eq-true-iff (leb 48 b) (leb b 57) .0 e .1))
+      go false true e q = omega (arith, leb-true b 102 (and-eq-true-iff (leb 97 b) (leb b 102) .0 q .1))
       go false false e q = omega arith
 
 -- a digit more
@@ -79,7 +75,7 @@ low-not a h = rw (le-ltb (a .c0) p h)
 
 pub low-below : (a : QuadFelt) → low a ≡ true → Below a
 unfolding low
-low-below a e = both (ltb (a .c0) p) (ltb (a .c1) p) e (λ h k. (ltb-true (a .c0) p h, ltb-true (a .c1) p k))
+low-below a e = let t = and-eq-true-iff (ltb (a .c0) p) (ltb (a .c1) p) .0 e in (ltb-true (a .c0) p (t .0), ltb-true (a .c1) p (t .1))
 
 pub asked-else : (sign : ℕ) (a b : QuadFelt) → (sign ≡ 43 → ⊥) → (sign ≡ 45 → ⊥) → (sign ≡ 42 → ⊥) → (sign ≡ 94 → ⊥) → (sign ≡ 103 → ⊥) → quad .neg a ≡ asked sign a b
 unfolding asked

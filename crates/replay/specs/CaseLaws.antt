@@ -1,15 +1,15 @@
 -- A call on the stores laid for a case, a case that has room, and one case more.
 use Prim.Native.Nat.{ℕ, _+_, _≤_}
-use mathlib.Core.Bool.{Bool, true, false, cond, _&&_, false≢true}
+use mathlib.Core.Bool.{Bool, true, false, cond, _&&_, and-eq-true-iff}
 use mathlib.Core.List.{List}
-use mathlib.Core.Path.{_≡_, refl, sym, _∙_, ap}
+use mathlib.Core.Path.{_≡_, _∙_, ap}
 use native.Mathlib.Numerals.{add-one}
 use borrow.Author.Tests.{leb-true}
 use lib.Dec.{leb}
 use Rattle.recorded.specs.Stream.{word, behind, past, places, fit, holdAll}
 use Rattle.recorded.specs.Contracts.{Laid}
 use Rattle.recorded.specs.declared.Trio.{Trio}
-use Rattle.replay.specs.Cases.{Outcome, outcome, stores, number, shapeOf, partsOf, answered, room, same, placeOf, matched}
+use Rattle.replay.specs.Cases.{stores, shapeOf, partsOf, answered, room, same, placeOf, matched}
 use Rattle.replay.specs.Contracts.{Asked}
 use Rattle.replay.specs.declared.calls.Call.{Call}
 use Rattle.replay.specs.declared.calls.Shape.{Shape}
@@ -17,7 +17,7 @@ use Rattle.replay.specs.declared.Parts.{Parts}
 
 -- a call on the stores laid for a case, and what is held of them then
 pub answered-is : (call : Call) (s : List ℕ) (at : ℕ) (q : Parts) {a b c x y z x' y' z' : List ℕ} {told : Bool} (held : Bool) → Laid s (q .read) a b c → Laid s (q .written) x y z
-    → Asked (outcome call (number s at) (stores a b c) (stores x y z)) s (q .said) told x' y' z' → held ≡ holdAll s (q .held) x' y' z' → (told && held) ≡ answered call s at q
+    → Asked call s at (q .said) (stores a b c) (stores x y z) told x' y' z' → held ≡ holdAll s (q .held) x' y' z' → (told && held) ≡ answered call s at q
 unfolding answered
 answered-is call s at q held r w h e =
     rw (← r .first, ← r .second, ← r .third, ← w .first, ← w .second, ← w .third, ← h .told, ← h .first, ← h .second, ← h .third, e)
@@ -30,10 +30,6 @@ pub parts-made : (call : Call) (s : List ℕ) (at : ℕ) (h : Shape) (read writt
 unfolding partsOf
 parts-made call s at h read written said after next r w d eh er ew es ea fr fw fd fn = rw (fr, fw, fd, fn, ea, es, ew, er, eh)
 
-both : {X : Type 0} (t u : Bool) → (t && u) ≡ true → (t ≡ true → u ≡ true → X) → X
-both true u e f = f refl e
-both false u e f = absurd (false≢true e)
-
 -- three stores have at most so many words
 pub record Within (s : List ℕ) (t : Trio) (most : ℕ) : Type 0 where
   pub first : word s (t .a) ≤ most
@@ -43,16 +39,17 @@ pub record Within (s : List ℕ) (t : Trio) (most : ℕ) : Type 0 where
 fit-within : (s : List ℕ) (t : Trio) (most : ℕ) → fit s t most ≡ true → Within s t most
 unfolding fit
 fit-within s t most e =
-    both (leb (word s (t .a)) most && leb (word s (t .b)) most) (leb (word s (t .c)) most) e
-    (λ d f. both (leb (word s (t .a)) most) (leb (word s (t .b)) most) d (λ g h. record { first = leb-true _ most g; second = leb-true _ most h; third = leb-true _ most f }))
+    let u = and-eq-true-iff (leb (word s (t .a)) most && leb (word s (t .b)) most) (leb (word s (t .c)) most) .0 e in
+    let v = and-eq-true-iff (leb (word s (t .a)) most) (leb (word s (t .b)) most) .0 (u .0) in
+    record { first = leb-true _ most (v .0); second = leb-true _ most (v .1); third = leb-true _ most (u .1) }
 
 pub read-within : (s : List ℕ) (q : Parts) → room s q ≡ true → Within s (q .read) 4096
 unfolding room
-read-within s q e = both (fit s (q .read) 4096) _ e (λ d f. fit-within s _ _ d)
+read-within s q e = fit-within s _ _ (and-eq-true-iff (fit s (q .read) 4096) _ .0 e .0)
 
 pub written-within : (s : List ℕ) (q : Parts) → room s q ≡ true → Within s (q .written) 12352
 unfolding room
-written-within s q e = both (fit s (q .read) 4096) _ e (λ d f. fit-within s _ _ f)
+written-within s q e = fit-within s _ _ (and-eq-true-iff (fit s (q .read) 4096) _ .0 e .1)
 
 -- the tests of a case
 module _ (call : Call) (s : List ℕ) (at : ℕ) where

@@ -4,11 +4,12 @@ use mathlib.Core.Bool.{Bool}
 use mathlib.Core.List.{List}
 use mathlib.Core.Path.{_≡_}
 use Rattle.recorded.specs.Stream.{follows}
-use Rattle.replay.specs.Cases.{Outcome}
+use Rattle.replay.specs.Cases.{Stores, number, outcome}
+use Rattle.replay.specs.declared.calls.Call.{Call}
 
--- whether the answer recorded at a place is an outcome's; the written stores are the outcome's
-pub record Asked (o : Outcome) (s : List ℕ) (said : ℕ) (same : Bool) (x y z : List ℕ) : Type 0 where
-  pub told : same ≡ follows s said (o .words)
-  pub first : x ≡ o .after .a
-  pub second : y ≡ o .after .b
-  pub third : z ≡ o .after .c
+-- the case at a place, in the stores r that its call reads and w that it writes: whether the answer recorded at `said` is the call's; x to z are the written stores after it
+pub record Asked (call : Call) (s : List ℕ) (at said : ℕ) (r w : Stores) (same : Bool) (x y z : List ℕ) : Type 0 where
+  pub told : same ≡ follows s said (outcome call (number s at) r w .words)
+  pub first : x ≡ outcome call (number s at) r w .after .a
+  pub second : y ≡ outcome call (number s at) r w .after .b
+  pub third : z ≡ outcome call (number s at) r w .after .c

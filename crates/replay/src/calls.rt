@@ -4,9 +4,8 @@ use recorded::number;
 ghost use mathlib.Core.List.{[]};
 ghost use mathlib.Core.Path.{_≡_};
 ghost use Rattle.recorded.specs.Stream as Stream;
-ghost use Rattle.replay.specs.Cases.{shape, shapeOf, number, outcome, stores};
+ghost use Rattle.replay.specs.Cases.{shape, shapeOf, stores};
 ghost use Rattle.replay.specs.Contracts.{Asked};
-ghost use Rattle.replay.specs.declared.calls.Call as Calls;
 
 // A call.
 pub enum Call {
@@ -71,7 +70,7 @@ fn answers_long(s: &[u8], said: usize, answer: &[u64; 18]) -> bool
 
 // Step on the case at a place: whether its answer is the one recorded at `said`.
 fn step(s: &[u8], at: usize, said: usize, list: &mut [u64]) -> bool
-    ensures { λ r. ⌜ Asked (outcome Call.Step (number (now (s .entry)) at) (stores [] [] []) (stores (now (list .entry)) [] [])) (now (s .entry)) said r (now (list .exit)) [] [] ⌝ }
+    ensures { λ r. ⌜ Asked Call.Step (now (s .entry)) at said (stores [] [] []) (stores (now (list .entry)) [] []) r (now (list .exit)) [] [] ⌝ }
 {
     let mut answer = [0u64; 4];
     let n = number(s, at, 0) as usize;
@@ -91,7 +90,7 @@ fn build(
     result: &mut [u64],
     map: &mut [u64],
 ) -> bool
-    ensures { λ r. ⌜ Asked (outcome Call.Build (number (now (s .entry)) at) (stores (now (list .entry)) [] []) (stores (now (result .entry)) (now (map .entry)) [])) (now (s .entry)) said r (now (result .exit)) (now (map .exit)) [] ⌝ }
+    ensures { λ r. ⌜ Asked Call.Build (now (s .entry)) at said (stores (now (list .entry)) [] []) (stores (now (result .entry)) (now (map .entry)) []) r (now (result .exit)) (now (map .exit)) [] ⌝ }
 {
     let mut answer = [0u64; 4];
     let n = number(s, at, 0) as usize;
@@ -102,7 +101,7 @@ fn build(
 
 // Compact on the case at a place: whether its answer is the one recorded at `said`.
 fn compact(s: &[u8], at: usize, said: usize, list: &[u64], result: &mut [u64]) -> bool
-    ensures { λ r. ⌜ Asked (outcome Call.Compact (number (now (s .entry)) at) (stores (now (list .entry)) [] []) (stores (now (result .entry)) [] [])) (now (s .entry)) said r (now (result .exit)) [] [] ⌝ }
+    ensures { λ r. ⌜ Asked Call.Compact (now (s .entry)) at said (stores (now (list .entry)) [] []) (stores (now (result .entry)) [] []) r (now (result .exit)) [] [] ⌝ }
 {
     let mut answer = [0u64; 4];
     let n = number(s, at, 0) as usize;
@@ -120,7 +119,7 @@ fn normalize(
     result: &mut [u64],
     work: &mut [u64],
 ) -> bool
-    ensures { λ r. ⌜ Asked (outcome Call.Normalize (number (now (s .entry)) at) (stores (now (list .entry)) [] []) (stores (now (result .entry)) (now (work .entry)) [])) (now (s .entry)) said r (now (result .exit)) (now (work .exit)) [] ⌝ }
+    ensures { λ r. ⌜ Asked Call.Normalize (now (s .entry)) at said (stores (now (list .entry)) [] []) (stores (now (result .entry)) (now (work .entry)) []) r (now (result .exit)) (now (work .exit)) [] ⌝ }
 {
     let mut answer = [0u64; 4];
     let n = number(s, at, 0) as usize;
@@ -131,7 +130,7 @@ fn normalize(
 
 // Evaluate on the case at a place: whether its answer is the one recorded at `said`.
 fn evaluate(s: &[u8], at: usize, said: usize, list: &[u64], assignment: &[u64]) -> bool
-    ensures { λ r. ⌜ r ≡ Stream.follows (now (s .entry)) said (outcome Call.Evaluate (number (now (s .entry)) at) (stores (now (list .entry)) (now (assignment .entry)) []) (stores [] [] []) .words) ⌝ }
+    ensures { λ r. ⌜ Asked Call.Evaluate (now (s .entry)) at said (stores (now (list .entry)) (now (assignment .entry)) []) (stores [] [] []) r [] [] [] ⌝ }
 {
     let mut answer = [0u64; 4];
     let n = number(s, at, 0) as usize;
@@ -143,7 +142,7 @@ fn evaluate(s: &[u8], at: usize, said: usize, list: &[u64], assignment: &[u64]) 
 
 // Prepare on the case at a place: whether its answer is the one recorded at `said`.
 fn prepare(s: &[u8], at: usize, said: usize, lengths: &[u64], entries: &[u64]) -> bool
-    ensures { λ r. ⌜ r ≡ Stream.follows (now (s .entry)) said (outcome Call.Prepare (number (now (s .entry)) at) (stores (now (lengths .entry)) (now (entries .entry)) []) (stores [] [] []) .words) ⌝ }
+    ensures { λ r. ⌜ Asked Call.Prepare (now (s .entry)) at said (stores (now (lengths .entry)) (now (entries .entry)) []) (stores [] [] []) r [] [] [] ⌝ }
 {
     let mut answer = [0u64; 18];
     ace::ace_prepare(lengths, entries, &mut answer);
@@ -162,7 +161,7 @@ fn lower(
     work: &mut [u64],
     places: &mut [u64],
 ) -> bool
-    ensures { λ r. ⌜ Asked (outcome Call.Lower (number (now (s .entry)) at) (stores (now (list .entry)) (now (lengths .entry)) (now (entries .entry))) (stores (now (result .entry)) (now (work .entry)) (now (places .entry)))) (now (s .entry)) said r (now (result .exit)) (now (work .exit)) (now (places .exit)) ⌝ }
+    ensures { λ r. ⌜ Asked Call.Lower (now (s .entry)) at said (stores (now (list .entry)) (now (lengths .entry)) (now (entries .entry))) (stores (now (result .entry)) (now (work .entry)) (now (places .entry))) r (now (result .exit)) (now (work .exit)) (now (places .exit)) ⌝ }
 {
     let mut answer = [0u64; 4];
     let n = number(s, at, 0) as usize;
@@ -194,7 +193,7 @@ pub fn ask(
     y: &mut [u64],
     z: &mut [u64],
 ) -> bool
-    ensures { λ r. ⌜ Asked (outcome call (number (now (s .entry)) at) (stores (now (a .entry)) (now (b .entry)) (now (c .entry))) (stores (now (x .entry)) (now (y .entry)) (now (z .entry)))) (now (s .entry)) said r (now (x .exit)) (now (y .exit)) (now (z .exit)) ⌝ }
+    ensures { λ r. ⌜ Asked call (now (s .entry)) at said (stores (now (a .entry)) (now (b .entry)) (now (c .entry))) (stores (now (x .entry)) (now (y .entry)) (now (z .entry))) r (now (x .exit)) (now (y .exit)) (now (z .exit)) ⌝ }
 {
     match call {
         Call::Step => step(s, at, said, x),

@@ -32,7 +32,17 @@ past-requires-3 c κs = search needs
 
 returns : tie.Need-returns
 returns c =
-    parts-made _ _ _ _ _ _ _ _ _ _ _ _ (c .before .before .before .before .before .before .before .before .shape-of .ensures) (c .before .before .before .before .before .before .before .skip .ensures) (c .before .before .before .before .before .before .past .ensures) (c .before .before .before .before .before .past2 .ensures) (c .before .before .before .before .skip2 .ensures) (c .before .before .before .places .ensures) (c .before .before .places2 .ensures) (c .before .places3 .ensures) (c .past3 .ensures)
+    let b = c .before .before .before .before in
+    parts-made _ _ _ _ _ _ _ _ _ _ _ _
+    (b .before .before .before .before .shape-of .ensures)
+    (b .before .before .before .skip .ensures)
+    (b .before .before .past .ensures)
+    (b .before .past2 .ensures)
+    (b .skip2 .ensures)
+    (c .before .before .before .places .ensures)
+    (c .before .before .places2 .ensures)
+    (c .before .places3 .ensures)
+    (c .past3 .ensures)
 
 pub parts-of-spec : {M : Type 1} → statement M
 parts-of-spec =

@@ -92,13 +92,13 @@ returns-5 : tie.Need-returns-5
 unfolding outcome
 returns-5 c =
     let h = c .evaluate .ensures in
-    rw (c .before .enum-told5 .given .1) (record { told = h; first = refl; second = refl; third = refl })
+    rw (c .before .enum-told5 .given .1) (record { told = h .told; first = refl; second = refl; third = refl })
 
 returns-6 : tie.Need-returns-6
 unfolding outcome
 returns-6 c =
     let h = c .prepare .ensures in
-    rw (c .before .enum-told6 .given .1) (record { told = h; first = refl; second = refl; third = refl })
+    rw (c .before .enum-told6 .given .1) (record { told = h .told; first = refl; second = refl; third = refl })
 
 same-length-7 : tie.Need-same-length-7
 same-length-7 c = search needs

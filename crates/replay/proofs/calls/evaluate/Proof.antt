@@ -1,3 +1,4 @@
+use mathlib.Core.Path.{refl}
 use Rattle.replay.specs.Cases.{outcome}
 use borrow.Author.Needs.{needs}
 use Rattle.replay.proofs.calls.evaluate.Statement.{statement}
@@ -20,7 +21,7 @@ answers-requires c κs = search needs
 
 returns : tie.Need-returns
 unfolding outcome
-returns c = cc
+returns c = record { told = cc; first = refl; second = refl; third = refl }
 
 pub evaluate-spec : {M : Type 1} → statement M
 evaluate-spec =

@@ -28,9 +28,10 @@ same-length-3 c = search needs
 returns : tie.Need-returns
 unfolding outcome
 returns c =
-    let e = c .before .before .before .before .before .before .before .before .ace-lower .ensures in
-    let n = c .before .before .before .before .before .before .before .before .before .before .before .before .before .before .number .ensures in
-    let period = c .before .before .before .before .before .before .before .before .before .before .before .before .before .number2 .ensures in
+    let b = c .before .before .before .before .before .before .before .before in
+    let e = b .ace-lower .ensures in
+    let n = b .before .before .before .before .before .before .number .ensures in
+    let period = b .before .before .before .before .before .number2 .ensures in
     record { told = c .answers .ensures ∙ rw (e .1 .1 .1, n, period); first = e .0 ∙ rw (n, period); second = e .1 .0 ∙ rw (n, period); third = e .1 .1 .0 ∙ rw (n, period) }
 
 pub lower-spec : {M : Type 1} → statement M

@@ -1,3 +1,4 @@
+use mathlib.Core.Path.{refl}
 use Rattle.replay.specs.Cases.{outcome}
 use borrow.Author.Needs.{needs}
 use Rattle.replay.proofs.calls.prepare.Statement.{statement}
@@ -11,7 +12,7 @@ answers-long-requires c κs = search needs
 
 returns : tie.Need-returns
 unfolding outcome
-returns c = cc
+returns c = record { told = cc; first = refl; second = refl; third = refl }
 
 pub prepare-spec : {M : Type 1} → statement M
 prepare-spec = tie.close (tie.spec ace-prepare-requires answers-long-requires returns)
