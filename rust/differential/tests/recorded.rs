@@ -15,6 +15,11 @@ const BUFFER: usize = 262_144;
 /// A section's head: the call's number, the cases, their words.
 const HEAD: usize = 24;
 
+/// The number of cases that a section's head gives.
+fn cases(section: &[u8]) -> u64 {
+    u64::from_le_bytes(section[8..16].try_into().unwrap())
+}
+
 #[test]
 fn the_recorded_stream_is_the_commands() {
     let file = Path::new(env!("CARGO_MANIFEST_DIR")).join("../../crates/replay/stdin");
@@ -23,6 +28,7 @@ fn the_recorded_stream_is_the_commands() {
     for call in Call::ALL {
         let section = record::sample(call, COUNT, SEED);
         let name = call.signature().name;
+        assert_eq!(cases(&section), COUNT as u64, "{name}");
         assert!(section.len() <= HEAD + BUFFER, "{name}: too long for replay's buffer");
         assert!(
             rest.starts_with(&section),
@@ -34,10 +40,8 @@ fn the_recorded_stream_is_the_commands() {
 }
 
 #[test]
-fn as_many_cases_as_asked_for() {
+fn a_small_sample_has_as_many_cases_as_asked_for() {
     for call in Call::ALL {
-        for count in [20, COUNT] {
-            assert_eq!(record::chosen(call, count, SEED).len(), count, "{}", call.signature().name);
-        }
+        assert_eq!(record::chosen(call, 20, SEED).len(), 20, "{}", call.signature().name);
     }
 }
