@@ -5,11 +5,11 @@ use Rattle.dag.specs.Refusals.{number, place}
 use lib.ListN.{replicate}
 use Rattle.dag.specs.declared.Refusal.{Refusal}
 use Rattle.dag.specs.declared.Checked.{Checked}
-use Rattle.compact.specs.declared.Compacted.{Compacted}
+use Rattle.compact.specs.declared.CompactAnswer.{CompactAnswer}
 use Rattle.normalize.specs.declared.NormalizeAnswer.{NormalizeAnswer}
-use Rattle.evaluate.specs.declared.Evaluated.{Evaluated}
+use Rattle.evaluate.specs.declared.EvaluateAnswer.{EvaluateAnswer}
 use Rattle.lower.specs.declared.LowerAnswer.{LowerAnswer}
-use Rattle.columns.specs.declared.Prepared.{Prepared}
+use Rattle.columns.specs.declared.PrepareAnswer.{PrepareAnswer}
 use Rattle.builder.specs.declared.StepAnswer.{StepAnswer}
 use Rattle.builder.specs.declared.BuildAnswer.{BuildAnswer}
 
@@ -24,23 +24,23 @@ abbrev pub buildWords : BuildAnswer → List ℕ
 buildWords (BuildAnswer.Done count root) = 0 ∷ count ∷ root ∷ 0 ∷ []
 buildWords (BuildAnswer.Refused r) = refusedWords r
 
-abbrev pub compactWords : Compacted → List ℕ
-compactWords (Compacted.Done count root) = 0 ∷ count ∷ root ∷ 0 ∷ []
-compactWords (Compacted.Refused r) = refusedWords r
+abbrev pub compactWords : CompactAnswer → List ℕ
+compactWords (CompactAnswer.Done count root) = 0 ∷ count ∷ root ∷ 0 ∷ []
+compactWords (CompactAnswer.Refused r) = refusedWords r
 
 abbrev pub normalizeWords : NormalizeAnswer → List ℕ
 normalizeWords (NormalizeAnswer.Done count root rounds) = 0 ∷ count ∷ root ∷ rounds ∷ []
 normalizeWords (NormalizeAnswer.Refused r) = refusedWords r
 
-abbrev pub evaluateWords : Evaluated → List ℕ
-evaluateWords (Evaluated.Value v) = 0 ∷ v .c0 ∷ v .c1 ∷ 0 ∷ []
-evaluateWords (Evaluated.Refused r) = refusedWords r
+abbrev pub evaluateWords : EvaluateAnswer → List ℕ
+evaluateWords (EvaluateAnswer.Value v) = 0 ∷ v .c0 ∷ v .c1 ∷ 0 ∷ []
+evaluateWords (EvaluateAnswer.Refused r) = refusedWords r
 
 abbrev pub checkedWords : Checked → ℕ → List ℕ → List ℕ
 checkedWords Checked.Good count forms = 0 ∷ count ∷ forms
 checkedWords (Checked.Refused r) count forms = number r ∷ place r ∷ replicate 16 0
 
-abbrev pub prepareWords : Prepared → List ℕ
+abbrev pub prepareWords : PrepareAnswer → List ℕ
 prepareWords a = checkedWords (a .checked) (a .count) (a .forms)
 
 abbrev pub lowerWords : LowerAnswer → List ℕ

@@ -1,11 +1,11 @@
 // The exported calls, for C and Rust (include/ace.h): each lends its stores to the library and writes the answer's words.
 use builder::BuildAnswer;
 use builder::StepAnswer;
-use columns::Prepared;
-use compact::Compacted;
+use columns::PrepareAnswer;
+use compact::CompactAnswer;
 use dag::Checked;
 use dag::Refusal;
-use evaluate::Evaluated;
+use evaluate::EvaluateAnswer;
 use lower::LowerAnswer;
 use normalize::NormalizeAnswer;
 ghost use mathlib.Core.Path.{_≡_};
@@ -48,12 +48,12 @@ fn build_words(a: BuildAnswer) -> [u64; 4]
 }
 
 // The words of Compact's answer.
-fn compact_words(a: Compacted) -> [u64; 4]
+fn compact_words(a: CompactAnswer) -> [u64; 4]
     ensures { λ w. ⌜ w ≡ Answers.compactWords a ⌝ }
 {
     match a {
-        Compacted::Done { count, root } => [0, count as u64, root as u64, 0],
-        Compacted::Refused(r) => refused_words(r),
+        CompactAnswer::Done { count, root } => [0, count as u64, root as u64, 0],
+        CompactAnswer::Refused(r) => refused_words(r),
     }
 }
 
@@ -72,17 +72,17 @@ fn normalize_words(a: NormalizeAnswer) -> [u64; 4]
 }
 
 // The words of Evaluate's answer.
-fn evaluate_words(a: Evaluated) -> [u64; 4]
+fn evaluate_words(a: EvaluateAnswer) -> [u64; 4]
     ensures { λ w. ⌜ w ≡ Answers.evaluateWords a ⌝ }
 {
     match a {
-        Evaluated::Value(v) => [0, v.c0, v.c1, 0],
-        Evaluated::Refused(r) => refused_words(r),
+        EvaluateAnswer::Value(v) => [0, v.c0, v.c1, 0],
+        EvaluateAnswer::Refused(r) => refused_words(r),
     }
 }
 
 // The words of Prepare's answer.
-fn prepare_words(a: Prepared) -> [u64; 18]
+fn prepare_words(a: PrepareAnswer) -> [u64; 18]
     ensures { λ w. ⌜ w ≡ Answers.prepareWords a ⌝ }
 {
     let checked = a.checked;

@@ -9,7 +9,7 @@ use Rattle.dag.specs.declared.Refusal.the-variants.{StoreTooShort, Malformed, T
 use Rattle.dag.specs.declared.Checked.{Checked}
 use Rattle.dag.specs.declared.Checked.the-variants.{Good, Refused}
 use Rattle.columns.specs.Columns.{isPower, column, form, formNumber}
-use Rattle.columns.specs.declared.Prepared.{Prepared}
+use Rattle.columns.specs.declared.PrepareAnswer.{PrepareAnswer}
 
 -- how many entries columns of these lengths have
 unfoldable pub total : List ℕ → ℕ
@@ -59,9 +59,9 @@ unfoldable pub forms : ℕ → List (List ℕ) → List ℕ
 forms m cs = padded 0 mostColumns (upTo (λ j. formNumber (form m cs j)) (length cs))
 
 -- the answer to columns that were tested
-unfoldable pub answer : ℕ → List (List ℕ) → Checked → Prepared
+unfoldable pub answer : ℕ → List (List ℕ) → Checked → PrepareAnswer
 answer m cs Good = record { checked = Good; count = length cs; forms = forms m cs }
 answer m cs (Refused r) = record { checked = Refused r; count = 0; forms = padded 0 mostColumns [] }
 
-unfoldable pub prepare : ℕ → List ℕ → List ℕ → Prepared
+unfoldable pub prepare : ℕ → List ℕ → List ℕ → PrepareAnswer
 prepare m ls es = answer m (columns ls es) (prepareCheck m ls es)

@@ -22,7 +22,7 @@ use Rattle.columns.specs.Prepare.{total, columns, allBelow, lengthCheck,
 use Rattle.columns.specs.LogLaws.{power-pos, power-le}
 use Rattle.columns.specs.ColumnLaws.{length-columns, column-length}
 use Rattle.columns.specs.Contracts.{Column, Handed, Tested}
-use Rattle.columns.specs.declared.Prepared.{Prepared}
+use Rattle.columns.specs.declared.PrepareAnswer.{PrepareAnswer}
 
 -- entries from place i on
 module _ (m : ℕ) (c : List ℕ) (i : ℕ) (t : Bool) where

@@ -28,7 +28,7 @@ pub enum Form {
 }
 
 // Prepare's answer: what the tests said, the number of columns, and each column's form as a number, 0 past the last.
-pub struct Prepared {
+pub struct PrepareAnswer {
     pub checked: Checked,
     pub count: usize,
     pub forms: [u64; 16],
@@ -516,18 +516,18 @@ pub fn prepare_check(lengths: &[u64], entries: &[u64]) -> Checked
 }
 
 // Prepare: the tests, and each column's form.
-pub fn prepare(lengths: &[u64], entries: &[u64]) -> Prepared
+pub fn prepare(lengths: &[u64], entries: &[u64]) -> PrepareAnswer
     ensures { λ r. ⌜ r ≡ Prepare.prepare p (now (lengths .entry)) (now (entries .entry)) ⌝ }
 {
     let checked = prepare_check(lengths, entries);
     if dag::is_refused(checked) {
-        return Prepared {
+        return PrepareAnswer {
             checked,
             count: 0,
             forms: [0u64; 16],
         };
     }
-    Prepared {
+    PrepareAnswer {
         checked,
         count: lengths.len(),
         forms: forms(lengths, entries),

@@ -28,7 +28,7 @@ use Rattle.dag.specs.WordLaws.{length-written, written-filled}
 use Rattle.compact.specs.Contracts.{mostMarks, Unmarked, Markable, Numbered, Writing}
 use Rattle.compact.specs.Calls.{compacted, keptOf, compactCheck, compactAnswer, compactResult}
 use Rattle.compact.specs.declared.Kept.{Kept}
-use Rattle.compact.specs.declared.Compacted.the-variants.{Done, Refused}
+use Rattle.compact.specs.declared.CompactAnswer.the-variants.{Done, Refused}
 
 abbrev pub kept-of : ℕ → ℕ → Kept
 kept-of count root = record { count = count; root = root }

@@ -11,8 +11,8 @@ use Rattle.dag.specs.declared.Refusal.the-variants.{StoreTooShort}
 use Rattle.dag.specs.declared.Checked.{Checked}
 use Rattle.compact.specs.Compact.{compact, Rooted}
 use Rattle.compact.specs.declared.Kept.{Kept}
-use Rattle.compact.specs.declared.Compacted.{Compacted}
-use Rattle.compact.specs.declared.Compacted.the-variants.{Done, Refused}
+use Rattle.compact.specs.declared.CompactAnswer.{CompactAnswer}
+use Rattle.compact.specs.declared.CompactAnswer.the-variants.{Done, Refused}
 
 -- the list that a store holds, compacted to what its root reaches
 unfoldable pub compacted : List ℕ → ℕ → ℕ → Rooted
@@ -28,7 +28,7 @@ module _ (field : Field) where
   compactCheck s n root resultWords = listCheck (field .bounds) s n root then need (leb (3 * n) resultWords) StoreTooShort
 
   -- count and root
-  unfoldable pub compactAnswer : List ℕ → ℕ → ℕ → ℕ → Compacted
+  unfoldable pub compactAnswer : List ℕ → ℕ → ℕ → ℕ → CompactAnswer
   compactAnswer s n root resultWords =
       let k = keptOf (compacted s n root) in
       unlessRefused (compactCheck s n root resultWords) Refused (Done (k .count) (k .root))

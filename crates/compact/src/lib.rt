@@ -21,7 +21,7 @@ pub struct Kept {
 }
 
 // Compact's answer.
-pub enum Compacted {
+pub enum CompactAnswer {
     Done { count: usize, root: usize },
     Refused(Refusal),
 }
@@ -169,17 +169,17 @@ fn compact_check(list: &[u64], n: usize, root: usize, result_words: usize) -> Ch
 }
 
 // Compact: the records that the root reaches, in order, into the result store.
-pub fn compact(list: &[u64], n: usize, root: usize, result: &mut [u64]) -> Compacted
+pub fn compact(list: &[u64], n: usize, root: usize, result: &mut [u64]) -> CompactAnswer
     ensures answer { λ r. ⌜ r ≡ Calls.compactAnswer goldilocks (now (list .entry)) n root (length (now (result .entry))) ⌝ }
     ensures store { λ _. ⌜ now (result .exit) ≡ Calls.compactResult goldilocks (now (list .entry)) n root (now (result .entry)) ⌝ }
 {
     let checked = compact_check(list, n, root, result.len());
     match checked {
-        Checked::Refused(r) => Compacted::Refused(r),
+        Checked::Refused(r) => CompactAnswer::Refused(r),
         Checked::Good => {
             let kept = compact_sized(list, n, root, result);
             dag::blank_from(result, 3 * kept.count);
-            Compacted::Done {
+            CompactAnswer::Done {
                 count: kept.count,
                 root: kept.root,
             }

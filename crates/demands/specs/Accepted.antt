@@ -15,11 +15,11 @@ use Rattle.builder.specs.Calls.{stepped, stepWholeCheck, stepAnswer, buildCheck
 use Rattle.builder.specs.declared.StepAnswer.the-variants as StepAnswer'
 use Rattle.builder.specs.declared.BuildAnswer.the-variants as BuildAnswer'
 use Rattle.compact.specs.Calls.{compactCheck, compactAnswer}
-use Rattle.compact.specs.declared.Compacted.the-variants as Compacted'
+use Rattle.compact.specs.declared.CompactAnswer.the-variants as CompactAnswer'
 use Rattle.normalize.specs.Calls.{normalizeCheck, normalizeAnswer}
 use Rattle.normalize.specs.declared.NormalizeAnswer.the-variants as NormalizeAnswer'
 use Rattle.evaluate.specs.Calls.{evaluateCheck, evaluateAnswer}
-use Rattle.evaluate.specs.declared.Evaluated.the-variants as Evaluated'
+use Rattle.evaluate.specs.declared.EvaluateAnswer.the-variants as EvaluateAnswer'
 use Rattle.columns.specs.Prepare.{columns, prepareCheck, answer, prepare}
 use Rattle.lower.specs.Lower.{wholeCheck, lowerAnswer}
 use Rattle.lower.specs.declared.LowerAnswer.the-variants as LowerAnswer'
@@ -42,7 +42,7 @@ module _ (field : Field) where
 
       pub compact-accepts : (outcome (compactWords (compactAnswer field s n root resultWords)) ≡ 0) ↔ (compactCheck field s n root resultWords ≡ Good)
       unfolding compactAnswer
-      compact-accepts = zero-accepts (λ w. outcome (compactWords w)) Compacted'.Refused _ (λ r. refl) refl (compactCheck field s n root resultWords)
+      compact-accepts = zero-accepts (λ w. outcome (compactWords w)) CompactAnswer'.Refused _ (λ r. refl) refl (compactCheck field s n root resultWords)
 
       pub normalize-accepts : (workWords : ℕ) → (outcome (normalizeWords (normalizeAnswer field s n root resultWords workWords)) ≡ 0) ↔ (normalizeCheck field s n root resultWords workWords ≡ Good)
       unfolding normalizeAnswer
@@ -51,7 +51,7 @@ module _ (field : Field) where
 
     pub evaluate-accepts : (root : ℕ) (a : List ℕ) (m : ℕ) → (outcome (evaluateWords (evaluateAnswer field s n root a m)) ≡ 0) ↔ (evaluateCheck field s n root a m ≡ Good)
     unfolding evaluateAnswer
-    evaluate-accepts root a m = zero-accepts (λ w. outcome (evaluateWords w)) Evaluated'.Refused _ (λ r. refl) refl (evaluateCheck field s n root a m)
+    evaluate-accepts root a m = zero-accepts (λ w. outcome (evaluateWords w)) EvaluateAnswer'.Refused _ (λ r. refl) refl (evaluateCheck field s n root a m)
 
     pub lower-accepts : (ls es : List ℕ) (period : ℕ) (result work places : List ℕ)
         → (outcome (lowerWords (lowerAnswer field s n ls es period result work places)) ≡ 0) ↔ (wholeCheck field s n ls es period result work places ≡ Good)

@@ -33,7 +33,7 @@ use Rattle.evaluate.specs.Entries.{entriesCheck, entryOf, isFound, hasEntry, in
 use Rattle.evaluate.specs.Calls.{entryWords, given, evaluateCheck, evaluateAnswer}
 use Rattle.evaluate.specs.CallLaws.{entries-pass}
 use Rattle.evaluate.specs.ValueStepLaws.{given-low}
-use Rattle.evaluate.specs.declared.Evaluated.the-variants.{Value, Refused}
+use Rattle.evaluate.specs.declared.EvaluateAnswer.the-variants.{Value, Refused}
 use Rattle.normalize.specs.Calls.{normalizeCheck, normalized, normalizeResult}
 use Rattle.demands.specs.Behind.{same-front, same-nodes, same-check}
 use Rattle.demands.specs.Inputs.{Keyed, Inputs, KeyOf, own-keys, inputs-through, replay-inputs, compact-inputs, normalize-inputs}

@@ -24,7 +24,7 @@ use Rattle.evaluate.specs.Entries.{Lent, mostEntries, entryCheck, entrie
 use Rattle.evaluate.specs.EntryLaws.{Last, found-last}
 use Rattle.evaluate.specs.Calls.{entryWords, elementOf, given, evaluateCheck, evaluateAnswer}
 use Rattle.evaluate.specs.Contracts.{Ready, Tested}
-use Rattle.evaluate.specs.declared.Evaluated.the-variants.{Value, Refused}
+use Rattle.evaluate.specs.declared.EvaluateAnswer.the-variants.{Value, Refused}
 
 -- entries that pass
 pub entries-pass : (m : Bounds) (width : ℕ) (e : List ℕ) (n : ℕ) → 0 < width → entriesCheck m width e n ≡ Checked'.Good

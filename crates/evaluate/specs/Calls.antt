@@ -13,8 +13,8 @@ use Rattle.dag.specs.declared.Found.the-variants.{At, Missing}
 use Rattle.dag.specs.declared.Checked.{Checked}
 use Rattle.meaning.specs.Values.{value}
 use Rattle.evaluate.specs.Entries.{entriesCheck, entryOf, inputsCheck}
-use Rattle.evaluate.specs.declared.Evaluated.{Evaluated}
-use Rattle.evaluate.specs.declared.Evaluated.the-variants.{Value, Refused}
+use Rattle.evaluate.specs.declared.EvaluateAnswer.{EvaluateAnswer}
+use Rattle.evaluate.specs.declared.EvaluateAnswer.the-variants.{Value, Refused}
 
 -- the words of an assignment's entry: key number, c0, c1
 abbrev pub entryWords : ℕ
@@ -38,6 +38,6 @@ module _ (field : Field) where
       then inputsCheck (entryOf entryWords a m) (nodes s n) n
 
   -- the root's value
-  unfoldable pub evaluateAnswer : List ℕ → ℕ → ℕ → List ℕ → ℕ → Evaluated
+  unfoldable pub evaluateAnswer : List ℕ → ℕ → ℕ → List ℕ → ℕ → EvaluateAnswer
   evaluateAnswer s n root a m =
       unlessRefused (evaluateCheck s n root a m) Refused (Value (value (field .elements) (given a m) (nodes s n) root))

@@ -27,7 +27,7 @@ pub const MOST_ENTRIES: usize = 4096;
 pub const ENTRY_WORDS: usize = 3;
 
 // Evaluate's answer.
-pub enum Evaluated {
+pub enum EvaluateAnswer {
     Value(QuadFelt),
     Refused(Refusal),
 }
@@ -288,7 +288,7 @@ fn evaluate_in(
     c0: &mut [u64],
     c1: &mut [u64],
     links: &mut [u64],
-) -> Evaluated
+) -> EvaluateAnswer
     requires { ⌜ Contracts.Tested goldilocks (now list) n root (now assignment) m ⌝ }
     requires { ⌜ Contracts.Stores n m (now c0) (now c1) (now links) ⌝ }
     ensures { λ r. ⌜ r ≡ Calls.evaluateAnswer goldilocks (now (list .entry)) n root (now (assignment .entry)) m ⌝ }
@@ -296,13 +296,13 @@ fn evaluate_in(
     index_keys(assignment, ENTRY_WORDS, m, links);
     let filled = fill_values(list, n, assignment, m, links, c0, c1);
     match filled {
-        Checked::Refused(r) => Evaluated::Refused(r),
-        Checked::Good => Evaluated::Value(element_at(c0, c1, root)),
+        Checked::Refused(r) => EvaluateAnswer::Refused(r),
+        Checked::Good => EvaluateAnswer::Value(element_at(c0, c1, root)),
     }
 }
 
 // Evaluate in small stores.
-fn evaluate_small(list: &[u64], n: usize, root: usize, assignment: &[u64], m: usize) -> Evaluated
+fn evaluate_small(list: &[u64], n: usize, root: usize, assignment: &[u64], m: usize) -> EvaluateAnswer
     requires { ⌜ Contracts.Tested goldilocks (now list) n root (now assignment) m × (n ≤ 64) × (m ≤ 64) ⌝ }
     ensures { λ r. ⌜ r ≡ Calls.evaluateAnswer goldilocks (now (list .entry)) n root (now (assignment .entry)) m ⌝ }
 {
@@ -313,7 +313,7 @@ fn evaluate_small(list: &[u64], n: usize, root: usize, assignment: &[u64], m: us
 }
 
 // Evaluate in middle stores.
-fn evaluate_middle(list: &[u64], n: usize, root: usize, assignment: &[u64], m: usize) -> Evaluated
+fn evaluate_middle(list: &[u64], n: usize, root: usize, assignment: &[u64], m: usize) -> EvaluateAnswer
     requires { ⌜ Contracts.Tested goldilocks (now list) n root (now assignment) m × (n ≤ 512) × (m ≤ 512) ⌝ }
     ensures { λ r. ⌜ r ≡ Calls.evaluateAnswer goldilocks (now (list .entry)) n root (now (assignment .entry)) m ⌝ }
 {
@@ -324,7 +324,7 @@ fn evaluate_middle(list: &[u64], n: usize, root: usize, assignment: &[u64], m: u
 }
 
 // Evaluate in large stores.
-fn evaluate_large(list: &[u64], n: usize, root: usize, assignment: &[u64], m: usize) -> Evaluated
+fn evaluate_large(list: &[u64], n: usize, root: usize, assignment: &[u64], m: usize) -> EvaluateAnswer
     requires { ⌜ Contracts.Tested goldilocks (now list) n root (now assignment) m × (n ≤ 4096) × (m ≤ 4096) ⌝ }
     ensures { λ r. ⌜ r ≡ Calls.evaluateAnswer goldilocks (now (list .entry)) n root (now (assignment .entry)) m ⌝ }
 {
@@ -335,7 +335,7 @@ fn evaluate_large(list: &[u64], n: usize, root: usize, assignment: &[u64], m: us
 }
 
 // Evaluate behind the tests of its words, in stores of a fitting size.
-fn evaluate_sized(list: &[u64], n: usize, root: usize, assignment: &[u64], m: usize) -> Evaluated
+fn evaluate_sized(list: &[u64], n: usize, root: usize, assignment: &[u64], m: usize) -> EvaluateAnswer
     requires { ⌜ Contracts.Tested goldilocks (now list) n root (now assignment) m ⌝ }
     ensures { λ r. ⌜ r ≡ Calls.evaluateAnswer goldilocks (now (list .entry)) n root (now (assignment .entry)) m ⌝ }
 {
@@ -361,12 +361,12 @@ fn words_check(list: &[u64], n: usize, root: usize, assignment: &[u64], m: usize
 }
 
 // Evaluate: the root's value under an assignment.
-pub fn evaluate(list: &[u64], n: usize, root: usize, assignment: &[u64], m: usize) -> Evaluated
+pub fn evaluate(list: &[u64], n: usize, root: usize, assignment: &[u64], m: usize) -> EvaluateAnswer
     ensures { λ r. ⌜ r ≡ Calls.evaluateAnswer goldilocks (now (list .entry)) n root (now (assignment .entry)) m ⌝ }
 {
     let checked = words_check(list, n, root, assignment, m);
     match checked {
-        Checked::Refused(r) => Evaluated::Refused(r),
+        Checked::Refused(r) => EvaluateAnswer::Refused(r),
         Checked::Good => evaluate_sized(list, n, root, assignment, m),
     }
 }
