@@ -18,6 +18,18 @@ ghost use Rattle.builder.specs.Steps as Steps;
 ghost use Rattle.builder.specs.Contracts as Contracts;
 ghost use Rattle.builder.specs.Calls as Calls;
 
+// A constant's tag.
+const CONSTANT: u64 = 1;
+
+// A sum's tag.
+const ADD: u64 = 2;
+
+// A difference's tag.
+const SUB: u64 = 3;
+
+// A negation's tag.
+const NEG: u64 = 5;
+
 // What a rule of a step says: a place, a record to intern, or operands handed to the other of add and sub.
 pub enum Rule {
     Use(usize),
@@ -70,14 +82,18 @@ fn has_tag(x: NodeKind, t: u64) -> bool
 fn both_constant(x: NodeKind, y: NodeKind) -> bool
     ensures { λ r. ⌜ r ≡ (Steps.isConstant x && Steps.isConstant y) ⌝ }
 {
-    if has_tag(x, 1) { has_tag(y, 1) } else { false }
+    if has_tag(x, CONSTANT) {
+        has_tag(y, CONSTANT)
+    } else {
+        false
+    }
 }
 
 // Whether x is the constant c.
 fn is_the(c: QuadFelt, x: NodeKind) -> bool
     ensures { λ r. ⌜ r ≡ Steps.isThe c x ⌝ }
 {
-    if has_tag(x, 1) {
+    if has_tag(x, CONSTANT) {
         element(x).same(c)
     } else {
         false
@@ -110,7 +126,11 @@ fn with_second(x: NodeKind, t: u64, b: usize) -> bool
 fn only_neg(x: NodeKind, y: NodeKind) -> bool
     ensures { λ r. ⌜ r ≡ (Steps.isNeg x && not (Steps.isNeg y)) ⌝ }
 {
-    if has_tag(x, 5) { !has_tag(y, 5) } else { false }
+    if has_tag(x, NEG) {
+        !has_tag(y, NEG)
+    } else {
+        false
+    }
 }
 
 // The places a and b as operands of a sum, lower place first.
@@ -149,10 +169,10 @@ fn add_rule(x: NodeKind, y: NodeKind, a: usize, b: usize) -> Rule
     if is_the(QuadFelt::ZERO, y) {
         return Rule::Use(a);
     }
-    if with_second(x, 3, b) {
+    if with_second(x, SUB, b) {
         return Rule::Use(dag::first_of(x) as usize);
     }
-    if with_second(y, 3, a) {
+    if with_second(y, SUB, a) {
         return Rule::Use(dag::first_of(y) as usize);
     }
     if only_neg(x, y) {
@@ -178,16 +198,16 @@ fn sub_rule(x: NodeKind, y: NodeKind, a: usize, b: usize) -> Rule
     if a == b {
         return Rule::Make(NodeKind::Constant(QuadFelt::ZERO));
     }
-    if with_first(x, 2, b) {
+    if with_first(x, ADD, b) {
         return Rule::Use(dag::second_of(x) as usize);
     }
-    if with_second(x, 2, b) {
+    if with_second(x, ADD, b) {
         return Rule::Use(dag::first_of(x) as usize);
     }
-    if with_first(y, 3, a) {
+    if with_first(y, SUB, a) {
         return Rule::Use(dag::second_of(y) as usize);
     }
-    if has_tag(y, 5) {
+    if has_tag(y, NEG) {
         return Rule::HandOver(a, dag::first_of(y) as usize);
     }
     Rule::Make(NodeKind::Sub(a, b))
@@ -221,7 +241,7 @@ fn neg_outcome(x: NodeKind, a: usize) -> Outcome
     requires { ⌜ Contracts.ConstantBelow goldilocks x ⌝ }
     ensures { λ r. ⌜ r ≡ Steps.negOutcome quad x a ⌝ }
 {
-    if has_tag(x, 1) {
+    if has_tag(x, CONSTANT) {
         return Outcome::Node(NodeKind::Constant(element(x).neg()));
     }
     Outcome::Node(NodeKind::Neg(a))
@@ -422,7 +442,7 @@ fn build_check(
 }
 
 // Build past its tests, with the links of an index lent.
-fn build_with(
+fn build_in(
     list: &[u64],
     n: usize,
     root: usize,
@@ -442,8 +462,8 @@ fn build_with(
     }
 }
 
-// Build past its tests.
-fn build_ready(
+// The same, with the links for the list's length.
+fn build_sized(
     list: &[u64],
     n: usize,
     root: usize,
@@ -455,10 +475,10 @@ fn build_ready(
 {
     if n <= dag::FEW_RECORDS {
         let mut few = [0u64; 2 * dag::FEW_RECORDS];
-        return build_with(list, n, root, result, map, &mut few);
+        return build_in(list, n, root, result, map, &mut few);
     }
     let mut links = [0u64; 2 * dag::MOST_RECORDS];
-    build_with(list, n, root, result, map, &mut links)
+    build_in(list, n, root, result, map, &mut links)
 }
 
 // Build: a list of requests with a root, one after the other into an empty list.
@@ -476,6 +496,6 @@ pub fn build(
     let checked = build_check(list, n, root, result.len(), map.len());
     match checked {
         Checked::Refused(r) => BuildAnswer::Refused(r),
-        Checked::Good => build_ready(list, n, root, result, map),
+        Checked::Good => build_sized(list, n, root, result, map),
     }
 }

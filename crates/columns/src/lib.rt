@@ -223,7 +223,7 @@ fn is_scaled(v: u64, d: u64) -> bool
     if k == 1 {
         return false;
     }
-    k != QuadFelt::MODULUS - 1
+    !felt::is_minus_one(k)
 }
 
 // How many of the values are scaled, with offset d.

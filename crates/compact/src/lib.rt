@@ -14,6 +14,9 @@ ghost use Rattle.dag.specs.Store.{written};
 ghost use Rattle.compact.specs.Contracts.{mostMarks, Unmarked, Markable, Numbered, Writing, AllBelow};
 ghost use Rattle.compact.specs.Calls as Calls;
 
+// The most marks: one for each record of a round's list.
+pub const MOST_MARKS: usize = 8192;
+
 // How many records are kept, and the root's new place.
 pub struct Kept {
     pub count: usize,
@@ -126,12 +129,12 @@ pub fn write_numbered(
 }
 
 // Writes what the root reaches, renamed, to the start of the result store, with a store for the new places lent.
-fn compact_into(list: &[u64], n: usize, root: usize, remap: &mut [u64], result: &mut [u64]) -> Kept
+fn compact_in(list: &[u64], n: usize, root: usize, remap: &mut [u64], result: &mut [u64]) -> Kept
     requires { ⌜ Markable (now list) n root mostMarks × (n ≤ length (now remap)) × (3 * length (Calls.compacted (now list) n root .list) ≤ length (now result)) ⌝ }
     ensures { λ r. ⌜ r ≡ Calls.keptOf (Calls.compacted (now (list .entry)) n root) ⌝ }
     ensures { λ _. ⌜ now (result .exit) ≡ written (now (result .entry)) (Calls.compacted (now (list .entry)) n root .list) ⌝ }
 {
-    let mut reachable = [false; 8192];
+    let mut reachable = [false; MOST_MARKS];
     let count = number_reachable(list, n, root, &mut reachable, remap);
     Kept {
         count,
@@ -148,10 +151,10 @@ fn compact_sized(list: &[u64], n: usize, root: usize, result: &mut [u64]) -> Kep
 {
     if n <= dag::FEW_RECORDS {
         let mut few = [0u64; dag::FEW_RECORDS];
-        return compact_into(list, n, root, &mut few, result);
+        return compact_in(list, n, root, &mut few, result);
     }
     let mut remap = [0u64; dag::MOST_RECORDS];
-    compact_into(list, n, root, &mut remap, result)
+    compact_in(list, n, root, &mut remap, result)
 }
 
 // Compact's tests.

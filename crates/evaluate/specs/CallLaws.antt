@@ -5,7 +5,7 @@ use mathlib.Core.Path.{_≡_, sym, _∙_, ap}
 use native.Mathlib.Omega.{arith}
 use borrow.Author.Tests.{leb-true}
 use lib.Dec.{leb}
-use lib.ListN.{length}
+use lib.ListN.{length, replicate, length-replicate}
 use Rattle.field.specs.Fields.{Field, Bounds}
 use Rattle.field.specs.declared.QuadFelt.{QuadFelt}
 use Rattle.dag.specs.Nodes.{mostRecords, nodes, at}
@@ -13,6 +13,7 @@ use Rattle.dag.specs.Refusals.{firstRefused, need, _then_}
 use Rattle.dag.specs.Check.{listCheck}
 use Rattle.dag.specs.CheckLaws.{first-good, then-good, need-good}
 use Rattle.dag.specs.PassLaws.{rooted}
+use Rattle.dag.specs.BlankLaws.{all-zero}
 use Rattle.dag.specs.declared.Refusal.{Refusal}
 use Rattle.dag.specs.declared.Refusal.the-variants.{StoreTooShort, TooManyEntries, Unassigned}
 use Rattle.dag.specs.declared.NodeKind.the-variants.{Input}
@@ -23,8 +24,14 @@ use Rattle.meaning.specs.Values.{value}
 use Rattle.evaluate.specs.Entries.{Lent, mostEntries, entryCheck, entriesCheck, entryOf, hasEntry, inputsCheck}
 use Rattle.evaluate.specs.EntryLaws.{Last, found-last}
 use Rattle.evaluate.specs.Calls.{entryWords, elementOf, given, evaluateCheck, evaluateAnswer}
-use Rattle.evaluate.specs.Contracts.{Ready, Tested}
+use Rattle.evaluate.specs.Contracts.{Ready, Tested, Stores}
 use Rattle.evaluate.specs.declared.EvaluateAnswer.the-variants.{Value, Refused}
+
+-- new stores of k places for up to q records and entries
+pub stores-new : (n m q k : ℕ) → n ≤ q → m ≤ q → q ≤ k → 0 < k → k ≤ mostEntries → Stores n m (replicate k 0) (replicate k 0) (replicate (2 * k) 0)
+stores-new n m q k h g l some few =
+    let a = length-replicate {A = ℕ} k 0 in let b = length-replicate {A = ℕ} (2 * k) 0 in
+    record { first = omega arith; second = omega arith; usable = record { some = omega arith; few = omega arith }; entries = omega arith; empty = all-zero (2 * k) }
 
 -- entries that pass
 pub entries-pass : (m : Bounds) (width : ℕ) (e : List ℕ) (n : ℕ) → 0 < width → entriesCheck m width e n ≡ Checked'.Good

@@ -32,11 +32,11 @@ pub enum EvaluateAnswer {
     Refused(Refusal),
 }
 
-// The records and entries that small stores hold.
-const SMALL: usize = 64;
+// The records and entries that the smallest stores hold.
+const FEW: usize = 64;
 
-// Those that middle stores hold.
-const MIDDLE: usize = 512;
+// Those that the next larger stores hold.
+const MANY: usize = 512;
 
 // A record's value; none for an input whose key has no entry.
 pub enum Assigned {
@@ -278,7 +278,7 @@ fn fill_values(
     Checked::Good
 }
 
-// Evaluate behind the tests of its words, in stores for the values and the index.
+// Evaluate behind the tests of its words, with stores for the values and the index lent.
 fn evaluate_in(
     list: &[u64],
     n: usize,
@@ -301,52 +301,34 @@ fn evaluate_in(
     }
 }
 
-// Evaluate in small stores.
-fn evaluate_small(list: &[u64], n: usize, root: usize, assignment: &[u64], m: usize) -> EvaluateAnswer
-    requires { ⌜ Contracts.Tested goldilocks (now list) n root (now assignment) m × (n ≤ 64) × (m ≤ 64) ⌝ }
-    ensures { λ r. ⌜ r ≡ Calls.evaluateAnswer goldilocks (now (list .entry)) n root (now (assignment .entry)) m ⌝ }
-{
-    let mut c0 = [0u64; 64];
-    let mut c1 = [0u64; 64];
-    let mut links = [0u64; 128];
-    evaluate_in(list, n, root, assignment, m, &mut c0, &mut c1, &mut links)
-}
-
-// Evaluate in middle stores.
-fn evaluate_middle(list: &[u64], n: usize, root: usize, assignment: &[u64], m: usize) -> EvaluateAnswer
-    requires { ⌜ Contracts.Tested goldilocks (now list) n root (now assignment) m × (n ≤ 512) × (m ≤ 512) ⌝ }
-    ensures { λ r. ⌜ r ≡ Calls.evaluateAnswer goldilocks (now (list .entry)) n root (now (assignment .entry)) m ⌝ }
-{
-    let mut c0 = [0u64; 512];
-    let mut c1 = [0u64; 512];
-    let mut links = [0u64; 1024];
-    evaluate_in(list, n, root, assignment, m, &mut c0, &mut c1, &mut links)
-}
-
-// Evaluate in large stores.
-fn evaluate_large(list: &[u64], n: usize, root: usize, assignment: &[u64], m: usize) -> EvaluateAnswer
-    requires { ⌜ Contracts.Tested goldilocks (now list) n root (now assignment) m × (n ≤ 4096) × (m ≤ 4096) ⌝ }
-    ensures { λ r. ⌜ r ≡ Calls.evaluateAnswer goldilocks (now (list .entry)) n root (now (assignment .entry)) m ⌝ }
-{
-    let mut c0 = [0u64; 4096];
-    let mut c1 = [0u64; 4096];
-    let mut links = [0u64; 8192];
-    evaluate_in(list, n, root, assignment, m, &mut c0, &mut c1, &mut links)
-}
-
-// Evaluate behind the tests of its words, in stores of a fitting size.
-fn evaluate_sized(list: &[u64], n: usize, root: usize, assignment: &[u64], m: usize) -> EvaluateAnswer
+// The same, with stores for the lengths of the list and of the assignment.
+fn evaluate_sized(
+    list: &[u64],
+    n: usize,
+    root: usize,
+    assignment: &[u64],
+    m: usize,
+) -> EvaluateAnswer
     requires { ⌜ Contracts.Tested goldilocks (now list) n root (now assignment) m ⌝ }
     ensures { λ r. ⌜ r ≡ Calls.evaluateAnswer goldilocks (now (list .entry)) n root (now (assignment .entry)) m ⌝ }
 {
     let most = larger(n, m);
-    if most <= SMALL {
-        return evaluate_small(list, n, root, assignment, m);
+    if most <= FEW {
+        let mut c0 = [0u64; FEW];
+        let mut c1 = [0u64; FEW];
+        let mut links = [0u64; 2 * FEW];
+        return evaluate_in(list, n, root, assignment, m, &mut c0, &mut c1, &mut links);
     }
-    if most <= MIDDLE {
-        return evaluate_middle(list, n, root, assignment, m);
+    if most <= MANY {
+        let mut c0 = [0u64; MANY];
+        let mut c1 = [0u64; MANY];
+        let mut links = [0u64; 2 * MANY];
+        return evaluate_in(list, n, root, assignment, m, &mut c0, &mut c1, &mut links);
     }
-    evaluate_large(list, n, root, assignment, m)
+    let mut c0 = [0u64; dag::MOST_RECORDS];
+    let mut c1 = [0u64; dag::MOST_RECORDS];
+    let mut links = [0u64; 2 * MOST_ENTRIES];
+    evaluate_in(list, n, root, assignment, m, &mut c0, &mut c1, &mut links)
 }
 
 // Evaluate's tests of its words: the list, then the entries.

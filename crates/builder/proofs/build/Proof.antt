@@ -15,8 +15,8 @@ enum-known-checked c = search needs
 enum-told : tie.Need-enum-told
 enum-told c = search needs
 
-build-ready-requires : tie.Need-build-ready-requires
-build-ready-requires c κs =
+build-sized-requires : tie.Need-build-sized-requires
+build-sized-requires c κs =
     let at-enum-told = c .before .before in
     let at-build-check = at-enum-told .before .before in
     let start = at-build-check .before .before .before .before in
@@ -39,12 +39,12 @@ same-length-2 c = search needs
 
 returns-2 : tie.Need-returns-2
 returns-2 c =
-    let at-build-ready = c .before .before .before .before in
-    let at-enum-told = at-build-ready .before .before .before in
+    let at-build-sized = c .before .before .before .before in
+    let at-enum-told = at-build-sized .before .before .before in
     let at-build-check = at-enum-told .before .before in
     let start = at-build-check .before .before .before .before in
     let h = build-done goldilocks (start .args .list .now) (start .args .n) (start .args .root) (start .args .result .now) (start .args .map .now) _ _ _
-    (told (at-build-check .build-check .ensures) (at-enum-told .enum-told .given .1)) (at-build-ready .build-ready .ensures) in
+    (told (at-build-check .build-check .ensures) (at-enum-told .enum-told .given .1)) (at-build-sized .build-sized .ensures) in
     (h .answer, (h .list-is, h .places-are))
 
 pub build-spec : {M : Type 1} → statement M
@@ -54,7 +54,7 @@ build-spec =
     build-check-requires
     enum-known-checked
     enum-told
-    build-ready-requires
+    build-sized-requires
     returns
     same-length
     same-length-2

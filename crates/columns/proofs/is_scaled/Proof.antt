@@ -1,3 +1,5 @@
+use mathlib.Core.Bool.{not}
+use mathlib.Core.Path.{_∙_, ap}
 use Rattle.field.specs.Fields.{goldilocks}
 use Rattle.columns.specs.CostLaws.{unit-told, scaled-told}
 use borrow.Author.Tests.{eq-eqb}
@@ -16,11 +18,11 @@ sub-requires c κs = search needs
 returns-2 : tie.Need-returns-2
 returns-2 c = unit-told goldilocks _ _ _ (c .before .before .if1 .left) (c .before .sub .ensures .0) (c .if2 .taken)
 
-sub-result : tie.Need-sub-result
-sub-result c = search needs
+is-minus-one-requires : tie.Need-is-minus-one-requires
+is-minus-one-requires c κs = search needs
 
 returns-3 : tie.Need-returns-3
-returns-3 c = scaled-told goldilocks _ _ _ (c .before .before .if1 .left) (c .before .sub .ensures .0) (c .if2 .left)
+returns-3 c = ap not (c .is-minus-one .ensures) ∙ scaled-told goldilocks _ _ _ (c .before .before .before .if1 .left) (c .before .before .sub .ensures .0) (c .before .if2 .left)
 
 pub is-scaled-spec : {M : Type 1} → statement M
-is-scaled-spec = tie.close (tie.spec returns sub-requires returns-2 sub-result returns-3)
+is-scaled-spec = tie.close (tie.spec returns sub-requires returns-2 is-minus-one-requires returns-3)

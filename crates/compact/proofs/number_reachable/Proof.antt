@@ -1,18 +1,19 @@
 use native.Mathlib.Omega.{arith}
 use Rattle.field.specs.Fields.{goldilocks}
+use Rattle.compact.specs.Contracts.{mostMarks}
 use Rattle.compact.specs.CallLaws.{unmarked-long, numbered}
 use borrow.Author.Needs.{needs}
 use Rattle.compact.proofs.number_reachable.Statement.{statement}
 use Rattle.compact.proofs.number_reachable.Tie as tie
 
 mark-reachable-requires : tie.Need-mark-reachable-requires
-mark-reachable-requires c κs = rw (unmarked-long 8192 _ (c .before .before .before .before .pre .1)) (c .before .before .before .before .pre .0)
+mark-reachable-requires c κs = rw (unmarked-long mostMarks _ (c .before .before .before .before .pre .1)) (c .before .before .before .before .pre .0)
 
 number-marked-requires : tie.Need-number-marked-requires
 number-marked-requires c κs =
     let at-mark-reachable = c .before .before .before .before in
     let start = at-mark-reachable .before .before .before .before .before in
-    let h = unmarked-long 8192 _ (start .pre .1) in let k = (at-mark-reachable .mark-reachable .kept .1 .1 .1 .0) in
+    let h = unmarked-long mostMarks _ (start .pre .1) in let k = (at-mark-reachable .mark-reachable .kept .1 .1 .1 .0) in
     (omega (arith, h, k, (start .pre .0 .fits)), (start .pre .2))
 
 same-length : tie.Need-same-length

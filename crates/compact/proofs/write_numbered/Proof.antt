@@ -1,5 +1,6 @@
 use mathlib.Core.Path.{_∙_, ap}
 use Rattle.field.specs.Fields.{goldilocks}
+use Rattle.compact.specs.Contracts.{mostMarks}
 use Rattle.compact.specs.CallLaws.{kept-list, root-place, may-write}
 use Rattle.dag.specs.Store.{written}
 use borrow.Author.Needs.{needs}
@@ -9,7 +10,7 @@ use Rattle.compact.proofs.write_numbered.Tie as tie
 write-marked-requires : tie.Need-write-marked-requires
 write-marked-requires c κs =
     let start = c .before .before .before .before .before in
-    may-write _ _ _ 8192 (start .pre .0 .markable) _ (start .pre .0 .marks-are) _ (start .pre .0 .behind) (start .pre .0 .places-are)
+    may-write _ _ _ mostMarks (start .pre .0 .markable) _ (start .pre .0 .marks-are) _ (start .pre .0 .behind) (start .pre .0 .places-are)
     (start .pre .0 .marks-fit) (start .pre .0 .places-fit) _ (start .pre .1)
 
 mapped-requires : tie.Need-mapped-requires
@@ -22,10 +23,10 @@ returns : tie.Need-returns
 returns c =
     let at-write-marked = c .before .before .before in
     let start = at-write-marked .before .before .before .before .before .before in (
-      (c .mapped .ensures) ∙ root-place _ _ _ 8192 (start .pre .0 .markable) _ (start .pre .0 .marks-are) _ (start .pre .0 .behind)
+      (c .mapped .ensures) ∙ root-place _ _ _ mostMarks (start .pre .0 .markable) _ (start .pre .0 .marks-are) _ (start .pre .0 .behind)
           (start .pre .0 .places-are),
       (at-write-marked .write-marked .ensures) ∙ ap (written _)
-          (kept-list _ _ _ 8192 (start .pre .0 .markable) _ (start .pre .0 .marks-are)),
+          (kept-list _ _ _ mostMarks (start .pre .0 .markable) _ (start .pre .0 .marks-are)),
     )
 
 pub write-numbered-spec : {M : Type 1} → statement M

@@ -1,8 +1,8 @@
 use Rattle.field.specs.Fields.{goldilocks}
 use Rattle.builder.specs.BuildLaws.{finished}
 use borrow.Author.Needs.{needs}
-use Rattle.builder.proofs.build_with.Statement.{statement}
-use Rattle.builder.proofs.build_with.Tie as tie
+use Rattle.builder.proofs.build_in.Statement.{statement}
+use Rattle.builder.proofs.build_in.Tie as tie
 
 replay-requires : tie.Need-replay-requires
 replay-requires c κs = search needs
@@ -38,8 +38,8 @@ returns c =
     (start .pre .0 .inside) _ _ _ (at-replay .replay .ensures) (at-replay .replay .kept .1 .1 .0) (at-replay .replay .kept .1 .1 .1 .0)
     (start .pre .0 .map-room) _ _ _ (at-blank-from .blank-from .ensures) (at-blank-from2 .blank-from2 .ensures) (c .mapped .ensures)
 
-pub build-with-spec : {M : Type 1} → statement M
-build-with-spec =
+pub build-in-spec : {M : Type 1} → statement M
+build-in-spec =
     tie.close
     (tie.spec
     replay-requires

@@ -2,8 +2,8 @@ use mathlib.Core.Path.{ap₂}
 use Rattle.compact.specs.Calls as Calls
 use Rattle.compact.specs.CallLaws.{kept-of}
 use borrow.Author.Needs.{needs}
-use Rattle.compact.proofs.compact_into.Statement.{statement}
-use Rattle.compact.proofs.compact_into.Tie as tie
+use Rattle.compact.proofs.compact_in.Statement.{statement}
+use Rattle.compact.proofs.compact_in.Tie as tie
 
 slice-aggregate-number-reachable : tie.Need-slice-aggregate-number-reachable
 slice-aggregate-number-reachable c = search needs
@@ -32,8 +32,8 @@ returns c =
       (at-write-numbered .write-numbered .ensures .1),
     )
 
-pub compact-into-spec : {M : Type 1} → statement M
-compact-into-spec =
+pub compact-in-spec : {M : Type 1} → statement M
+compact-in-spec =
     tie.close
     (tie.spec
     slice-aggregate-number-reachable
