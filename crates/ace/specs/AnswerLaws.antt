@@ -1,23 +1,29 @@
--- A list is its elements, read one by one.
-use Prim.Native.Nat.{ℕ, zero, suc}
-use mathlib.Core.List.{List, [], _∷_}
-use mathlib.Core.Path.{_≡_, refl, ap, sym, _∙_}
-use lib.ListN.{getD, length}
+-- What the proofs of answers' words share.
+use Prim.Native.Nat.{ℕ, _+_, _<_}
+use mathlib.Core.List.{List, _∷_, append-nil}
+use mathlib.Core.Path.{_≡_, sym, _∙_, ap}
+use native.Mathlib.Numerals.{add-one}
+use native.Mathlib.Omega.{arith}
+use lib.ListN.{getD, length, replicate, set}
+use lib.Seq.{paste, paste-zero, paste-suc, take-all}
 
--- the n elements from place i on
-unfoldable pub gets : List ℕ → ℕ → ℕ → List ℕ
-gets xs i zero = []
-gets xs i (suc n) = getD xs i 0 ∷ gets xs (suc i) n
+-- the words of an answer are those of the arm that it is
+pub words-of : {A : Type 0} (words : A → List ℕ) {a arm : A} {w : List ℕ} → a ≡ arm → w ≡ words arm → w ≡ words a
+words-of words e f = f ∙ sym (ap words e)
 
-gets-behind : (x : ℕ) (xs : List ℕ) (i n : ℕ) → gets (x ∷ xs) (suc i) n ≡ gets xs i n
-unfolding gets
-gets-behind x xs i zero = refl
-gets-behind x xs i (suc n) = ap (getD xs i 0 ∷_) (gets-behind x xs (suc i) n)
+-- two words, then the first i of sixteen forms, the rest 0
+unfoldable pub behind : ℕ → ℕ → List ℕ → ℕ → List ℕ
+behind first second forms i = paste (first ∷ second ∷ replicate 16 0) 2 forms i
 
-all-gets : (xs : List ℕ) → gets xs 0 (length xs) ≡ xs
-unfolding gets
-all-gets [] = refl
-all-gets (x ∷ xs) = ap (x ∷_) (gets-behind x xs 0 (length xs) ∙ all-gets xs)
+module _ (first second : ℕ) (forms : List ℕ) where
+  pub behind-none : first ∷ second ∷ replicate 16 0 ≡ behind first second forms 0
+  unfolding behind
+  behind-none = paste-zero (first ∷ second ∷ replicate 16 0) 2 forms
 
-pub gets-all : (n : ℕ) (xs : List ℕ) → length xs ≡ n → gets xs 0 n ≡ xs
-gets-all n xs e = ap (gets xs 0) (sym e) ∙ all-gets xs
+  pub behind-more : (i : ℕ) → length forms ≡ 16 → i < 16 → set (behind first second forms i) (2 + i) (getD forms i 0) ≡ behind first second forms (i + 1)
+  unfolding behind
+  behind-more i e h = rw (add-one i) (paste-suc (first ∷ second ∷ replicate 16 0) 2 forms i 0 (omega arith) (omega arith))
+
+  pub behind-all : length forms ≡ 16 → behind first second forms 16 ≡ first ∷ second ∷ forms
+  unfolding behind
+  behind-all e = ap (λ fs. first ∷ second ∷ fs) (append-nil _ ∙ take-all 16 forms (omega arith))

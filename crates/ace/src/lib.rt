@@ -9,6 +9,7 @@ use evaluate::EvaluateAnswer;
 use lower::LowerAnswer;
 use normalize::NormalizeAnswer;
 ghost use mathlib.Core.Path.{_≡_};
+ghost use mathlib.Core.List.{_∷_};
 ghost use lib.ListN.{length};
 ghost use Rattle.field.specs.Fields.{goldilocks};
 ghost use Rattle.builder.specs.Calls as Calls;
@@ -81,53 +82,32 @@ fn evaluate_words(a: EvaluateAnswer) -> [u64; 4]
     }
 }
 
+// Two words and a form for each column.
+fn form_words(first: u64, second: u64, forms: [u64; 16]) -> [u64; 18]
+    ensures { λ w. ⌜ w ≡ first ∷ second ∷ forms ⌝ }
+{
+    let mut words = [0u64; 18];
+    words[0] = first;
+    words[1] = second;
+    let mut i = 0;
+    while i < 16 {
+        words[2 + i] = forms[i];
+        i += 1;
+    }
+    words
+}
+
 // The words of Prepare's answer.
 fn prepare_words(a: PrepareAnswer) -> [u64; 18]
     ensures { λ w. ⌜ w ≡ Answers.prepareWords a ⌝ }
 {
     let checked = a.checked;
-    let f = a.forms;
+    let forms = a.forms;
     match checked {
-        Checked::Good => [
-            0,
-            a.count as u64,
-            f[0],
-            f[1],
-            f[2],
-            f[3],
-            f[4],
-            f[5],
-            f[6],
-            f[7],
-            f[8],
-            f[9],
-            f[10],
-            f[11],
-            f[12],
-            f[13],
-            f[14],
-            f[15],
-        ],
-        Checked::Refused(r) => [
-            dag::number_of(r),
-            dag::place_of(r) as u64,
-            0,
-            0,
-            0,
-            0,
-            0,
-            0,
-            0,
-            0,
-            0,
-            0,
-            0,
-            0,
-            0,
-            0,
-            0,
-            0,
-        ],
+        Checked::Good => form_words(0, a.count as u64, forms),
+        Checked::Refused(r) => {
+            form_words(dag::number_of(r), dag::place_of(r) as u64, [0u64; 16])
+        }
     }
 }
 

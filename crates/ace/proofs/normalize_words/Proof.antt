@@ -1,5 +1,6 @@
 use Rattle.ace.specs.Answers.{normalizeWords}
-use mathlib.Core.Path.{sym, _∙_, ap}
+use mathlib.Core.Path.{refl}
+use Rattle.ace.specs.AnswerLaws.{words-of}
 use borrow.Author.Needs.{needs}
 use Rattle.ace.proofs.normalize_words.Statement.{statement}
 use Rattle.ace.proofs.normalize_words.Tie as tie
@@ -14,10 +15,10 @@ refused-words-requires : tie.Need-refused-words-requires
 refused-words-requires c κs = search needs
 
 returns : tie.Need-returns
-returns c = sym (ap normalizeWords (c .before .a .given .1))
+returns c = words-of normalizeWords (c .before .a .given .1) refl
 
 returns-2 : tie.Need-returns-2
-returns-2 c = c .refused-words .ensures ∙ sym (ap normalizeWords (c .before .before .a2 .given .1))
+returns-2 c = words-of normalizeWords (c .before .before .a2 .given .1) (c .refused-words .ensures)
 
 pub normalize-words-spec : {M : Type 1} → statement M
 normalize-words-spec =
