@@ -11,10 +11,15 @@ use Rattle.house_file.specs.declared.FileAnswer.{FileAnswer}
 use Rattle.house_file.specs.declared.FileAnswer.the-variants as FileAnswer'
 use Rattle.house_file.specs.File.{fileCount, fileRoot, mostFiled, recordPlace, wordsOfFirst, fileWords, heldCheck}
 
--- a file of good form
-pub record Formed (file : List ℕ) : Type 0 where
+-- a file with a good head
+pub record Headed (file : List ℕ) : Type 0 where
+  pub long : 9 ≤ length file
   pub some : 1 ≤ fileCount file
   pub most : fileCount file ≤ mostFiled
+
+-- a file of good form
+pub record Formed (file : List ℕ) : Type 0 where
+  pub head : Headed file
   pub whole : length file ≡ recordPlace (fileCount file)
 
 -- what a file that has passed its tests is known to be

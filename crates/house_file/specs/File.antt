@@ -55,13 +55,16 @@ wordsOfFirst file (suc n) = let w = wordsAt file n in wordsOfFirst file n ++ (w 
 unfoldable pub fileWords : List ℕ → List ℕ
 fileWords file = wordsOfFirst file (fileCount file)
 
--- the tests of the file's form: 21, 22, 23, 24
-unfoldable pub formCheck : List ℕ → Checked
-formCheck file =
+-- the tests of the file's head: 21, 22, 23
+unfoldable pub headCheck : List ℕ → Checked
+headCheck file =
     need (leb 9 (length file)) FileTooShort
     then need (eqb (getD file 0 0) 1) FileVersion
     then need (isCount (fileCount file)) FileCount
-    then need (eqb (length file) (recordPlace (fileCount file))) FileLength
+
+-- the tests of the file's form: its head, then its length, 24
+unfoldable pub formCheck : List ℕ → Checked
+formCheck file = headCheck file then need (eqb (length file) (recordPlace (fileCount file))) FileLength
 
 -- the list check of what it holds
 unfoldable pub heldCheck : List ℕ → Checked

@@ -30,26 +30,36 @@ use Rattle.dag.specs.declared.Checked.the-variants.{Good, Refused}
 use Rattle.house_file.specs.declared.Words.{Words}
 use Rattle.house_file.specs.declared.FileAnswer.{FileAnswer}
 use Rattle.house_file.specs.declared.FileAnswer.the-variants as FileAnswer'
-use Rattle.house_file.specs.Contracts.{Formed, Passed, Ready, Put, Done}
-use Rattle.house_file.specs.File.{number, fileCount, fileRoot, mostFiled, recordPlace, wordsAt, wordsOfFirst, fileWords, isCount, formCheck, heldCheck, fileCheck, readCheck, readAnswer, readList}
+use Rattle.house_file.specs.Contracts.{Headed, Formed, Passed, Ready, Put, Done}
+use Rattle.house_file.specs.File.{number, fileCount, fileRoot, mostFiled, recordPlace, wordsAt, wordsOfFirst, fileWords, isCount, headCheck, formCheck, heldCheck, fileCheck, readCheck, readAnswer, readList}
 
 pub count-range : (n : ℕ) → isCount n ≡ true → (1 ≤ n) × (n ≤ mostFiled)
 unfolding isCount
 count-range n e = let both = and-true (leb 1 n) (leb n mostFiled) e in (leb-true 1 n (both .0), leb-true n mostFiled (both .1))
 
+pub headed : (file : List ℕ) → headCheck file ≡ Good → Headed file
+unfolding headCheck
+headed file e =
+    let long = leb 9 (length file) in
+    let version = eqb (getD file 0 0) 1 in
+    let range = isCount (fileCount file) in
+    let one = then-good (need long FileTooShort) (need version FileVersion then need range FileCount) e in
+    let two = then-good (need version FileVersion) (need range FileCount) (one .1) in
+    let both = count-range (fileCount file) (need-good range FileCount (two .1)) in
+    record {
+      long = leb-true 9 (length file) (need-good long FileTooShort (one .0));
+      some = both .0;
+      most = both .1;
+    }
+
 pub formed : (file : List ℕ) → formCheck file ≡ Good → Formed file
 unfolding formCheck
 formed file e =
-    let range = isCount (fileCount file) in
     let whole = eqb (length file) (recordPlace (fileCount file)) in
-    let one = then-good (need (leb 9 (length file)) FileTooShort) (need (eqb (getD file 0 0) 1) FileVersion then need range FileCount then need whole FileLength) e in
-    let two = then-good (need (eqb (getD file 0 0) 1) FileVersion) (need range FileCount then need whole FileLength) (one .1) in
-    let three = then-good (need range FileCount) (need whole FileLength) (two .1) in
-    let both = count-range (fileCount file) (need-good range FileCount (three .0)) in
+    let both = then-good (headCheck file) (need whole FileLength) e in
     record {
-      some = both .0;
-      most = both .1;
-      whole = eqb-true (length file) (recordPlace (fileCount file)) (need-good whole FileLength (three .1));
+      head = headed file (both .0);
+      whole = eqb-true (length file) (recordPlace (fileCount file)) (need-good whole FileLength (both .1));
     }
 
 -- the words of the first n records
@@ -111,8 +121,8 @@ module _ (file : List ℕ) (f : Formed file) (n : ℕ) (e : n ≡ fileCount file
   held : records then need (ltb (fileRoot file) n) RootOutside ≡ heldCheck file
   unfolding records heldCheck fileWords listCheck rootlessCheck
   held =
-      let a = f .some in
-      let b = f .most in
+      let a = f .head .some in
+      let b = f .head .most in
       let len = length-words file (fileCount file) in
       rw e (simp (le-leb 1 (fileCount file) a, le-leb (fileCount file) mostRecords (omega arith), le-leb (3 * fileCount file) (length (wordsOfFirst file (fileCount file))) (omega arith)))
 
@@ -149,7 +159,7 @@ unfolding readCheck fileCheck
 room-enough file room h = go (formCheck file) refl
   where
     go : (c : Checked) → formCheck file ≡ c → c then need (leb (3 * fileCount file) room) StoreTooShort then heldCheck file ≡ c then heldCheck file
-    go Good e = let m = formed file e .most in rw (le-leb (3 * fileCount file) room (omega arith))
+    go Good e = let m = formed file e .head .most in rw (le-leb (3 * fileCount file) room (omega arith))
     go (Refused r) e = refl
 
 -- what an answer tells of the tests

@@ -85,9 +85,9 @@ fn is_count(n: u64) -> bool
     n <= MOST_FILED
 }
 
-// The tests of the file's form: 21, 22, 23, 24.
-fn form_check(file: &[u8]) -> Checked
-    ensures { λ r. ⌜ r ≡ File.formCheck (now (file .entry)) ⌝ }
+// The tests of the file's head: 21, 22, 23.
+fn head_check(file: &[u8]) -> Checked
+    ensures { λ r. ⌜ r ≡ File.headCheck (now (file .entry)) ⌝ }
 {
     if file.len() < 9 {
         return Checked::Refused(Refusal::FileTooShort);
@@ -95,11 +95,21 @@ fn form_check(file: &[u8]) -> Checked
     if file[0] != 1 {
         return Checked::Refused(Refusal::FileVersion);
     }
-    let n = number(file, 1, 4);
-    if !is_count(n) {
+    if !is_count(number(file, 1, 4)) {
         return Checked::Refused(Refusal::FileCount);
     }
-    if file.len() as u64 != 9 + 17 * n {
+    Checked::Good
+}
+
+// The tests of the file's form: its head, then its length, 24.
+fn form_check(file: &[u8]) -> Checked
+    ensures { λ r. ⌜ r ≡ File.formCheck (now (file .entry)) ⌝ }
+{
+    let headed = head_check(file);
+    if dag::is_refused(headed) {
+        return headed;
+    }
+    if file.len() != 9 + 17 * file_count(file) {
         return Checked::Refused(Refusal::FileLength);
     }
     Checked::Good

@@ -109,7 +109,7 @@ module _ (file : List ℕ) (room : ℕ) (h : 3072 ≤ room) where
     ready = file-passed file room (read-done file room count root e .good)
 
     pub few : count ≤ 1024
-    few = let c = read-done file room count root e .count-is in let m = ready .form .most in omega arith
+    few = let c = read-done file room count root e .count-is in let m = ready .form .head .most in omega arith
 
     -- the words that were read
     file-words : (list after : List ℕ) → length list ≡ room → after ≡ readList file list → take (3 * count) after ≡ fileWords file
@@ -123,7 +123,7 @@ module _ (file : List ℕ) (room : ℕ) (h : 3072 ≤ room) where
     unfolding wordsListing listing normalizeCheck heldCheck fileCheck
     file-listed resultWords workWords k l =
         let d = read-done file room count root e in
-        let m = ready .form .most in
+        let m = ready .form .head .most in
         rw (d .count-is, d .root-is, ← room-enough file room h, d .good, ready .held-is, le-leb (3 * fileCount file) resultWords (omega arith), le-leb (6 * fileCount file) workWords (omega arith))
 
     -- the listing of the words that were read is the file's

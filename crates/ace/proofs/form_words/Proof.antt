@@ -1,6 +1,5 @@
 use Prim.Native.Nat.{_≤_, _+_, _-_}
 use mathlib.Core.Path.{_≡_, _∙_, ap}
-use native.Mathlib.Nat.{le-antisymm}
 use native.Mathlib.Omega.{arith}
 use lib.ListN.{getD, set}
 use Rattle.ace.specs.AnswerLaws.{behind, behind-none, behind-more, behind-all}
@@ -50,7 +49,7 @@ loop-again c =
     let start = at-loop .before in (
       omega arith,
       ap (λ w. set w (2 + at-loop .loop .i) (getD (start .args .t3) (at-loop .loop .i) 0)) (at-loop .loop .inv .1)
-          ∙ behind-more (start .args .first) (start .args .second) (start .args .t3) (at-loop .loop .i) (search needs) (c .loop-test .taken),
+          ∙ behind-more (start .args .first) (start .args .second) (start .args .t3) (at-loop .loop .i) (search needs) (omega arith),
     )
 
 returns : tie.Need-returns Inv-loop μ-loop
@@ -58,7 +57,7 @@ returns c =
     let at-loop = c .before in
     let start = at-loop .before in
     at-loop .loop .inv .1
-    ∙ (ap (behind (start .args .first) (start .args .second) (start .args .t3)) (le-antisymm (at-loop .loop .inv .0) (c .loop-test .left))
+    ∙ (ap (behind (start .args .first) (start .args .second) (start .args .t3)) (omega arith)
     ∙ behind-all (start .args .first) (start .args .second) (start .args .t3) (search needs))
 
 pub form-words-spec : {M : Type 1} → statement M

@@ -1,93 +1,69 @@
+use mathlib.Core.Path.{_∙_}
 use native.Mathlib.Omega.{arith}
-use borrow.Author.Tests.{not-true, not-false}
-use Rattle.dag.specs.BranchLaws.{told}
-use Rattle.house_file.specs.FileLaws.{count-range}
+use borrow.Author.Tests.{ne-eqb, eq-eqb}
+use Rattle.dag.specs.CheckLaws.{good-told, bad-told, refused-then}
+use Rattle.house_file.specs.FileLaws.{headed}
 use Rattle.house_file.specs.File as File
-use borrow.Author.Tests.{lt-leb, le-leb, ne-eqb, eq-eqb}
 use borrow.Author.Needs.{needs}
 use Rattle.house_file.proofs.form_check.Statement.{statement}
 use Rattle.house_file.proofs.form_check.Tie as tie
 
+head-check-requires : tie.Need-head-check-requires
+head-check-requires c κs = search needs
+
+is-refused-requires : tie.Need-is-refused-requires
+is-refused-requires c κs = search needs
+
 returns : tie.Need-returns
 unfolding File.formCheck
-returns c = simp (lt-leb _ _ (c .if1 .taken))
+returns c = c .before .before .head-check .ensures ∙ refused-then _ _ (bad-told (c .before .before .head-check .ensures) (c .before .is-refused .ensures) (c .if1 .taken))
 
-shared-slice-read-if2 : tie.Need-shared-slice-read-if2
-shared-slice-read-if2 c = search needs
+file-count-requires : tie.Need-file-count-requires
+file-count-requires c κs = headed _ (good-told (c .before .before .head-check .ensures) (c .before .is-refused .ensures) (c .if1 .left)) .long
+
+mul-if2 : tie.Need-mul-if2
+mul-if2 c =
+    let at-is-refused = c .before .before in
+    let h = headed _ (good-told (at-is-refused .before .head-check .ensures) (at-is-refused .is-refused .ensures) (c .before .if1 .left)) in
+    omega (arith, h .most, c .file-count .ensures)
+
+add-if2 : tie.Need-add-if2
+add-if2 c =
+    let at-is-refused = c .before .before in
+    let h = headed _ (good-told (at-is-refused .before .head-check .ensures) (at-is-refused .is-refused .ensures) (c .before .if1 .left)) in
+    omega (arith, h .most, c .file-count .ensures)
 
 returns-2 : tie.Need-returns-2
 unfolding File.formCheck
-returns-2 c = simp (le-leb _ _ (c .before .before .if1 .left), ne-eqb _ _ (c .if2 .taken))
-
-number-requires : tie.Need-number-requires
-number-requires c κs = search needs
-
-is-count-requires : tie.Need-is-count-requires
-is-count-requires c κs = search needs
+returns-2 c =
+    let at-file-count = c .before in
+    let at-is-refused = at-file-count .before .before in
+    rw (
+      good-told (at-is-refused .before .head-check .ensures) (at-is-refused .is-refused .ensures) (at-file-count .before .if1 .left),
+      ← at-file-count .file-count .ensures,
+      ne-eqb _ _ (c .if2 .taken),
+    )
 
 returns-3 : tie.Need-returns-3
 unfolding File.formCheck
 returns-3 c =
-    let at-is-count = c .before in
-    let at-number = at-is-count .before in
-    let at-if2 = at-number .before in
-    let at-if1 = at-if2 .before .before in
-    rw (← at-number .number .ensures) (simp (
-      le-leb _ _ (at-if1 .if1 .left),
-      eq-eqb _ _ (at-if2 .if2 .left),
-      told (at-is-count .is-count .ensures)
-          (not-true _ (c .if3 .taken)),
-    ))
-
-mul-if4 : tie.Need-mul-if4
-mul-if4 c = omega (arith, count-range _ (told (c .before .is-count .ensures) (not-false _ (c .if3 .left))) .1)
-
-add-if4 : tie.Need-add-if4
-add-if4 c = omega (arith, count-range _ (told (c .before .is-count .ensures) (not-false _ (c .if3 .left))) .1)
-
-returns-4 : tie.Need-returns-4
-unfolding File.formCheck
-returns-4 c =
-    let at-if3 = c .before in
-    let at-is-count = at-if3 .before in
-    let at-number = at-is-count .before in
-    let at-if2 = at-number .before in
-    let at-if1 = at-if2 .before .before in
-    rw (← at-number .number .ensures) (simp (
-      le-leb _ _ (at-if1 .if1 .left),
-      eq-eqb _ _ (at-if2 .if2 .left),
-      told (at-is-count .is-count .ensures)
-          (not-false _ (at-if3 .if3 .left)),
-      ne-eqb _ _ (c .if4 .taken),
-    ))
-
-returns-5 : tie.Need-returns-5
-unfolding File.formCheck
-returns-5 c =
-    let at-if3 = c .before in
-    let at-is-count = at-if3 .before in
-    let at-number = at-is-count .before in
-    let at-if2 = at-number .before in
-    let at-if1 = at-if2 .before .before in
-    rw (← at-number .number .ensures) (simp (
-      le-leb _ _ (at-if1 .if1 .left),
-      eq-eqb _ _ (at-if2 .if2 .left),
-      told (at-is-count .is-count .ensures)
-          (not-false _ (at-if3 .if3 .left)),
-      eq-eqb _ _ (c .if4 .left),
-    ))
+    let at-file-count = c .before in
+    let at-is-refused = at-file-count .before .before in
+    rw (
+      good-told (at-is-refused .before .head-check .ensures) (at-is-refused .is-refused .ensures) (at-file-count .before .if1 .left),
+      ← at-file-count .file-count .ensures,
+      eq-eqb _ _ (c .if2 .left),
+    )
 
 pub form-check-spec : {M : Type 1} → statement M
 form-check-spec =
     tie.close
     (tie.spec
+    head-check-requires
+    is-refused-requires
     returns
-    shared-slice-read-if2
+    file-count-requires
+    mul-if2
+    add-if2
     returns-2
-    number-requires
-    is-count-requires
-    returns-3
-    mul-if4
-    add-if4
-    returns-4
-    returns-5)
+    returns-3)

@@ -27,7 +27,7 @@ mul-if2 c =
     let at-is-refused = at-if1 .before in
     let at-form-check = at-is-refused .before in
     let f = formed _ (good-told (at-form-check .form-check .ensures) (at-is-refused .is-refused .ensures) (at-if1 .if1 .left)) in omega
-    (arith, f .most, c .file-count .ensures)
+    (arith, f .head .most, c .file-count .ensures)
 
 returns-2 : tie.Need-returns-2
 unfolding File.readCheck
