@@ -136,11 +136,12 @@ module _ (field : Field) where
             let b = length-nodes s n in
             stays-once s n root (not-kept-when (field .elements) (nodes s n) (root ∷ []) .1 (inr (omega arith)))
 
+        -- a list that is no longer fits
+        pub write-fits : size ≤ n → 3 * length (compacted work count new .list) ≤ length s
+        write-fits few = let room = ready .sound .room in omega arith
+
         -- a round that is kept: its compacted list is written
         module _ (et : t ≡ true) (less : size < n) where
-          pub write-fits : 3 * length (compacted work count new .list) ≤ length s
-          write-fits = let room = ready .sound .room in omega arith
-
           pub kept-once : {after : List ℕ} {place : ℕ} → place ≡ keptOf (compacted work count new) .root → after ≡ written s (compacted work count new .list)
               → Once field s n root after (keeping size place)
           unfolding isKept keptOf rounded compact w

@@ -124,7 +124,7 @@ write-numbered-requires c κs =
     let start = at-fanout .before .before .before .before .before .before .before .before .before .before .before .before .before in (
       at-number-reachable .number-reachable .ensures .1,
       Rounded.write-fits goldilocks (start .pre .0) (at-round .round .ensures) (at-fanout .fanout .ensures) (at-mapped .mapped .ensures)
-          (at-number-reachable .number-reachable .ensures .0) (not-false _ (at-if1 .if1 .left)) (omega (arith, at-if2 .if2 .left)),
+          (at-number-reachable .number-reachable .ensures .0) (omega (arith, at-if2 .if2 .left)),
     )
 
 same-length-13 : tie.Need-same-length-13

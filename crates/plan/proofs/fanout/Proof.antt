@@ -67,7 +67,7 @@ mention-requires c κs =
     let start = at-loop .before .before .before in (
       omega (arith, start .pre .fits, start .pre .inside, at-loop .loop .inv .1),
       Fanouts.counted-few (start .args .list .now) (start .args .n) (start .args .root) (start .args .fan .now) (start .pre) (at-loop .loop .i)
-          (at-loop .loop .fan) (at-loop .loop .inv .1) (at-loop .loop .inv .2) (at-loop .loop .inv .0) (start .args .root),
+          (at-loop .loop .fan) (at-loop .loop .inv .1) (at-loop .loop .inv .2) (at-loop .loop .inv .0) _,
     )
 
 same-length : tie.Need-same-length Inv-loop μ-loop
