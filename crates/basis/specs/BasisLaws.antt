@@ -1,10 +1,11 @@
 -- The classes of a column in basis, by the tests that the code makes.
 use Prim.Native.Nat.{ℕ, _+_, _-_, _<_, _≤_}
-use mathlib.Core.Bool.{true}
+use mathlib.Core.Bool.{Bool, true, false, not, Bool·beq}
 use mathlib.Core.List.{List}
-use mathlib.Core.Path.{_≡_, sym, _∙_, ap, subst}
+use mathlib.Core.Path.{_≡_, refl, sym, _∙_, ap, subst}
 use native.Mathlib.Omega.{arith}
 use borrow.Author.Tests.{eq-eqb, ne-eqb}
+use lib.Dec.{eqb}
 use lib.ListN.{getD, length, take, replicate}
 use lib.Seq.{take-at}
 use Rattle.field.specs.Fields.{Field, modulus, coordinateLaws}
@@ -17,12 +18,25 @@ use Rattle.columns.specs.ArrayLaws.{length-upTo, getD-upTo, getD-filled}
 use Rattle.coefficients.specs.Terms.{root}
 use Rattle.coefficients.specs.Arrays.{roots}
 use Rattle.periodic.specs.Builder.{done, _>>=_, add}
-use Rattle.periodic.specs.Periodic.{backwards, factor, element, classTurn, coefficient, isAdded, isSubtracted, addClass, subClass, addTurn, subTurn}
+use Rattle.periodic.specs.Periodic.{backwards, factor, element, classTurn, coefficient, isAdded, isSubtracted, addClass, subClass, termTurn}
 use Rattle.periodic.specs.Contracts.{Inside, AllInside, Entering}
 use Rattle.periodic.specs.RunLaws.{ran-done}
 use Rattle.periodic.specs.ListLaws.{all-later}
 use Rattle.basis.specs.Contracts as Said
 use Rattle.basis.specs.Contracts.{Roots, Products, Offset}
+
+-- what a test of two flags says
+unlike : (b d : Bool) → not (Bool·beq b d) ≡ true → b ≡ not d
+unlike false false e = e
+unlike false true e = refl
+unlike true false e = refl
+unlike true true e = sym e
+
+alike : (b d : Bool) → not (Bool·beq b d) ≡ false → b ≡ d
+alike false false e = refl
+alike false true e = sym e
+alike true false e = e
+alike true true e = refl
 
 module _ (field : Field) where
   pub entered-done : (s : List ℕ) (n a : ℕ) → Inside n a → Entering field s n (done a) s (record { place = a; count = n })
@@ -64,13 +78,11 @@ module _ (field : Field) where
       row-taken e = rw (eq-eqb _ _ e)
 
     module _ (d v k sum : ℕ) (ed : d ≡ offset (modulus field) c) where
-      pub add-offset : v ≡ d → done sum ≡ addTurn field c prefix suffix v sum
-      unfolding addTurn isAdded
-      add-offset e = rw (eq-eqb v (offset (modulus field) c) (e ∙ ed))
-
-      pub sub-offset : v ≡ d → done sum ≡ subTurn field c prefix suffix v sum
-      unfolding subTurn isSubtracted
-      sub-offset e = rw (eq-eqb v (offset (modulus field) c) (e ∙ ed))
+      -- the offset is no class
+      pub term-offset : (minus : Bool) → v ≡ d → done sum ≡ termTurn field c minus prefix suffix v sum
+      unfolding termTurn isAdded isSubtracted
+      term-offset false e = rw (eq-eqb v (offset (modulus field) c) (e ∙ ed))
+      term-offset true e = rw (eq-eqb v (offset (modulus field) c) (e ∙ ed))
 
       module _ (n : v ≡ d → ⊥) (ek : k ≡ field .coordinates .sub v d) where
         pub is-coefficient : k ≡ coefficient field c v
@@ -80,21 +92,28 @@ module _ (field : Field) where
         other : v ≡ offset (modulus field) c → ⊥
         other e = n (e ∙ sym ed)
 
-        pub add-minus : k ≡ modulus field - 1 → done sum ≡ addTurn field c prefix suffix v sum
-        unfolding addTurn isAdded
-        add-minus e = rw (ne-eqb v (offset (modulus field) c) other, eq-eqb (coefficient field c v) (modulus field - 1) (sym is-coefficient ∙ e))
+        module _ (b : Bool) (eb : b ≡ eqb k (modulus field - 1)) where
+          minus-one : eqb (coefficient field c v) (modulus field - 1) ≡ b
+          minus-one = sym (eb ∙ ap (λ k. eqb k (modulus field - 1)) is-coefficient)
 
-        pub add-taken : (k ≡ modulus field - 1 → ⊥) → addClass field c prefix suffix v sum ≡ addTurn field c prefix suffix v sum
-        unfolding addTurn isAdded
-        add-taken e = rw (ne-eqb v (offset (modulus field) c) other, ne-eqb (coefficient field c v) (modulus field - 1) (λ q. e (is-coefficient ∙ q)))
+          -- the class is none of those asked for
+          pub term-other : (minus : Bool) → not (Bool·beq b minus) ≡ true → done sum ≡ termTurn field c minus prefix suffix v sum
+          unfolding termTurn isAdded isSubtracted
+          term-other minus e = go minus (minus-one ∙ unlike b minus e)
+            where
+              go : (minus : Bool) → eqb (coefficient field c v) (modulus field - 1) ≡ not minus → done sum ≡ termTurn field c minus prefix suffix v sum
+              go false q = rw (ne-eqb v (offset (modulus field) c) other, q)
+              go true q = rw (ne-eqb v (offset (modulus field) c) other, q)
 
-        pub sub-other : (k ≡ modulus field - 1 → ⊥) → done sum ≡ subTurn field c prefix suffix v sum
-        unfolding subTurn isSubtracted
-        sub-other e = rw (ne-eqb v (offset (modulus field) c) other, ne-eqb (coefficient field c v) (modulus field - 1) (λ q. e (is-coefficient ∙ q)))
+          pub term-added : (minus : Bool) → not (Bool·beq b minus) ≡ false → minus ≡ false → addClass field c prefix suffix v sum ≡ termTurn field c minus prefix suffix v sum
+          unfolding termTurn isAdded
+          term-added minus e m =
+              subst (λ t. addClass field c prefix suffix v sum ≡ termTurn field c t prefix suffix v sum) (sym m) (rw (ne-eqb v (offset (modulus field) c) other, minus-one ∙ (alike b minus e ∙ m)))
 
-        pub sub-taken : k ≡ modulus field - 1 → subClass field c prefix suffix v sum ≡ subTurn field c prefix suffix v sum
-        unfolding subTurn isSubtracted
-        sub-taken e = rw (ne-eqb v (offset (modulus field) c) other, eq-eqb (coefficient field c v) (modulus field - 1) (sym is-coefficient ∙ e))
+          pub term-subtracted : (minus : Bool) → not (Bool·beq b minus) ≡ false → minus ≡ true → subClass field c prefix suffix v sum ≡ termTurn field c minus prefix suffix v sum
+          unfolding termTurn isSubtracted
+          term-subtracted minus e m =
+              subst (λ t. subClass field c prefix suffix v sum ≡ termTurn field c t prefix suffix v sum) (sym m) (rw (ne-eqb v (offset (modulus field) c) other, minus-one ∙ (alike b minus e ∙ m)))
 
 -- a list of places from its end
 pub backwards-is : (ps turned : List ℕ) (n : ℕ) → turned ≡ padded 0 128 (backwards ps) → length ps ≡ n → take n turned ≡ backwards ps

@@ -1,6 +1,5 @@
 // The value of a column in basis: the Lagrange basis of its rows, and the classes of its entries over it.
 use builder::Entered;
-use field::QuadFelt;
 use field::felt;
 ghost use mathlib.Core.Path.{_≡_};
 ghost use Prim.Native.Nat.{_+_, _-_, _<_, _≤_};
@@ -129,8 +128,8 @@ fn class_sum(
     acc
 }
 
-// The sum with the class of value v added, where it is one that is.
-fn add_turn(
+// The sum with the term of the class of value v, where it is one asked for: of the classes with coefficient −1, or of the others.
+fn term_turn(
     list: &mut [u64],
     n: usize,
     roots: &[u64; 128],
@@ -140,62 +139,33 @@ fn add_turn(
     d: u64,
     v: u64,
     sum: usize,
+    minus: bool,
 ) -> Entered
     requires { ⌜ PeriodicContracts.Ready goldilocks (now list) n × Contracts.Products goldilocks n (now col) (now roots) (now prefix) (now suffix) × PeriodicContracts.Inside n sum × Contracts.Class goldilocks (now col) d v ⌝ }
-    ensures { λ r. ⌜ PeriodicContracts.Entering goldilocks (now (list .entry)) n (Periodic.addTurn goldilocks (now (col .entry)) (now (prefix .entry)) (now (suffix .entry)) v sum) (now (list .exit)) r ⌝ }
+    ensures { λ r. ⌜ PeriodicContracts.Entering goldilocks (now (list .entry)) n (Periodic.termTurn goldilocks (now (col .entry)) minus (now (prefix .entry)) (now (suffix .entry)) v sum) (now (list .exit)) r ⌝ }
 {
+    let same = Entered {
+        place: sum,
+        count: n,
+    };
     if v == d {
-        return Entered {
-            place: sum,
-            count: n,
-        };
+        return same;
     }
     let k = felt::sub(v, d);
-    if k == QuadFelt::MODULUS - 1 {
-        return Entered {
-            place: sum,
-            count: n,
-        };
+    if felt::is_minus_one(k) != minus {
+        return same;
     }
     let class = class_sum(list, n, roots, prefix, suffix, col, v);
+    if minus {
+        return periodic::sub(list, class.count, sum, class.place);
+    }
     let scale = periodic::constant(list, class.count, k);
     let term = periodic::mul(list, scale.count, scale.place, class.place);
     periodic::add(list, term.count, sum, term.place)
 }
 
-// The sum with the class of value v subtracted, where it is one that is.
-fn sub_turn(
-    list: &mut [u64],
-    n: usize,
-    roots: &[u64; 128],
-    prefix: &[u64],
-    suffix: &[u64],
-    col: &[u64],
-    d: u64,
-    v: u64,
-    sum: usize,
-) -> Entered
-    requires { ⌜ PeriodicContracts.Ready goldilocks (now list) n × Contracts.Products goldilocks n (now col) (now roots) (now prefix) (now suffix) × PeriodicContracts.Inside n sum × Contracts.Class goldilocks (now col) d v ⌝ }
-    ensures { λ r. ⌜ PeriodicContracts.Entering goldilocks (now (list .entry)) n (Periodic.subTurn goldilocks (now (col .entry)) (now (prefix .entry)) (now (suffix .entry)) v sum) (now (list .exit)) r ⌝ }
-{
-    if v == d {
-        return Entered {
-            place: sum,
-            count: n,
-        };
-    }
-    if felt::sub(v, d) != QuadFelt::MODULUS - 1 {
-        return Entered {
-            place: sum,
-            count: n,
-        };
-    }
-    let class = class_sum(list, n, roots, prefix, suffix, col, v);
-    periodic::sub(list, class.count, sum, class.place)
-}
-
-// The sum with all classes added that are.
-fn add_classes(
+// The sum with those terms of all classes.
+fn all_terms(
     list: &mut [u64],
     n: usize,
     roots: &[u64; 128],
@@ -205,9 +175,10 @@ fn add_classes(
     values: &[u64],
     d: u64,
     start: usize,
+    minus: bool,
 ) -> Entered
     requires { ⌜ PeriodicContracts.Ready goldilocks (now list) n × Contracts.Products goldilocks n (now col) (now roots) (now prefix) (now suffix) × PeriodicContracts.Inside n start × Contracts.Offset goldilocks (now col) (now values) d ⌝ }
-    ensures { λ r. ⌜ PeriodicContracts.Entering goldilocks (now (list .entry)) n (Periodic.addClasses goldilocks (now (col .entry)) (now (prefix .entry)) (now (suffix .entry)) start) (now (list .exit)) r ⌝ }
+    ensures { λ r. ⌜ PeriodicContracts.Entering goldilocks (now (list .entry)) n (Periodic.allTerms goldilocks (now (col .entry)) minus (now (prefix .entry)) (now (suffix .entry)) start) (now (list .exit)) r ⌝ }
 {
     let mut sum = Entered {
         place: start,
@@ -215,7 +186,7 @@ fn add_classes(
     };
     let mut k = 0;
     while k < values.len() {
-        sum = add_turn(
+        sum = term_turn(
             list,
             sum.count,
             roots,
@@ -225,43 +196,7 @@ fn add_classes(
             d,
             values[k],
             sum.place,
-        );
-        k += 1;
-    }
-    sum
-}
-
-// The sum with all classes subtracted that are.
-fn sub_classes(
-    list: &mut [u64],
-    n: usize,
-    roots: &[u64; 128],
-    prefix: &[u64],
-    suffix: &[u64],
-    col: &[u64],
-    values: &[u64],
-    d: u64,
-    start: usize,
-) -> Entered
-    requires { ⌜ PeriodicContracts.Ready goldilocks (now list) n × Contracts.Products goldilocks n (now col) (now roots) (now prefix) (now suffix) × PeriodicContracts.Inside n start × Contracts.Offset goldilocks (now col) (now values) d ⌝ }
-    ensures { λ r. ⌜ PeriodicContracts.Entering goldilocks (now (list .entry)) n (Periodic.subClasses goldilocks (now (col .entry)) (now (prefix .entry)) (now (suffix .entry)) start) (now (list .exit)) r ⌝ }
-{
-    let mut sum = Entered {
-        place: start,
-        count: n,
-    };
-    let mut k = 0;
-    while k < values.len() {
-        sum = sub_turn(
-            list,
-            sum.count,
-            roots,
-            prefix,
-            suffix,
-            col,
-            d,
-            values[k],
-            sum.place,
+            minus,
         );
         k += 1;
     }
@@ -285,7 +220,7 @@ fn basis_sum(
     let values = &store[..t];
     let d = columns::offset(col, values);
     let start = periodic::constant(list, n, d);
-    let sum = add_classes(
+    let sum = all_terms(
         list,
         start.count,
         roots,
@@ -295,8 +230,9 @@ fn basis_sum(
         values,
         d,
         start.place,
+        false,
     );
-    sub_classes(
+    all_terms(
         list,
         sum.count,
         roots,
@@ -306,6 +242,7 @@ fn basis_sum(
         values,
         d,
         sum.place,
+        true,
     )
 }
 

@@ -151,26 +151,21 @@ module _ (field : Field) (c : List ℕ) where
     class ← classSum prefix suffix v
     sub (field .elements) sum class
 
-  -- the class of value v, where it is one of those
-  unfoldable pub addTurn : List ℕ → List ℕ → ℕ → ℕ → Builder ℕ
-  addTurn prefix suffix v sum = cond (isAdded v) (addClass prefix suffix v sum) (done sum)
+  -- the term of the class of value v: added, or where coefficients of −1 are asked for, subtracted
+  unfoldable pub termTurn : Bool → List ℕ → List ℕ → ℕ → ℕ → Builder ℕ
+  termTurn false prefix suffix v sum = cond (isAdded v) (addClass prefix suffix v sum) (done sum)
+  termTurn true prefix suffix v sum = cond (isSubtracted v) (subClass prefix suffix v sum) (done sum)
 
-  unfoldable pub subTurn : List ℕ → List ℕ → ℕ → ℕ → Builder ℕ
-  subTurn prefix suffix v sum = cond (isSubtracted v) (subClass prefix suffix v sum) (done sum)
-
-  -- all classes in order of first index: those that are added, then those that are subtracted
-  unfoldable pub addClasses : List ℕ → List ℕ → ℕ → Builder ℕ
-  addClasses prefix suffix = turns (λ k sum. addTurn prefix suffix (getD (values c) k 0) sum) (length (values c))
-
-  unfoldable pub subClasses : List ℕ → List ℕ → ℕ → Builder ℕ
-  subClasses prefix suffix = turns (λ k sum. subTurn prefix suffix (getD (values c) k 0) sum) (length (values c))
+  -- those terms of all classes, in order of first index
+  unfoldable pub allTerms : Bool → List ℕ → List ℕ → ℕ → Builder ℕ
+  allTerms minus prefix suffix = turns (λ k sum. termTurn minus prefix suffix (getD (values c) k 0) sum) (length (values c))
 
   -- the offset and its classes, over the products before and behind each row
   unfoldable pub basisSum : List ℕ → List ℕ → Builder ℕ
   basisSum prefix suffix = do
     start ← constant (field .elements) (offset (modulus field) c)
-    sum ← addClasses prefix suffix start
-    subClasses prefix suffix sum
+    sum ← allTerms false prefix suffix start
+    allTerms true prefix suffix sum
 
   -- the products behind each row, and then the sum
   unfoldable pub basisBack : List ℕ → List ℕ → Builder ℕ

@@ -1,6 +1,6 @@
 -- What each computation of Periodic.antt keeps, and what its answer is worth, in any field, whatever element is given to each key.
 use Prim.Native.Nat.{ℕ, zero, suc, _+_, _-_, _<_, _≤_}
-use mathlib.Core.Bool.{true, cond}
+use mathlib.Core.Bool.{true, false, cond}
 use mathlib.Core.List.{List, [], _∷_}
 use mathlib.Core.Path.{_≡_, refl, ap₂, subst}
 use native.Mathlib.Nat.{mod-lt}
@@ -265,16 +265,16 @@ module _ (field : Field) (given : ℕ → QuadFelt) (low-given : (k : ℕ) → L
       sub-class-keeps v w s r = keeps-then (class-keeps v w s) (λ k a w e x. sub-keeps w (later e r) x)
 
       add-turn-keeps : {l : List NodeKind} (v sum : ℕ) (u : QuadFelt) → WellFormed (Low field) l → Sides l → Is (field .elements) given l sum u
-          → Gives l (Periodic.addTurn field c prefix suffix v sum) (addedWorth field c p q v u)
-      unfolding Periodic.addTurn addedWorth
+          → Gives l (Periodic.termTurn field c false prefix suffix v sum) (addedWorth field c p q v u)
+      unfolding Periodic.termTurn addedWorth
       add-turn-keeps v sum u w s r =
           keeps-cond (λ z k a. Is (field .elements) given k a z) (Periodic.isAdded field c v)
           (Periodic.addClass field c prefix suffix v sum) (done sum) _ u
           (add-class-keeps v w s r) (keeps-done sum w r)
 
       sub-turn-keeps : {l : List NodeKind} (v sum : ℕ) (u : QuadFelt) → WellFormed (Low field) l → Sides l → Is (field .elements) given l sum u
-          → Gives l (Periodic.subTurn field c prefix suffix v sum) (subtractedWorth field c p q v u)
-      unfolding Periodic.subTurn subtractedWorth
+          → Gives l (Periodic.termTurn field c true prefix suffix v sum) (subtractedWorth field c p q v u)
+      unfolding Periodic.termTurn subtractedWorth
       sub-turn-keeps v sum u w s r =
           keeps-cond (λ z k a. Is (field .elements) given k a z) (Periodic.isSubtracted field c v)
           (Periodic.subClass field c prefix suffix v sum) (done sum) _ u
@@ -282,20 +282,20 @@ module _ (field : Field) (given : ℕ → QuadFelt) (low-given : (k : ℕ) → L
 
       -- all classes
       add-classes-keeps : {l : List NodeKind} {sum : ℕ} {u : QuadFelt} → WellFormed (Low field) l → Sides l → Is (field .elements) given l sum u
-          → Gives l (Periodic.addClasses field c prefix suffix sum)
+          → Gives l (Periodic.allTerms field c false prefix suffix sum)
           (folded (λ k u. addedWorth field c p q (getD (values c) k 0) u) (length (values c)) u)
-      unfolding Periodic.addClasses
+      unfolding Periodic.allTerms
       add-classes-keeps {sum = sum} w s r =
-          keeps-folded (λ k sum. Periodic.addTurn field c prefix suffix (getD (values c) k 0) sum)
+          keeps-folded (λ k sum. Periodic.termTurn field c false prefix suffix (getD (values c) k 0) sum)
           (λ k u. addedWorth field c p q (getD (values c) k 0) u) (length (values c)) sum w r
           (λ i h k b u w e x. add-turn-keeps (getD (values c) i 0) b u w (sides-later e s) x)
 
       sub-classes-keeps : {l : List NodeKind} {sum : ℕ} {u : QuadFelt} → WellFormed (Low field) l → Sides l → Is (field .elements) given l sum u
-          → Gives l (Periodic.subClasses field c prefix suffix sum)
+          → Gives l (Periodic.allTerms field c true prefix suffix sum)
           (folded (λ k u. subtractedWorth field c p q (getD (values c) k 0) u) (length (values c)) u)
-      unfolding Periodic.subClasses
+      unfolding Periodic.allTerms
       sub-classes-keeps {sum = sum} w s r =
-          keeps-folded (λ k sum. Periodic.subTurn field c prefix suffix (getD (values c) k 0) sum)
+          keeps-folded (λ k sum. Periodic.termTurn field c true prefix suffix (getD (values c) k 0) sum)
           (λ k u. subtractedWorth field c p q (getD (values c) k 0) u) (length (values c)) sum w r
           (λ i h k b u w e x. sub-turn-keeps (getD (values c) i 0) b u w (sides-later e s) x)
 

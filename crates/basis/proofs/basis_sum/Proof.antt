@@ -33,8 +33,8 @@ offset-requires c κs = search needs
 constant-requires : tie.Need-constant-requires
 constant-requires c κs = search needs
 
-add-classes-requires : tie.Need-add-classes-requires
-add-classes-requires c κs =
+all-terms-requires : tie.Need-all-terms-requires
+all-terms-requires c κs =
     let at-constant = c .before .before .before in
     let at-offset = at-constant .before .before in
     let at-values = at-offset .before .before .before in
@@ -47,37 +47,37 @@ add-classes-requires c κs =
           (at-offset .offset .ensures .0) (at-offset .offset .ensures .1),
     )
 
-sub-classes-requires : tie.Need-sub-classes-requires
-sub-classes-requires c κs =
-    let at-add-classes = c .before .before .before in
-    let at-constant = at-add-classes .before .before .before .before in
+all-terms-requires-2 : tie.Need-all-terms-requires-2
+all-terms-requires-2 c κs =
+    let at-all-terms = c .before .before .before in
+    let at-constant = at-all-terms .before .before .before .before in
     let at-offset = at-constant .before .before in
     let at-values = at-offset .before .before .before in
     let start = at-values .before .before .before .before .before .before in (
-      entered-ready goldilocks _ _ _ _ _ (entered-ready goldilocks _ _ _ _ _ (start .pre .0) (at-constant .constant .ensures)) (at-add-classes .add-classes .ensures),
-      products-later goldilocks (at-add-classes .add-classes .ensures .ran .longer)
+      entered-ready goldilocks _ _ _ _ _ (entered-ready goldilocks _ _ _ _ _ (start .pre .0) (at-constant .constant .ensures)) (at-all-terms .all-terms .ensures),
+      products-later goldilocks (at-all-terms .all-terms .ensures .ran .longer)
           (products-later goldilocks (at-constant .constant .ensures .ran .longer) (start .pre .1)),
-      at-add-classes .add-classes .ensures .inside,
+      at-all-terms .all-terms .ensures .inside,
       offset-of goldilocks _ _ _
           (start .pre .2 .low) (at-values .values .ensures .0) (at-offset .offset .ensures .0) (at-offset .offset .ensures .1),
     )
 
 same-length : tie.Need-same-length
 same-length c =
-    let at-sub-classes = c .before .before in
-    let at-add-classes = at-sub-classes .before .before .before .before in
-    let at-constant = at-add-classes .before .before .before .before in
-    at-sub-classes .sub-classes .ensures .ran .kept ∙ (at-add-classes .add-classes .ensures .ran .kept ∙ at-constant .constant .ensures .ran .kept)
+    let at-all-terms2 = c .before .before in
+    let at-all-terms = at-all-terms2 .before .before .before .before in
+    let at-constant = at-all-terms .before .before .before .before in
+    at-all-terms2 .all-terms2 .ensures .ran .kept ∙ (at-all-terms .all-terms .ensures .ran .kept ∙ at-constant .constant .ensures .ran .kept)
 
 returns : tie.Need-returns
 unfolding Periodic.basisSum
 returns c =
-    let at-sub-classes = c .before .before in
-    let at-add-classes = at-sub-classes .before .before .before .before in
-    let at-constant = at-add-classes .before .before .before .before in
+    let at-all-terms2 = c .before .before in
+    let at-all-terms = at-all-terms2 .before .before .before .before in
+    let at-constant = at-all-terms .before .before .before .before in
     let at-offset = at-constant .before .before in
     then-enter goldilocks _ _ _ _ _ _ _ _ (entering-at goldilocks (Builder.constant quad) _ _ _ _ (at-offset .offset .ensures .0) (at-constant .constant .ensures))
-    (then-enter goldilocks _ _ _ _ _ _ _ _ (at-add-classes .add-classes .ensures) (at-sub-classes .sub-classes .ensures))
+    (then-enter goldilocks _ _ _ _ _ _ _ _ (at-all-terms .all-terms .ensures) (at-all-terms2 .all-terms2 .ensures))
 
 pub basis-sum-spec : {M : Type 1} → statement M
 basis-sum-spec =
@@ -89,7 +89,7 @@ basis-sum-spec =
     slice-aggregate-values-2
     offset-requires
     constant-requires
-    add-classes-requires
-    sub-classes-requires
+    all-terms-requires
+    all-terms-requires-2
     same-length
     returns)

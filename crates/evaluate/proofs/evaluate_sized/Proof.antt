@@ -63,9 +63,11 @@ slice-aggregate-evaluate-in-9 c = search needs
 
 evaluate-in-requires-3 : tie.Need-evaluate-in-requires-3
 evaluate-in-requires-3 c κs =
-    let start = c .before .before .before .before .before .before .before .before in (
+    let at-point = c .before .before .before .before .before .before .before .before in
+    let start = at-point in (
       start .pre,
-      stores-new _ _ mostEntries mostEntries (list-most goldilocks _ _ _ _ _ (start .pre)) (entries-most goldilocks _ _ _ _ _ (start .pre)) (omega arith) (omega arith) (omega arith),
+      stores-new _ _ mostEntries mostEntries (list-most goldilocks _ _ _ _ _ (start .pre)) (entries-most goldilocks _ _ _ _ _ (start .pre))
+          (omega arith) (omega arith) (omega arith),
     )
 
 returns-3 : tie.Need-returns-3

@@ -13,28 +13,28 @@ use Rattle.periodic.specs.RunLaws.{entered-ready, enter-none, enter-next, enter
 use Rattle.columns.specs.ClassLaws.{below-at}
 use Rattle.periodic.specs.SparseLaws.{entering-same}
 use Rattle.basis.specs.BasisLaws.{products-later}
-use Rattle.basis.proofs.sub_classes.Statement.{statement}
-use Rattle.basis.proofs.sub_classes.Tie as tie
+use Rattle.basis.proofs.all_terms.Statement.{statement}
+use Rattle.basis.proofs.all_terms.Tie as tie
 
 abbrev Inv-loop : tie.InvT-loop
-Inv-loop list₀ n roots prefix suffix col values d start sum₀ k₀ list sum k = (k ≤ length values) × Said.Entering goldilocks list₀ n (Builder.turns (λ k sum. Periodic.subTurn goldilocks col prefix suffix (getD values k 0) sum) k start) list sum × Said.Ready goldilocks list (sum .count) × Basis.Products goldilocks (sum .count) col roots prefix suffix
+Inv-loop list₀ n roots prefix suffix col values d start minus sum₀ k₀ list sum k = (k ≤ length values) × Said.Entering goldilocks list₀ n (Builder.turns (λ k sum. Periodic.termTurn goldilocks col minus prefix suffix (getD values k 0) sum) k start) list sum × Said.Ready goldilocks list (sum .count) × Basis.Products goldilocks (sum .count) col roots prefix suffix
 
 abbrev μ-loop : tie.MeasureT-loop
-μ-loop list₀ n roots prefix suffix col values d start sum₀ k₀ list sum k = length values - k
+μ-loop list₀ n roots prefix suffix col values d start minus sum₀ k₀ list sum k = length values - k
 
 loop-holds : tie.Need-loop-holds Inv-loop μ-loop
 loop-holds c =
     let start = c .before .before .before .before .before in
     (omega arith, enter-none goldilocks _ _ _ _ (start .pre .2), start .pre .0, start .pre .1)
 
-mul-sub-turn : tie.Need-mul-sub-turn Inv-loop μ-loop
-mul-sub-turn c = omega arith
+mul-term-turn : tie.Need-mul-term-turn Inv-loop μ-loop
+mul-term-turn c = omega arith
 
-shared-slice-read-sub-turn : tie.Need-shared-slice-read-sub-turn Inv-loop μ-loop
-shared-slice-read-sub-turn c = omega arith
+shared-slice-read-term-turn : tie.Need-shared-slice-read-term-turn Inv-loop μ-loop
+shared-slice-read-term-turn c = omega arith
 
-sub-turn-requires : tie.Need-sub-turn-requires Inv-loop μ-loop
-sub-turn-requires c κs =
+term-turn-requires : tie.Need-term-turn-requires Inv-loop μ-loop
+term-turn-requires c κs =
     let at-loop-test = c .before .before in
     let at-loop = at-loop-test .before in
     let start = at-loop .before .before .before .before .before .before in (
@@ -57,37 +57,37 @@ loop-less c = omega arith
 
 loop-again : tie.Need-loop-again Inv-loop μ-loop
 loop-again c =
-    let at-sub-turn = c .before .before in
-    let at-loop = at-sub-turn .before .before .before .before in (
+    let at-term-turn = c .before .before in
+    let at-loop = at-term-turn .before .before .before .before in (
       omega arith,
-      enter-next goldilocks _ _ _ _ _ _ _ _ _ (at-loop .loop .inv .1) (at-sub-turn .sub-turn .ensures),
+      enter-next goldilocks _ _ _ _ _ _ _ _ _ (at-loop .loop .inv .1) (at-term-turn .term-turn .ensures),
       entered-ready goldilocks _ _ _ _ _ (at-loop .loop .inv .2)
-          (at-sub-turn .sub-turn .ensures),
-      products-later goldilocks (at-sub-turn .sub-turn .ensures .ran .longer) (at-loop .loop .inv .3),
+          (at-term-turn .term-turn .ensures),
+      products-later goldilocks (at-term-turn .term-turn .ensures .ran .longer) (at-loop .loop .inv .3),
     )
 
 same-length : tie.Need-same-length Inv-loop μ-loop
 same-length c = c .before .loop .inv .1 .ran .kept
 
 returns : tie.Need-returns Inv-loop μ-loop
-unfolding Periodic.subClasses
+unfolding Periodic.allTerms
 returns c =
     let at-loop = c .before in
     let start-2 = at-loop .before .before .before .before .before .before in
-    entering-same goldilocks _ _ _ _ _ _ (ap (λ vs. Builder.turns (λ k sum. Periodic.subTurn goldilocks (start-2 .args .col .now)
+    entering-same goldilocks _ _ _ _ _ _ (ap (λ vs. Builder.turns (λ k sum. Periodic.termTurn goldilocks (start-2 .args .col .now) (start-2 .args .minus)
     (start-2 .args .prefix .now) (start-2 .args .suffix .now) (getD vs k 0) sum) (length vs) (start-2 .args .start)) (start-2 .pre .3 .are))
     (enter-all goldilocks _ _ _ _ _ _ _ _ (at-loop .loop .inv .0) (c .loop-test .left) (at-loop .loop .inv .1))
 
-pub sub-classes-spec : {M : Type 1} → statement M
-sub-classes-spec =
+pub all-terms-spec : {M : Type 1} → statement M
+all-terms-spec =
     tie.close
     (tie.spec
     Inv-loop
     μ-loop
     loop-holds
-    mul-sub-turn
-    shared-slice-read-sub-turn
-    sub-turn-requires
+    mul-term-turn
+    shared-slice-read-term-turn
+    term-turn-requires
     add-k
     loop-less
     loop-again
