@@ -25,8 +25,7 @@ is-minus-one-requires c κs = search needs
 
 returns-2 : tie.Need-returns-2
 returns-2 c =
-    let at-point = c .before in
-    let at-minus = at-point in
+    let at-minus = c .before in
     let at-sub = at-minus .before in
     let at-if1 = at-sub .before in
     let start = at-if1 .before .before .before .before .before in
@@ -36,8 +35,7 @@ returns-2 c =
 
 class-sum-requires : tie.Need-class-sum-requires
 class-sum-requires c κs =
-    let at-point = c .before .before .before .before .before .before .before .before .before in
-    let start = at-point in
+    let start = c .before .before .before .before .before .before .before .before .before in
     (start .pre .0, start .pre .1)
 
 sub-requires-2 : tie.Need-sub-requires-2
@@ -58,8 +56,7 @@ same-length c =
 returns-3 : tie.Need-returns-3
 unfolding Periodic.subClass
 returns-3 c =
-    let at-point = c .before .before in
-    let at-sub2 = at-point in
+    let at-sub2 = c .before .before in
     let at-if3 = at-sub2 .before .before in
     let at-class-sum = at-if3 .before .before .before in
     let at-if2 = at-class-sum .before .before in
@@ -113,8 +110,7 @@ same-length-2 c =
 returns-4 : tie.Need-returns-4
 unfolding Periodic.addClass
 returns-4 c =
-    let at-point = c .before .before in
-    let at-add = at-point in
+    let at-add = c .before .before in
     let at-mul = at-add .before .before .before .before in
     let at-constant = at-mul .before .before .before .before in
     let at-if3 = at-constant .before .before in

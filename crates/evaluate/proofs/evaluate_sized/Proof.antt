@@ -63,8 +63,7 @@ slice-aggregate-evaluate-in-9 c = search needs
 
 evaluate-in-requires-3 : tie.Need-evaluate-in-requires-3
 evaluate-in-requires-3 c κs =
-    let at-point = c .before .before .before .before .before .before .before .before in
-    let start = at-point in (
+    let start = c .before .before .before .before .before .before .before .before in (
       start .pre,
       stores-new _ _ mostEntries mostEntries (list-most goldilocks _ _ _ _ _ (start .pre)) (entries-most goldilocks _ _ _ _ _ (start .pre))
           (omega arith) (omega arith) (omega arith),
