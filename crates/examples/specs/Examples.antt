@@ -28,7 +28,8 @@ use Rattle.lower.specs.declared.LowerAnswer.the-variants.{Done}
 use Rattle.normalize.specs.Calls.{normalized}
 use Rattle.text.specs.Text.{ascii, digits, decimal, ended, line}
 use Rattle.house_file.specs.File.{number, wordsAt, wordsOfFirst, fileWords, isCount, headCheck, formCheck, heldCheck, fileCheck}
-use Rattle.listing.specs.Listing.{kind, firstLine, recordLine, recordLines, listed, refusedLine, listing}
+use Rattle.listing.specs.Kinds.{kind}
+use Rattle.listing.specs.Listing.{firstLine, recordLine, recordLines, listed, refusedLine, listing}
 
 -- the two sides of an example
 pub record Example : Type 1 where

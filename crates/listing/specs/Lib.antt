@@ -1,3 +1,5 @@
+pub mod Kinds
+pub mod KindLaws
 pub mod Listing
 pub mod Contracts
 pub mod LineLaws

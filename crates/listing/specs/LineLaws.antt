@@ -11,14 +11,13 @@ use Rattle.dag.specs.Nodes.{nodes, at, recordAt}
 use Rattle.dag.specs.NodeLaws.{length-nodes, at-nodes}
 use Rattle.dag.specs.Refusals.{number, place}
 use Rattle.dag.specs.declared.NodeKind.{NodeKind}
-use Rattle.dag.specs.declared.NodeKind.the-variants.{Input, Constant, Add, Sub, Mul, Neg}
 use Rattle.dag.specs.declared.Refusal.{Refusal}
 use Rattle.text.specs.Text.{ascii, decimal, ended, line, space, newline}
 use Rattle.text.specs.DecimalLaws.{decimal-short}
 use Rattle.text.specs.WritingLaws.{and-then, wrote-as, length-ended}
 use Rattle.text.specs.Contracts.{Wrote}
 use Rattle.listing.specs.Contracts.{named, answerText}
-use Rattle.listing.specs.Listing.{kind, firstLine, recordLine, recordLines, listed, refusedLine}
+use Rattle.listing.specs.Listing.{firstLine, recordLine, recordLines, listed, refusedLine}
 
 pub length-named : (word : List ℕ) (n end : ℕ) → length (named word n end) ≡ length (ended word space) + length (ended (decimal n) end)
 unfolding named
@@ -34,20 +33,7 @@ word-short n end h = omega (arith, length-ended (decimal n) end, word-digits n h
 pub named-short : (word : List ℕ) (n end : ℕ) → n < 2 ^ 64 → length (named word n end) ≤ length word + 22
 named-short word n end h = omega (arith, length-named word n end, length-ended word space, word-short n end h)
 
-pub kind-short : (x : NodeKind) → length (ended (kind x) space) ≤ 6
-unfolding kind ascii ended
-kind-short (Input k) = omega arith
-kind-short (Constant c) = omega arith
-kind-short (Add a b) = omega arith
-kind-short (Sub a b) = omega arith
-kind-short (Mul a b) = omega arith
-kind-short (Neg a) = omega arith
-
 module _ {s u : List ℕ} {at r : ℕ} where
-  -- the word of a kind
-  pub wrote-kind : {x y : NodeKind} {word : List ℕ} → x ≡ y → word ≡ kind y → Wrote s at (ended word space) u r → Wrote s at (ended (kind x) space) u r
-  wrote-kind e f w = wrote-as (ap (λ t. ended t space) (f ∙ ap kind (sym e))) w
-
   -- the number that another is
   pub wrote-number : (end : ℕ) {m n : ℕ} → m ≡ n → Wrote s at (ended (decimal m) end) u r → Wrote s at (ended (decimal n) end) u r
   wrote-number end e w = wrote-as (ap (λ k. ended (decimal k) end) e) w

@@ -6,21 +6,12 @@ use Rattle.field.specs.Fields.{goldilocks}
 use Rattle.dag.specs.Nodes.{at, first, second}
 use Rattle.dag.specs.Refusals.{number, place, unlessRefused}
 use Rattle.dag.specs.declared.NodeKind.{NodeKind}
-use Rattle.dag.specs.declared.NodeKind.the-variants.{Input, Constant, Add, Sub, Mul, Neg}
 use Rattle.dag.specs.declared.Refusal.{Refusal}
 use Rattle.normalize.specs.Rounds.{Normal}
 use Rattle.normalize.specs.Calls.{normalizeCheck, normalized}
 use Rattle.text.specs.Text.{ascii, decimal, line}
 use Rattle.house_file.specs.File.{mostFiled, recordPlace, fileCount, fileRoot, fileWords, fileCheck}
-
--- the word of a record's kind
-unfoldable pub kind : NodeKind → List ℕ
-kind (Input k) = ascii "in"
-kind (Constant c) = ascii "const"
-kind (Add a b) = ascii "add"
-kind (Sub a b) = ascii "sub"
-kind (Mul a b) = ascii "mul"
-kind (Neg a) = ascii "neg"
+use Rattle.listing.specs.Kinds.{kind}
 
 -- count, root and rounds kept
 unfoldable pub firstLine : ℕ → List ℕ → ℕ → List ℕ
@@ -53,9 +44,9 @@ wordsListing s n root resultWords workWords =
 unfoldable pub listing : List ℕ → List ℕ
 listing file = unlessRefused (fileCheck file) refusedLine (listed (normalized goldilocks (fileWords file) (fileCount file) (fileRoot file)))
 
--- the most bytes of a listing of n records: 81 in its first line, 53 in each other
-abbrev pub longest : ℕ → ℕ
-longest n = 81 + 53 * n
+-- a listing of n records has no more bytes: 81 in its first line, 53 in each other
+abbrev pub mostBytes : ℕ → ℕ
+mostBytes n = 81 + 53 * n
 
 -- so many bytes of an input decide its listing: one more than the longest file of good form has
 abbrev pub enough : ℕ

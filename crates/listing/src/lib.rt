@@ -4,6 +4,9 @@ use dag::Refusal;
 use house_file::FileAnswer;
 use normalize::NormalizeAnswer;
 use text::End;
+
+pub mod kinds;
+
 ghost use mathlib.Core.Path.{_≡_};
 ghost use mathlib.Core.List.{[], _∷_};
 ghost use Prim.Native.Nat.{_+_, _*_, _<_, _≤_};
@@ -14,26 +17,11 @@ ghost use Rattle.text.specs.Contracts.{Wrote, Laid};
 ghost use Rattle.listing.specs.Listing as Listing;
 ghost use Rattle.listing.specs.Contracts as Contracts;
 
-// The longest listing of a house file, in bytes.
-pub const LONGEST: usize = 54353;
+// No listing of a house file has more bytes.
+pub const MOST_BYTES: usize = 54353;
 
 // So many bytes of an input decide its listing: one more than the longest file of good form has.
 pub const ENOUGH: usize = 17418;
-
-// Writes a record's kind and a space.
-fn put_kind(out: &mut [u8], at: usize, x: NodeKind) -> usize
-    requires { ⌜ at + 6 ≤ length (now out) ⌝ }
-    ensures { λ r. ⌜ Wrote (now (out .entry)) at (ended (Listing.kind x) space) (now (out .exit)) r ⌝ }
-{
-    match x {
-        NodeKind::Input(_) => text::put_word(out, at, b"in", End::Space),
-        NodeKind::Constant(_) => text::put_word(out, at, b"const", End::Space),
-        NodeKind::Add(_, _) => text::put_word(out, at, b"add", End::Space),
-        NodeKind::Sub(_, _) => text::put_word(out, at, b"sub", End::Space),
-        NodeKind::Mul(_, _) => text::put_word(out, at, b"mul", End::Space),
-        NodeKind::Neg(_) => text::put_word(out, at, b"neg", End::Space),
-    }
-}
 
 // Writes the line of the record x at place i.
 fn put_record(out: &mut [u8], at: usize, i: usize, x: NodeKind) -> usize
@@ -41,7 +29,7 @@ fn put_record(out: &mut [u8], at: usize, i: usize, x: NodeKind) -> usize
     ensures { λ r. ⌜ Wrote (now (out .entry)) at (Listing.recordLine i x) (now (out .exit)) r × (r ≤ at + 53) ⌝ }
 {
     let kind = text::put_number(out, at, i as u64, End::Space);
-    let first = put_kind(out, kind, x);
+    let first = kinds::put_kind(out, kind, x);
     let second = text::put_number(out, first, dag::first_of(x), End::Space);
     text::put_number(out, second, dag::second_of(x), End::Newline)
 }
@@ -87,7 +75,7 @@ pub fn write_listing(
     rounds: usize,
     out: &mut [u8],
 ) -> usize
-    requires { ⌜ (3 * count ≤ length (now list)) × (count ≤ 4096) × (Listing.longest count ≤ length (now out)) ⌝ }
+    requires { ⌜ (3 * count ≤ length (now list)) × (count ≤ 4096) × (Listing.mostBytes count ≤ length (now out)) ⌝ }
     ensures { λ r. ⌜ Laid (now (out .entry)) (Contracts.answerText (now (list .entry)) count root rounds) (now (out .exit)) r ⌝ }
 {
     let lines = put_first(out, count, root, rounds);
@@ -116,7 +104,7 @@ fn list_words(
     work: &mut [u64],
     out: &mut [u8],
 ) -> usize
-    requires { ⌜ Listing.longest n ≤ length (now out) ⌝ }
+    requires { ⌜ Listing.mostBytes n ≤ length (now out) ⌝ }
     ensures { λ r. ⌜ Laid (now (out .entry)) (Listing.wordsListing (now (list .entry)) n root (length (now (result .entry))) (length (now (work .entry)))) (now (out .exit)) r ⌝ }
 {
     let answer = normalize::normalize(list, n, root, result, work);
@@ -153,7 +141,7 @@ fn list_in(
 
 // Writes the listing of a house file, or the line of its refusal, 0 bytes behind it. Answers its length.
 pub fn list_file(file: &[u8], out: &mut [u8]) -> usize
-    requires { ⌜ Listing.longest 1024 ≤ length (now out) ⌝ }
+    requires { ⌜ Listing.mostBytes 1024 ≤ length (now out) ⌝ }
     ensures length { λ r. ⌜ r ≡ length (Listing.listing (now (file .entry))) ⌝ }
     ensures text { λ _. ⌜ now (out .exit) ≡ laid (length (now (out .entry))) (Listing.listing (now (file .entry))) ⌝ }
     ensures fits { λ r. ⌜ r ≤ length (now (out .exit)) ⌝ }
@@ -166,7 +154,7 @@ pub fn list_file(file: &[u8], out: &mut [u8]) -> usize
 
 // Writes the listing of an input of which the first n bytes of a buffer are read. Answers its length.
 pub fn list_input(buffer: &[u8], n: usize, out: &mut [u8]) -> usize
-    requires { ⌜ (Listing.enough ≤ length (now buffer)) × (n ≤ length (now buffer)) × (Listing.longest 1024 ≤ length (now out)) ⌝ }
+    requires { ⌜ (Listing.enough ≤ length (now buffer)) × (n ≤ length (now buffer)) × (Listing.mostBytes 1024 ≤ length (now out)) ⌝ }
     ensures listed { λ r. ⌜ Contracts.Lists (now (buffer .entry)) n (now (out .entry)) (now (out .exit)) r ⌝ }
     ensures fits { λ r. ⌜ r ≤ length (now (out .exit)) ⌝ }
 {

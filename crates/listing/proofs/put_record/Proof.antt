@@ -2,7 +2,8 @@ use native.Mathlib.Omega.{arith}
 use Rattle.text.specs.WritingLaws.{and-then, length-ended}
 use Rattle.text.specs.DecimalLaws.{number-short}
 use Rattle.text.specs.Text as Text
-use Rattle.listing.specs.LineLaws.{kind-short, word-digits, word-short, wrote-number}
+use Rattle.listing.specs.LineLaws.{word-digits, word-short, wrote-number}
+use Rattle.listing.specs.KindLaws.{kind-short}
 use Rattle.listing.specs.Listing as Listing
 use borrow.Author.Needs.{needs}
 use Rattle.listing.proofs.put_record.Statement.{statement}
@@ -18,6 +19,7 @@ put-kind-requires c κs =
     omega (
       arith,
       number-short 3 (start .args .i) 32 (start .pre .0),
+      kind-short (start .args .x),
       start .pre .1,
       at-put-number .put-number .ensures .end-is,
       at-put-number .put-number .kept .0,
