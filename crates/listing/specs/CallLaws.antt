@@ -28,13 +28,13 @@ use Rattle.house_file.specs.File.{fileCount, fileWords, heldCheck, fileCheck, r
 use Rattle.house_file.specs.declared.FileAnswer.the-variants as FileAnswer'
 use Rattle.house_file.specs.Contracts as FileContracts
 use Rattle.house_file.specs.FileLaws.{passed as file-passed, length-words, room-enough, read-refused, Read, read-done}
-use Rattle.listing.specs.Listing.{listed, refusedLine, wordsListing, listing, mostBytes}
+use Rattle.listing.specs.Listing.{listed, refusedLine, wordsListing, listing}
 use Rattle.listing.specs.Contracts.{answerText}
 
 pub laid-as : {s a b u : List ℕ} {r : ℕ} → a ≡ b → Laid s a u r → Laid s b u r
 laid-as e w = rw (← e) w
 
-single : (l : List ℕ) → length l ≡ 1 → l ≡ getD l 0 0 ∷ []
+pub single : (l : List ℕ) → length l ≡ 1 → l ≡ getD l 0 0 ∷ []
 single [] e = absurd (omega arith)
 single (x ∷ []) e = refl
 single (x ∷ y ∷ l) e = absurd (omega arith)
@@ -81,9 +81,9 @@ module _ (s : List ℕ) (n root : ℕ) (result : List ℕ) (workWords : ℕ) whe
     unfolding normalized
     fewer = let m = never-more quad (nodes s n) (root ∷ []) in let c = accepted .count-is in omega (arith, length-nodes s n)
 
-    -- the answered list fits the store that holds it, and its listing the text store
-    pub may-list : (words room : ℕ) → words ≡ length result → mostBytes n ≤ room → (3 * count ≤ words) × (count ≤ 4096) × (mostBytes count ≤ room)
-    may-list words room f h = let c = fewer in let k = ok .few in let q = ok .result-room in (omega arith, omega arith, omega arith)
+    -- the answered list fits the store that holds it
+    pub may-list : (words : ℕ) → words ≡ length result → 3 * count ≤ words
+    may-list words f = let c = fewer in let q = ok .result-room in omega arith
 
     roots-are : place ∷ [] ≡ normalized goldilocks s n root .roots
     unfolding normalized

@@ -6,7 +6,7 @@ use lib.ListN.{length, take}
 use Rattle.dag.specs.Nodes.{nodes}
 use Rattle.text.specs.Text.{decimal, ended, space}
 use Rattle.text.specs.Contracts.{Laid}
-use Rattle.listing.specs.Listing.{listed, listing, mostBytes}
+use Rattle.listing.specs.Listing.{listed, listing}
 
 -- a word, a space, a number and the byte that ends it
 unfoldable pub named : List ℕ → ℕ → ℕ → List ℕ
@@ -17,11 +17,11 @@ unfoldable pub answerText : List ℕ → ℕ → ℕ → ℕ → List ℕ
 answerText s count root rounds = listed (record { list = nodes s count; roots = root ∷ []; rounds = rounds })
 
 -- the stores that a file's listing takes
-pub record Lent (list result work out : List ℕ) : Type 0 where
+pub record Lent (file list result work out : List ℕ) : Type 0 where
   pub list-room : 3072 ≤ length list
   pub result-room : 3072 ≤ length result
   pub work-room : 6144 ≤ length work
-  pub out-room : mostBytes 1024 ≤ length out
+  pub out-room : length (listing file) ≤ length out
 
 -- the first n bytes of a buffer are an input's: all of them, or as many as the buffer holds
 abbrev pub Read : List ℕ → List ℕ → ℕ → Type 0

@@ -5,3 +5,4 @@ pub mod Contracts
 pub mod LineLaws
 pub mod CallLaws
 pub mod CutLaws
+pub mod SizeLaws

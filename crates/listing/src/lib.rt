@@ -9,8 +9,8 @@ pub mod kinds;
 
 ghost use mathlib.Core.Path.{_≡_};
 ghost use mathlib.Core.List.{[], _∷_};
-ghost use Prim.Native.Nat.{_+_, _*_, _<_, _≤_};
-ghost use lib.ListN.{length};
+ghost use Prim.Native.Nat.{_+_, _*_, _≤_};
+ghost use lib.ListN.{length, take};
 ghost use Rattle.dag.specs.Nodes as Nodes;
 ghost use Rattle.text.specs.Text.{ended, endByte, decimal, space, laid};
 ghost use Rattle.text.specs.Contracts.{Wrote, Laid};
@@ -25,8 +25,8 @@ pub const ENOUGH: usize = 17418;
 
 // Writes the line of the record x at place i.
 fn put_record(out: &mut [u8], at: usize, i: usize, x: NodeKind) -> usize
-    requires { ⌜ (i < 10000) × (at + 53 ≤ length (now out)) ⌝ }
-    ensures { λ r. ⌜ Wrote (now (out .entry)) at (Listing.recordLine i x) (now (out .exit)) r × (r ≤ at + 53) ⌝ }
+    requires { ⌜ at + length (Listing.recordLine i x) ≤ length (now out) ⌝ }
+    ensures { λ r. ⌜ Wrote (now (out .entry)) at (Listing.recordLine i x) (now (out .exit)) r ⌝ }
 {
     let kind = text::put_number(out, at, i as u64, End::Space);
     let first = kinds::put_kind(out, kind, x);
@@ -36,7 +36,7 @@ fn put_record(out: &mut [u8], at: usize, i: usize, x: NodeKind) -> usize
 
 // Writes the lines of the first n records of a list.
 fn put_records(out: &mut [u8], at: usize, list: &[u64], n: usize) -> usize
-    requires { ⌜ (3 * n ≤ length (now list)) × (n ≤ 4096) × (at + 53 * n ≤ length (now out)) ⌝ }
+    requires { ⌜ (3 * n ≤ length (now list)) × (at + length (Listing.recordLines (Nodes.nodes (now list) n) n) ≤ length (now out)) ⌝ }
     ensures { λ r. ⌜ Wrote (now (out .entry)) at (Listing.recordLines (Nodes.nodes (now (list .entry)) n) n) (now (out .exit)) r ⌝ }
 {
     let mut next = at;
@@ -59,8 +59,8 @@ fn put_named(out: &mut [u8], at: usize, name: &[u8], n: u64, end: End) -> usize
 
 // Writes a listing's first line.
 fn put_first(out: &mut [u8], count: usize, root: usize, rounds: usize) -> usize
-    requires { ⌜ 81 ≤ length (now out) ⌝ }
-    ensures { λ r. ⌜ Wrote (now (out .entry)) 0 (Listing.firstLine count (root ∷ []) rounds) (now (out .exit)) r × (r ≤ 81) ⌝ }
+    requires { ⌜ length (Listing.firstLine count (root ∷ []) rounds) ≤ length (now out) ⌝ }
+    ensures { λ r. ⌜ Wrote (now (out .entry)) 0 (Listing.firstLine count (root ∷ []) rounds) (now (out .exit)) r ⌝ }
 {
     let a = put_named(out, 0, b"nodes", count as u64, End::Space);
     let b = put_named(out, a, b"root", root as u64, End::Space);
@@ -75,7 +75,7 @@ pub fn write_listing(
     rounds: usize,
     out: &mut [u8],
 ) -> usize
-    requires { ⌜ (3 * count ≤ length (now list)) × (count ≤ 4096) × (Listing.mostBytes count ≤ length (now out)) ⌝ }
+    requires { ⌜ (3 * count ≤ length (now list)) × (length (Contracts.answerText (now list) count root rounds) ≤ length (now out)) ⌝ }
     ensures { λ r. ⌜ Laid (now (out .entry)) (Contracts.answerText (now (list .entry)) count root rounds) (now (out .exit)) r ⌝ }
 {
     let lines = put_first(out, count, root, rounds);
@@ -86,7 +86,7 @@ pub fn write_listing(
 
 // Writes the line of a refusal. Answers its length.
 pub fn write_refused(r: Refusal, out: &mut [u8]) -> usize
-    requires { ⌜ 81 ≤ length (now out) ⌝ }
+    requires { ⌜ length (Listing.refusedLine r) ≤ length (now out) ⌝ }
     ensures { λ q. ⌜ Laid (now (out .entry)) (Listing.refusedLine r) (now (out .exit)) q ⌝ }
 {
     let place = put_named(out, 0, b"refused", dag::number_of(r), End::Space);
@@ -104,7 +104,7 @@ fn list_words(
     work: &mut [u64],
     out: &mut [u8],
 ) -> usize
-    requires { ⌜ Listing.mostBytes n ≤ length (now out) ⌝ }
+    requires { ⌜ length (Listing.wordsListing (now list) n root (length (now result)) (length (now work))) ≤ length (now out) ⌝ }
     ensures { λ r. ⌜ Laid (now (out .entry)) (Listing.wordsListing (now (list .entry)) n root (length (now (result .entry))) (length (now (work .entry)))) (now (out .exit)) r ⌝ }
 {
     let answer = normalize::normalize(list, n, root, result, work);
@@ -126,7 +126,7 @@ fn list_in(
     work: &mut [u64],
     out: &mut [u8],
 ) -> usize
-    requires { ⌜ Contracts.Lent (now list) (now result) (now work) (now out) ⌝ }
+    requires { ⌜ Contracts.Lent (now file) (now list) (now result) (now work) (now out) ⌝ }
     ensures { λ r. ⌜ Laid (now (out .entry)) (Listing.listing (now (file .entry))) (now (out .exit)) r ⌝ }
 {
     let answer = house_file::read_file(file, list);
@@ -141,7 +141,7 @@ fn list_in(
 
 // Writes the listing of a house file, or the line of its refusal, 0 bytes behind it. Answers its length.
 pub fn list_file(file: &[u8], out: &mut [u8]) -> usize
-    requires { ⌜ Listing.mostBytes 1024 ≤ length (now out) ⌝ }
+    requires { ⌜ length (Listing.listing (now file)) ≤ length (now out) ⌝ }
     ensures length { λ r. ⌜ r ≡ length (Listing.listing (now (file .entry))) ⌝ }
     ensures text { λ _. ⌜ now (out .exit) ≡ laid (length (now (out .entry))) (Listing.listing (now (file .entry))) ⌝ }
     ensures fits { λ r. ⌜ r ≤ length (now (out .exit)) ⌝ }
@@ -154,7 +154,7 @@ pub fn list_file(file: &[u8], out: &mut [u8]) -> usize
 
 // Writes the listing of an input of which the first n bytes of a buffer are read. Answers its length.
 pub fn list_input(buffer: &[u8], n: usize, out: &mut [u8]) -> usize
-    requires { ⌜ (Listing.enough ≤ length (now buffer)) × (n ≤ length (now buffer)) × (Listing.mostBytes 1024 ≤ length (now out)) ⌝ }
+    requires { ⌜ (Listing.enough ≤ length (now buffer)) × (n ≤ length (now buffer)) × (length (Listing.listing (take n (now buffer))) ≤ length (now out)) ⌝ }
     ensures listed { λ r. ⌜ Contracts.Lists (now (buffer .entry)) n (now (out .entry)) (now (out .exit)) r ⌝ }
     ensures fits { λ r. ⌜ r ≤ length (now (out .exit)) ⌝ }
 {

@@ -1,4 +1,4 @@
-use mathlib.Core.Path.{refl, sym}
+use mathlib.Core.Path.{refl, sym, ap}
 use native.Mathlib.Omega.{arith}
 use lib.Seq.{length-take-le}
 use lib.ListN.{length}
@@ -15,7 +15,16 @@ enum-known-answer : tie.Need-enum-known-answer
 enum-known-answer c = search needs
 
 write-refused-requires : tie.Need-write-refused-requires
-write-refused-requires c κs = search needs
+write-refused-requires c κs =
+    let at-answer = c .before .before in
+    let at-read-file = at-answer .before .before .before .before in
+    let start = at-read-file .before .before .before .before .before .before .before in
+    omega (
+      arith,
+      start .pre .out-room,
+      ap length (file-refused (start .args .file .now) (length (start .args .list .now)) (start .pre .list-room) _
+          (told (at-read-file .read-file .ensures .0) (at-answer .answer .given .1))),
+    )
 
 enum-known-answer-2 : tie.Need-enum-known-answer-2
 enum-known-answer-2 c = search needs
@@ -64,9 +73,10 @@ list-words-requires c κs =
     let start = at-read-file .before .before .before .before .before .before .before in
     omega (
       arith,
-      few (start .args .file .now) (length (start .args .list .now)) (start .pre .list-room) _ _
-          (told (at-read-file .read-file .ensures .0) (at-answer2 .answer2 .given .1)),
       start .pre .out-room,
+      ap length (file-done (start .args .file .now) (length (start .args .list .now)) (start .pre .list-room) _ _
+          (told (at-read-file .read-file .ensures .0) (at-answer2 .answer2 .given .1)) (start .args .list .now) _ refl
+          (at-read-file .read-file .ensures .1) (length (start .args .result .now)) (length (start .args .work .now)) (start .pre .result-room) (start .pre .work-room)),
     )
 
 same-length : tie.Need-same-length

@@ -1,3 +1,5 @@
+use mathlib.Core.Path.{ap}
+use native.Mathlib.Omega.{arith}
 use lib.ListN.{length}
 use Rattle.dag.specs.BranchLaws.{told}
 use Rattle.listing.specs.CallLaws.{laid-as, words-refused, words-listed, may-list}
@@ -12,7 +14,16 @@ enum-known-answer : tie.Need-enum-known-answer
 enum-known-answer c = search needs
 
 write-refused-requires : tie.Need-write-refused-requires
-write-refused-requires c κs = search needs
+write-refused-requires c κs =
+    let at-answer = c .before .before in
+    let at-normalize = at-answer .before .before .before .before .before .before in
+    let start = at-normalize .before .before .before .before .before .before .before in
+    omega (
+      arith,
+      start .pre,
+      ap length (words-refused (start .args .list .now) (start .args .n) (start .args .root) (start .args .result .now) (length (start .args .work .now)) _
+          (told (at-normalize .normalize .ensures .0) (at-answer .answer .given .1))),
+    )
 
 enum-known-answer-2 : tie.Need-enum-known-answer-2
 enum-known-answer-2 c = search needs
@@ -22,8 +33,16 @@ write-listing-requires c κs =
     let at-answer2 = c .before .before .before in
     let at-normalize = at-answer2 .before .before .before .before .before .before in
     let start = at-normalize .before .before .before .before .before .before .before in
-    may-list (start .args .list .now) (start .args .n) (start .args .root) (start .args .result .now) (length (start .args .work .now)) _ _ _
-    (told (at-normalize .normalize .ensures .0) (at-answer2 .answer2 .given .1)) _ _ (at-normalize .normalize .kept .1 .1 .1 .0) (start .pre)
+    let done = told (at-normalize .normalize .ensures .0) (at-answer2 .answer2 .given .1) in (
+      may-list (start .args .list .now) (start .args .n) (start .args .root) (start .args .result .now) (length (start .args .work .now)) _ _ _ done _
+          (at-normalize .normalize .kept .1 .1 .1 .0),
+      omega (
+        arith,
+        start .pre,
+        ap length (words-listed (start .args .list .now) (start .args .n) (start .args .root) (start .args .result .now) (length (start .args .work .now))
+            _ _ _ done _ (at-normalize .normalize .ensures .1 .0)),
+      ),
+    )
 
 same-length : tie.Need-same-length
 same-length c = search needs

@@ -1,7 +1,7 @@
 use native.Mathlib.Omega.{arith}
 use Rattle.text.specs.WritingLaws.{and-then, wrote-as}
 use Rattle.text.specs.Text.{ascii}
-use Rattle.listing.specs.LineLaws.{named-short, first-is}
+use Rattle.listing.specs.LineLaws.{length-first, first-is}
 use borrow.Author.Needs.{needs}
 use Rattle.listing.proofs.put_first.Statement.{statement}
 use Rattle.listing.proofs.put_first.Tie as tie
@@ -11,7 +11,9 @@ slice-aggregate-put-named c = search needs
 
 put-named-requires : tie.Need-put-named-requires
 unfolding ascii
-put-named-requires c κs = omega (arith, named-short (ascii "nodes") (c .before .before .before .args .count) 32 (c .before .before .before .fits .count .fits))
+put-named-requires c κs =
+    let start = c .before .before .before in
+    omega (arith, start .pre, length-first (start .args .count) (start .args .root) (start .args .rounds))
 
 slice-aggregate-put-named-2 : tie.Need-slice-aggregate-put-named-2
 slice-aggregate-put-named-2 c = search needs
@@ -24,9 +26,7 @@ put-named-requires-2 c κs =
     omega (
       arith,
       start .pre,
-      named-short (ascii "nodes") (start .args .count) 32 (start .fits .count .fits),
-      named-short (ascii "root")
-          (start .args .root) 32 (start .fits .root .fits),
+      length-first (start .args .count) (start .args .root) (start .args .rounds),
       at-put-named .put-named .ensures .end-is,
       at-put-named .put-named .kept .0,
     )
@@ -43,10 +43,7 @@ put-named-requires-3 c κs =
     omega (
       arith,
       start .pre,
-      named-short (ascii "nodes") (start .args .count) 32 (start .fits .count .fits),
-      named-short (ascii "root")
-          (start .args .root) 32 (start .fits .root .fits),
-      named-short (ascii "rounds") (start .args .rounds) 10 (start .fits .rounds .fits),
+      length-first (start .args .count) (start .args .root) (start .args .rounds),
       at-put-named .put-named .ensures .end-is,
       at-put-named .put-named .kept .0,
       at-put-named2 .put-named2 .ensures .end-is,
@@ -62,20 +59,8 @@ returns c =
     let at-put-named3 = c .before .before in
     let at-put-named2 = at-put-named3 .before .before .before .before .before in
     let at-put-named = at-put-named2 .before .before .before .before .before in
-    let start = at-put-named .before .before .before .before in (
-      wrote-as (first-is _ _ _) (and-then (at-put-named .put-named .ensures)
-          (and-then (at-put-named2 .put-named2 .ensures) (at-put-named3 .put-named3 .ensures))),
-      omega (
-        arith,
-        named-short (ascii "nodes") (start .args .count) 32 (start .fits .count .fits),
-        named-short (ascii "root") (start .args .root) 32
-            (start .fits .root .fits),
-        named-short (ascii "rounds") (start .args .rounds) 10 (start .fits .rounds .fits),
-        at-put-named .put-named .ensures .end-is,
-        at-put-named2 .put-named2 .ensures .end-is,
-        at-put-named3 .put-named3 .ensures .end-is,
-      ),
-    )
+    wrote-as (first-is _ _ _) (and-then (at-put-named .put-named .ensures)
+    (and-then (at-put-named2 .put-named2 .ensures) (at-put-named3 .put-named3 .ensures)))
 
 pub put-first-spec : {M : Type 1} → statement M
 put-first-spec =

@@ -1,16 +1,18 @@
+use mathlib.Core.Path.{ap}
 use native.Mathlib.Omega.{arith}
-use Rattle.text.specs.WritingLaws.{and-then, length-ended}
-use Rattle.text.specs.DecimalLaws.{number-short}
-use Rattle.text.specs.Text as Text
-use Rattle.listing.specs.LineLaws.{word-digits, word-short, wrote-number}
-use Rattle.listing.specs.KindLaws.{kind-short}
-use Rattle.listing.specs.Listing as Listing
+use lib.ListN.{length}
+use Rattle.text.specs.WritingLaws.{and-then}
+use Rattle.text.specs.Text.{decimal, ended, line}
+use Rattle.listing.specs.LineLaws.{length-record, wrote-number}
+use Rattle.listing.specs.Listing.{recordLine}
 use borrow.Author.Needs.{needs}
 use Rattle.listing.proofs.put_record.Statement.{statement}
 use Rattle.listing.proofs.put_record.Tie as tie
 
 put-number-requires : tie.Need-put-number-requires
-put-number-requires c κs = omega (arith, number-short 3 (c .before .before .args .i) 32 (c .before .before .pre .0), c .before .before .pre .1)
+put-number-requires c κs =
+    let start = c .before .before in
+    omega (arith, start .pre, length-record (start .args .i) (start .args .x))
 
 put-kind-requires : tie.Need-put-kind-requires
 put-kind-requires c κs =
@@ -18,9 +20,8 @@ put-kind-requires c κs =
     let start = at-put-number .before .before .before in
     omega (
       arith,
-      number-short 3 (start .args .i) 32 (start .pre .0),
-      kind-short (start .args .x),
-      start .pre .1,
+      start .pre,
+      length-record (start .args .i) (start .args .x),
       at-put-number .put-number .ensures .end-is,
       at-put-number .put-number .kept .0,
     )
@@ -35,10 +36,9 @@ put-number-requires-2 c κs =
     let start = at-put-number .before .before .before in
     omega (
       arith,
-      number-short 3 (start .args .i) 32 (start .pre .0),
-      kind-short (start .args .x),
-      word-short (c .first-of .result) 32 (c .first-of .ok),
-      start .pre .1,
+      start .pre,
+      length-record (start .args .i) (start .args .x),
+      ap (λ k. length (ended (decimal k) 32)) (c .first-of .ensures),
       at-put-number .put-number .ensures .end-is,
       at-put-number .put-number .kept .0,
       at-put-kind .put-kind .ensures .end-is,
@@ -55,27 +55,25 @@ put-number-requires-3 c κs =
     let at-put-kind = at-first-of .before .before .before .before in
     let at-put-number = at-put-kind .before .before .before .before in
     let start = at-put-number .before .before .before in
-    simp length-ended (omega (
+    omega (
       arith,
-      number-short 3 (start .args .i) 32 (start .pre .0),
-      kind-short (start .args .x),
-      word-short
-          (at-first-of .first-of .result) 32 (at-first-of .first-of .ok),
-      word-digits (c .second-of .result) (c .second-of .ok),
-      start .pre .1,
+      start .pre,
+      length-record (start .args .i) (start .args .x),
+      ap (λ k. length (ended (decimal k) 32)) (at-first-of .first-of .ensures),
+      ap (λ k. length (ended (decimal k) 10)) (c .second-of .ensures),
       at-put-number .put-number .ensures .end-is,
       at-put-number .put-number .kept .0,
       at-put-kind .put-kind .ensures .end-is,
       at-put-kind .put-kind .kept .0,
       at-put-number2 .put-number2 .ensures .end-is,
       at-put-number2 .put-number2 .kept .0,
-    ))
+    )
 
 same-length : tie.Need-same-length
 same-length c = search needs
 
 returns : tie.Need-returns
-unfolding Listing.recordLine Text.line
+unfolding recordLine line
 returns c =
     let at-put-number3 = c .before .before in
     let at-second-of = at-put-number3 .before in
@@ -83,23 +81,9 @@ returns c =
     let at-first-of = at-put-number2 .before in
     let at-put-kind = at-first-of .before .before .before .before in
     let at-put-number = at-put-kind .before .before .before .before in
-    let start = at-put-number .before .before .before in (
-      and-then (at-put-number .put-number .ensures) (and-then (at-put-kind .put-kind .ensures)
-          (and-then (wrote-number 32 (at-first-of .first-of .ensures) (at-put-number2 .put-number2 .ensures))
-          (wrote-number 10 (at-second-of .second-of .ensures) (at-put-number3 .put-number3 .ensures)))),
-      omega (
-        arith,
-        number-short 3 (start .args .i) 32 (start .pre .0),
-        kind-short (start .args .x),
-        word-short (at-first-of .first-of .result) 32
-            (at-first-of .first-of .ok),
-        word-short (at-second-of .second-of .result) 10 (at-second-of .second-of .ok),
-        at-put-number .put-number .ensures .end-is,
-        at-put-kind .put-kind .ensures .end-is,
-        at-put-number2 .put-number2 .ensures .end-is,
-        at-put-number3 .put-number3 .ensures .end-is,
-      ),
-    )
+    and-then (at-put-number .put-number .ensures) (and-then (at-put-kind .put-kind .ensures)
+    (and-then (wrote-number 32 (at-first-of .first-of .ensures) (at-put-number2 .put-number2 .ensures))
+    (wrote-number 10 (at-second-of .second-of .ensures) (at-put-number3 .put-number3 .ensures))))
 
 pub put-record-spec : {M : Type 1} → statement M
 put-record-spec =

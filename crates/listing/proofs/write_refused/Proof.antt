@@ -1,7 +1,10 @@
+use mathlib.Core.Path.{ap}
+use lib.ListN.{length}
 use native.Mathlib.Omega.{arith}
 use Rattle.text.specs.WritingLaws.{and-then, wrote-as, wrote-laid}
-use Rattle.text.specs.Text.{ascii}
-use Rattle.listing.specs.LineLaws.{named-short, word-short, refused-is, wrote-named, wrote-number}
+use Rattle.text.specs.Text.{ascii, decimal, ended}
+use Rattle.listing.specs.Contracts.{named}
+use Rattle.listing.specs.LineLaws.{length-refused, refused-is, wrote-named, wrote-number}
 use borrow.Author.Needs.{needs}
 use Rattle.listing.proofs.write_refused.Statement.{statement}
 use Rattle.listing.proofs.write_refused.Tie as tie
@@ -14,7 +17,9 @@ number-of-requires c κs = search needs
 
 put-named-requires : tie.Need-put-named-requires
 unfolding ascii
-put-named-requires c κs = omega (arith, c .before .before .before .before .pre, named-short (ascii "refused") (c .number-of .result) 32 (c .number-of .ok))
+put-named-requires c κs =
+    let start = c .before .before .before .before in
+    omega (arith, start .pre, length-refused (start .args .r), ap (λ k. length (named (ascii "refused") k 32)) (c .number-of .ensures))
 
 place-of-requires : tie.Need-place-of-requires
 place-of-requires c κs = search needs
@@ -28,9 +33,9 @@ put-number-requires c κs =
     omega (
       arith,
       start .pre,
-      named-short (ascii "refused") (at-number-of .number-of .result) 32 (at-number-of .number-of .ok),
-      word-short
-          (c .place-of .result) 10 (c .place-of .ok),
+      length-refused (start .args .r),
+      ap (λ k. length (named (ascii "refused") k 32)) (at-number-of .number-of .ensures),
+      ap (λ k. length (ended (decimal k) 10)) (c .place-of .ensures),
       at-put-named .put-named .ensures .end-is,
       at-put-named .put-named .kept .0,
     )

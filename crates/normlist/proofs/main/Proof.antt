@@ -1,5 +1,7 @@
 use mathlib.Core.Path.{sym}
+use native.Mathlib.Nat.{le-trans}
 use lib.Seq.{length-take-le}
+use Rattle.listing.specs.SizeLaws.{listing-most}
 use borrow.Author.Needs.{needs}
 use Rattle.normlist.proofs.main.Statement.{statement}
 use Rattle.normlist.proofs.main.Tie as tie
@@ -17,7 +19,7 @@ slice-aggregate-list-input-2 : tie.Need-slice-aggregate-list-input-2
 slice-aggregate-list-input-2 c = search needs
 
 list-input-requires : tie.Need-list-input-requires
-list-input-requires c κs = search needs
+list-input-requires c κs = (search needs, search needs, le-trans (listing-most _) (search needs))
 
 array-share-prefix-text : tie.Need-array-share-prefix-text
 array-share-prefix-text c = search needs
