@@ -6,7 +6,7 @@ use native.Mathlib.Decide.{decLe}
 use native.Mathlib.Omega.{arith}
 use borrow.Author.Tests.{le-leb, ne-eqb}
 use lib.Dec.{eqb}
-use lib.ListN.{getD, length, take}
+use lib.ListN.{length, take}
 use lib.Seq.{getD-take, take-all, length-take-le}
 use Rattle.dag.specs.Refusals.{need, _then_, unlessRefused}
 use Rattle.dag.specs.declared.Refusal.the-variants.{FileLength}
@@ -16,7 +16,7 @@ use Rattle.text.specs.Text.{laid}
 use Rattle.house_file.specs.File.{number, fileCount, recordPlace, headCheck, formCheck, fileCheck, heldCheck}
 use Rattle.house_file.specs.FileLaws.{headed}
 use Rattle.listing.specs.Listing.{refusedLine, listing, enough}
-use Rattle.listing.specs.Contracts.{Read, Lists}
+use Rattle.listing.specs.Contracts.{Lists}
 
 -- a file too long for every count: what its head tests say, else 24
 long-form : (file : List ℕ) → 17417 < length file → formCheck file ≡ headCheck file then Refused FileLength

@@ -25,7 +25,6 @@ use Rattle.dag.specs.declared.Refusal.the-variants.{CountOutOfRange, StoreTooSh
 use Rattle.dag.specs.declared.Checked.{Checked}
 use Rattle.dag.specs.declared.Checked.the-variants.{Good, Refused}
 use Rattle.builder.specs.OutcomeLaws.{list-fine}
-use Rattle.compact.specs.Contracts.{AllBelow}
 use Rattle.compact.specs.OperandLaws.{one-below}
 use Rattle.compact.specs.Reach.{here}
 use Rattle.normalize.specs.Demand3.{as-many-roots, answer-well-formed, never-more, rounds-at-most-lost}

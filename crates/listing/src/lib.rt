@@ -12,7 +12,7 @@ ghost use mathlib.Core.List.{[], _∷_};
 ghost use Prim.Native.Nat.{_+_, _*_, _≤_};
 ghost use lib.ListN.{length, take};
 ghost use Rattle.dag.specs.Nodes as Nodes;
-ghost use Rattle.text.specs.Text.{ended, endByte, decimal, space, laid};
+ghost use Rattle.text.specs.Text.{endByte, laid};
 ghost use Rattle.text.specs.Contracts.{Wrote, Laid};
 ghost use Rattle.listing.specs.Listing as Listing;
 ghost use Rattle.listing.specs.Contracts as Contracts;
