@@ -7,7 +7,7 @@ use lib.ListN.{length}
 use Rattle.dag.specs.declared.NodeKind.{NodeKind}
 use Rattle.dag.specs.declared.NodeKind.the-variants.{Input, Constant, Add, Sub, Mul, Neg}
 use Rattle.text.specs.Text.{ascii, ended, space}
-use Rattle.text.specs.WritingLaws.{wrote-as}
+use Rattle.text.specs.WritingLaws.{wrote-as, length-ended}
 use Rattle.text.specs.Contracts.{Wrote}
 use Rattle.listing.specs.Kinds.{kind}
 
@@ -21,8 +21,8 @@ kind-short (Mul a b) = omega arith
 kind-short (Neg a) = omega arith
 
 -- the room of a kind's word
-pub kind-room : (at m : ℕ) {x y : NodeKind} {word : List ℕ} → x ≡ y → word ≡ kind y → at + length (ended (kind x) space) ≤ m → at + length (ended word space) ≤ m
-kind-room at m e f h = rw (f, ← e) h
+pub kind-room : (at m : ℕ) (word : List ℕ) {x y : NodeKind} → x ≡ y → length word ≡ length (kind y) → at + length (ended (kind x) space) ≤ m → at + length (ended word space) ≤ m
+kind-room at m word {x} e f h = omega (arith, length-ended word space, length-ended (kind x) space, ap (λ k. length (kind k)) e)
 
 -- the word of a kind
 pub wrote-kind : {s u : List ℕ} {at r : ℕ} {x y : NodeKind} {word : List ℕ} → x ≡ y → word ≡ kind y → Wrote s at (ended word space) u r → Wrote s at (ended (kind x) space) u r

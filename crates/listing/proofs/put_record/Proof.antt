@@ -1,7 +1,7 @@
 use mathlib.Core.Path.{ap}
 use native.Mathlib.Omega.{arith}
 use lib.ListN.{length}
-use Rattle.text.specs.WritingLaws.{and-then}
+use Rattle.text.specs.WritingLaws.{and-then, length-ended}
 use Rattle.text.specs.Text.{decimal, ended, line}
 use Rattle.listing.specs.LineLaws.{length-record, wrote-number}
 use Rattle.listing.specs.Listing.{recordLine}
@@ -55,19 +55,20 @@ put-number-requires-3 c κs =
     let at-put-kind = at-first-of .before .before .before .before in
     let at-put-number = at-put-kind .before .before .before .before in
     let start = at-put-number .before .before .before in
-    omega (
+    simp length-ended (omega (
       arith,
       start .pre,
       length-record (start .args .i) (start .args .x),
       ap (λ k. length (ended (decimal k) 32)) (at-first-of .first-of .ensures),
       ap (λ k. length (ended (decimal k) 10)) (c .second-of .ensures),
+      length-ended (decimal (c .second-of .result)) 10,
       at-put-number .put-number .ensures .end-is,
       at-put-number .put-number .kept .0,
       at-put-kind .put-kind .ensures .end-is,
       at-put-kind .put-kind .kept .0,
       at-put-number2 .put-number2 .ensures .end-is,
       at-put-number2 .put-number2 .kept .0,
-    )
+    ))
 
 same-length : tie.Need-same-length
 same-length c = search needs

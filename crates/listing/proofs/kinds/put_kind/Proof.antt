@@ -14,7 +14,7 @@ slice-aggregate-put-word c = search needs
 
 put-word-requires : tie.Need-put-word-requires
 unfolding kind Text.ascii
-put-word-requires c κs = kind-room _ _ (c .before .before .enum-told .given .1) refl (c .before .before .before .before .before .pre)
+put-word-requires c κs = kind-room _ _ _ (c .before .before .enum-told .given .1) refl (c .before .before .before .before .before .pre)
 
 enum-told-2 : tie.Need-enum-told-2
 enum-told-2 c = search needs
@@ -24,7 +24,7 @@ slice-aggregate-put-word-2 c = search needs
 
 put-word-requires-2 : tie.Need-put-word-requires-2
 unfolding kind Text.ascii
-put-word-requires-2 c κs = kind-room _ _ (c .before .before .enum-told2 .given .1) refl (c .before .before .before .before .before .pre)
+put-word-requires-2 c κs = kind-room _ _ _ (c .before .before .enum-told2 .given .1) refl (c .before .before .before .before .before .pre)
 
 enum-told-3 : tie.Need-enum-told-3
 enum-told-3 c = search needs
@@ -34,7 +34,7 @@ slice-aggregate-put-word-3 c = search needs
 
 put-word-requires-3 : tie.Need-put-word-requires-3
 unfolding kind Text.ascii
-put-word-requires-3 c κs = kind-room _ _ (c .before .before .enum-told3 .given .1) refl (c .before .before .before .before .before .pre)
+put-word-requires-3 c κs = kind-room _ _ _ (c .before .before .enum-told3 .given .1) refl (c .before .before .before .before .before .pre)
 
 enum-told-4 : tie.Need-enum-told-4
 enum-told-4 c = search needs
@@ -44,7 +44,7 @@ slice-aggregate-put-word-4 c = search needs
 
 put-word-requires-4 : tie.Need-put-word-requires-4
 unfolding kind Text.ascii
-put-word-requires-4 c κs = kind-room _ _ (c .before .before .enum-told4 .given .1) refl (c .before .before .before .before .before .pre)
+put-word-requires-4 c κs = kind-room _ _ _ (c .before .before .enum-told4 .given .1) refl (c .before .before .before .before .before .pre)
 
 enum-told-5 : tie.Need-enum-told-5
 enum-told-5 c = search needs
@@ -54,7 +54,7 @@ slice-aggregate-put-word-5 c = search needs
 
 put-word-requires-5 : tie.Need-put-word-requires-5
 unfolding kind Text.ascii
-put-word-requires-5 c κs = kind-room _ _ (c .before .before .enum-told5 .given .1) refl (c .before .before .before .before .before .pre)
+put-word-requires-5 c κs = kind-room _ _ _ (c .before .before .enum-told5 .given .1) refl (c .before .before .before .before .before .pre)
 
 enum-told-6 : tie.Need-enum-told-6
 enum-told-6 c = search needs
@@ -64,7 +64,7 @@ slice-aggregate-put-word-6 c = search needs
 
 put-word-requires-6 : tie.Need-put-word-requires-6
 unfolding kind Text.ascii
-put-word-requires-6 c κs = kind-room _ _ (c .before .before .enum-told6 .given .1) refl (c .before .before .before .before .before .pre)
+put-word-requires-6 c κs = kind-room _ _ _ (c .before .before .enum-told6 .given .1) refl (c .before .before .before .before .before .pre)
 
 same-length : tie.Need-same-length
 same-length c = search needs
