@@ -258,7 +258,9 @@ module _ (field : Field) where
     unfolding lowerAnswer lowerResult lowerWork lowerPlaces wholeCheck
     lower-refused r e = record { answer = rw e; result-is = rw e; work-is = rw e; places-are = rw e }
 
-    pub lower-done : (r : LowerAnswer) (after blanked listed : List ℕ) → lowerCheck field s n ls es period (length work) (length places) ≡ Good → Finished field s n ls es period result places r after listed → blanked ≡ replicate (length work) blank → Called s n ls es period result work places r after blanked listed
+    pub lower-done : (r : LowerAnswer) (after blanked listed : List ℕ) → lowerCheck field s n ls es period (length work) (length places) ≡ Good
+        → Finished field s n ls es period result places r after listed → blanked ≡ replicate (length work) blank
+        → Called s n ls es period result work places r after blanked listed
     unfolding lowerAnswer lowerResult lowerWork lowerPlaces wholeCheck
     lower-done r after blanked listed e d b =
         record { answer = rw e (d .answer); result-is = rw e (d .result-is); work-is = rw e b; places-are = rw e (d .places-are) }

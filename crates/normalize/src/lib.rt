@@ -165,7 +165,7 @@ fn normalize_once(
         return discarded;
     }
     let new_root = dag::mapped(map, root);
-    let mut reachable = [false; 2 * dag::MOST_RECORDS];
+    let mut reachable = [false; compact::MOST_MARKS];
     let size = compact::number_reachable(work, end.count, new_root, &mut reachable, own);
     if n <= size {
         return discarded;

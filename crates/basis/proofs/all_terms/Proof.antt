@@ -17,7 +17,12 @@ use Rattle.basis.proofs.all_terms.Statement.{statement}
 use Rattle.basis.proofs.all_terms.Tie as tie
 
 abbrev Inv-loop : tie.InvT-loop
-Inv-loop list₀ n roots prefix suffix col values d start minus sum₀ k₀ list sum k = (k ≤ length values) × Said.Entering goldilocks list₀ n (Builder.turns (λ k sum. Periodic.termTurn goldilocks col minus prefix suffix (getD values k 0) sum) k start) list sum × Said.Ready goldilocks list (sum .count) × Basis.Products goldilocks (sum .count) col roots prefix suffix
+Inv-loop list₀ n roots prefix suffix col values d start minus sum₀ k₀ list sum k =
+    (k ≤ length values)
+    × Said.Entering goldilocks list₀ n (Builder.turns (λ k sum. Periodic.termTurn goldilocks col minus prefix suffix (getD values k 0) sum) k start) list
+    sum
+    × Said.Ready goldilocks list (sum .count)
+    × Basis.Products goldilocks (sum .count) col roots prefix suffix
 
 abbrev μ-loop : tie.MeasureT-loop
 μ-loop list₀ n roots prefix suffix col values d start minus sum₀ k₀ list sum k = length values - k

@@ -16,7 +16,12 @@ use Rattle.basis.proofs.basis_factors.Statement.{statement}
 use Rattle.basis.proofs.basis_factors.Tie as tie
 
 abbrev Inv-loop : tie.InvT-loop
-Inv-loop list₀ n point roots col places₀ count₀ k₀ list places count k = (k ≤ length col) × (length places ≡ length places₀) × Run.Listing goldilocks list₀ count₀ (Builder.turns (λ k fs. Builder.also fs (Periodic.factor goldilocks col point k)) k []) list count places k × Run.Ready goldilocks list count × Run.Inside count point
+Inv-loop list₀ n point roots col places₀ count₀ k₀ list places count k =
+    (k ≤ length col)
+    × (length places ≡ length places₀)
+    × Run.Listing goldilocks list₀ count₀ (Builder.turns (λ k fs. Builder.also fs (Periodic.factor goldilocks col point k)) k []) list count places k
+    × Run.Ready goldilocks list count
+    × Run.Inside count point
 
 abbrev μ-loop : tie.MeasureT-loop
 μ-loop list₀ n point roots col places₀ count₀ k₀ list places count k = length col - k
@@ -29,7 +34,8 @@ mul-basis-factor c = omega arith
 
 element-copy-out-basis-factor : tie.Need-element-copy-out-basis-factor Inv-loop μ-loop
 element-copy-out-basis-factor c =
-    let start = c .before .before .before .before .before .before in
+    let at-point = c .before .before .before .before .before .before in
+    let start = at-point in
     omega (arith, start .pre .4)
 
 basis-factor-requires : tie.Need-basis-factor-requires Inv-loop μ-loop
@@ -41,12 +47,14 @@ basis-factor-requires c κs =
 
 mul-places : tie.Need-mul-places Inv-loop μ-loop
 mul-places c =
-    let start = c .before .before .before .before .before .before .before .before .before .before in
+    let at-point = c .before .before .before .before .before .before .before .before .before .before in
+    let start = at-point in
     omega (arith, start .pre .2)
 
 slice-write-places : tie.Need-slice-write-places Inv-loop μ-loop
 slice-write-places c =
-    let start = c .before .before .before .before .before .before .before .before .before .before in
+    let at-point = c .before .before .before .before .before .before .before .before .before .before in
+    let start = at-point in
     omega (arith, start .pre .2)
 
 add-k : tie.Need-add-k Inv-loop μ-loop

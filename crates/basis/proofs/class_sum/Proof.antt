@@ -15,7 +15,12 @@ use Rattle.basis.proofs.class_sum.Statement.{statement}
 use Rattle.basis.proofs.class_sum.Tie as tie
 
 abbrev Inv-loop : tie.InvT-loop
-Inv-loop list₀ n roots prefix suffix col v acc₀ j₀ list acc j = (j ≤ length col) × Said.Entering goldilocks list₀ (acc₀ .count) (Builder.turns (λ j acc. Periodic.classTurn goldilocks col prefix suffix v j acc) j (acc₀ .place)) list acc × Said.Ready goldilocks list (acc .count) × Basis.Products goldilocks (acc .count) col roots prefix suffix
+Inv-loop list₀ n roots prefix suffix col v acc₀ j₀ list acc j =
+    (j ≤ length col)
+    × Said.Entering goldilocks list₀ (acc₀ .count) (Builder.turns (λ j acc. Periodic.classTurn goldilocks col prefix suffix v j acc) j (acc₀ .place))
+    list acc
+    × Said.Ready goldilocks list (acc .count)
+    × Basis.Products goldilocks (acc .count) col roots prefix suffix
 
 abbrev μ-loop : tie.MeasureT-loop
 μ-loop list₀ n roots prefix suffix col v acc₀ j₀ list acc j = length col - j
@@ -59,7 +64,11 @@ same-length c = c .before .loop .inv .1 .ran .kept ∙ c .before .before .before
 
 returns : tie.Need-returns Inv-loop μ-loop
 unfolding Periodic.classSum
-returns c = then-enter goldilocks _ _ _ _ _ _ _ _ (c .before .before .before .before .constant .ensures) (enter-all goldilocks _ _ _ _ _ _ _ _ (c .before .loop .inv .0) (c .loop-test .left) (c .before .loop .inv .1))
+returns c =
+    let at-loop = c .before in
+    let at-constant = at-loop .before .before .before in
+    then-enter goldilocks _ _ _ _ _ _ _ _ (at-constant .constant .ensures)
+    (enter-all goldilocks _ _ _ _ _ _ _ _ (at-loop .loop .inv .0) (c .loop-test .left) (at-loop .loop .inv .1))
 
 pub class-sum-spec : {M : Type 1} → statement M
 class-sum-spec =

@@ -69,7 +69,11 @@ add-outcome-add-rule-requires : (t : ℕ) → add-outcome-lts.Need-add-rule-requ
   sub-outcome-below t,
   sub-outcome.Post,
 ) (add-outcome-at t) add-outcome.Post
-add-outcome-add-rule-requires t c κs = operands-below goldilocks (c .before .before .before .args .list .now) (c .before .before .before .args .n) (c .before .before .before .args .a) (c .before .before .before .args .b) (c .before .before .before .pre .1) _ _ (c .before .node-at .ensures) (c .node-at2 .ensures) (Use 0)
+add-outcome-add-rule-requires t c κs =
+    let at-node-at = c .before in
+    let start = at-node-at .before .before in
+    operands-below goldilocks (start .args .list .now) (start .args .n) (start .args .a) (start .args .b) (start .pre .1) _ _
+    (at-node-at .node-at .ensures) (c .node-at2 .ensures) (Use 0)
 
 add-outcome-enum-known-rule : (t : ℕ) → add-outcome-lts.Need-enum-known-rule (
   node-at-reads.Asked,
@@ -109,7 +113,18 @@ add-outcome-sub-outcome-requires : (t : ℕ) → add-outcome-lts.Need-sub-outcom
   sub-outcome-below t,
   sub-outcome.Post,
 ) (add-outcome-at t) add-outcome.Post
-add-outcome-sub-outcome-requires t c κs = let h = add-lower goldilocks (c .before .before .before .before .before .before .before .args .list .now) (c .before .before .before .before .before .before .before .args .n) (c .before .before .before .before .before .before .before .args .a) (c .before .before .before .before .before .before .before .args .b) (c .before .before .before .before .before .before .before .pre .1) _ _ (c .before .before .before .before .before .node-at .ensures) (c .before .before .before .before .node-at2 .ensures) (c .before .before .before .add-rule .result) (c .before .before .before .add-rule .ensures) _ _ (c .before .rule3 .given .1) in (subst (λ (j : ℕ). c .before .rule3 .given .0 .0 + c .before .rule3 .given .0 .1 .0 < j) (c .before .before .before .before .before .before .before .pre .0) (h .0), h .1)
+add-outcome-sub-outcome-requires t c κs =
+    let at-rule3 = c .before in
+    let at-add-rule = at-rule3 .before .before in
+    let at-node-at2 = at-add-rule .before in
+    let at-node-at = at-node-at2 .before in
+    let start = at-node-at .before .before in
+    let h = add-lower goldilocks (start .args .list .now) (start .args .n) (start .args .a) (start .args .b) (start .pre .1) _ _
+    (at-node-at .node-at .ensures) (at-node-at2 .node-at2 .ensures) (at-add-rule .add-rule .result) (at-add-rule .add-rule .ensures) _ _
+    (at-rule3 .rule3 .given .1) in (
+      subst (λ (j : ℕ). at-rule3 .rule3 .given .0 .0 + at-rule3 .rule3 .given .0 .1 .0 < j) (start .pre .0) (h .0),
+      h .1,
+    )
 
 add-outcome-returns : (t : ℕ) → add-outcome-lts.Need-returns (
   node-at-reads.Asked,
@@ -119,7 +134,14 @@ add-outcome-returns : (t : ℕ) → add-outcome-lts.Need-returns (
   sub-outcome-below t,
   sub-outcome.Post,
 ) (add-outcome-at t) add-outcome.Post
-add-outcome-returns t c = add-used goldilocks (c .before .before .before .before .before .before .before .args .list .now) (c .before .before .before .before .before .before .before .args .n) (c .before .before .before .before .before .before .before .args .a) (c .before .before .before .before .before .before .before .args .b) (c .before .before .before .before .before .before .before .pre .1) _ _ (c .before .before .before .before .before .node-at .ensures) (c .before .before .before .before .node-at2 .ensures) (c .before .before .before .add-rule .result) (c .before .before .before .add-rule .ensures) _ (c .before .rule .given .1)
+add-outcome-returns t c =
+    let at-rule = c .before in
+    let at-add-rule = at-rule .before .before in
+    let at-node-at2 = at-add-rule .before in
+    let at-node-at = at-node-at2 .before in
+    let start = at-node-at .before .before in
+    add-used goldilocks (start .args .list .now) (start .args .n) (start .args .a) (start .args .b) (start .pre .1) _ _ (at-node-at .node-at .ensures)
+    (at-node-at2 .node-at2 .ensures) (at-add-rule .add-rule .result) (at-add-rule .add-rule .ensures) _ (at-rule .rule .given .1)
 
 add-outcome-returns-2 : (t : ℕ) → add-outcome-lts.Need-returns-2 (
   node-at-reads.Asked,
@@ -129,7 +151,14 @@ add-outcome-returns-2 : (t : ℕ) → add-outcome-lts.Need-returns-2 (
   sub-outcome-below t,
   sub-outcome.Post,
 ) (add-outcome-at t) add-outcome.Post
-add-outcome-returns-2 t c = add-made goldilocks (c .before .before .before .before .before .before .before .args .list .now) (c .before .before .before .before .before .before .before .args .n) (c .before .before .before .before .before .before .before .args .a) (c .before .before .before .before .before .before .before .args .b) (c .before .before .before .before .before .before .before .pre .1) _ _ (c .before .before .before .before .before .node-at .ensures) (c .before .before .before .before .node-at2 .ensures) (c .before .before .before .add-rule .result) (c .before .before .before .add-rule .ensures) _ (c .before .rule2 .given .1)
+add-outcome-returns-2 t c =
+    let at-rule2 = c .before in
+    let at-add-rule = at-rule2 .before .before in
+    let at-node-at2 = at-add-rule .before in
+    let at-node-at = at-node-at2 .before in
+    let start = at-node-at .before .before in
+    add-made goldilocks (start .args .list .now) (start .args .n) (start .args .a) (start .args .b) (start .pre .1) _ _ (at-node-at .node-at .ensures)
+    (at-node-at2 .node-at2 .ensures) (at-add-rule .add-rule .result) (at-add-rule .add-rule .ensures) _ (at-rule2 .rule2 .given .1)
 
 add-outcome-returns-3 : (t : ℕ) → add-outcome-lts.Need-returns-3 (
   node-at-reads.Asked,
@@ -139,7 +168,15 @@ add-outcome-returns-3 : (t : ℕ) → add-outcome-lts.Need-returns-3 (
   sub-outcome-below t,
   sub-outcome.Post,
 ) (add-outcome-at t) add-outcome.Post
-add-outcome-returns-3 t c = add-handed goldilocks (c .before .before .before .before .before .before .before .before .args .list .now) (c .before .before .before .before .before .before .before .before .args .n) (c .before .before .before .before .before .before .before .before .args .a) (c .before .before .before .before .before .before .before .before .args .b) (c .before .before .before .before .before .before .before .before .pre .1) _ _ (c .before .before .before .before .before .before .node-at .ensures) (c .before .before .before .before .before .node-at2 .ensures) (c .before .before .before .before .add-rule .result) (c .before .before .before .before .add-rule .ensures) _ _ _ (c .before .before .rule3 .given .1) (c .sub-outcome .ensures)
+add-outcome-returns-3 t c =
+    let at-rule3 = c .before .before in
+    let at-add-rule = at-rule3 .before .before in
+    let at-node-at2 = at-add-rule .before in
+    let at-node-at = at-node-at2 .before in
+    let start = at-node-at .before .before in
+    add-handed goldilocks (start .args .list .now) (start .args .n) (start .args .a) (start .args .b) (start .pre .1) _ _ (at-node-at .node-at .ensures)
+    (at-node-at2 .node-at2 .ensures) (at-add-rule .add-rule .result) (at-add-rule .add-rule .ensures) _ _ _ (at-rule3 .rule3 .given .1)
+    (c .sub-outcome .ensures)
 
 sub-outcome-node-at-requires : (t : ℕ) → sub-outcome-lts.Need-node-at-requires (
   node-at-reads.Asked,
@@ -169,7 +206,11 @@ sub-outcome-sub-rule-requires : (t : ℕ) → sub-outcome-lts.Need-sub-rule-requ
   add-outcome-below t,
   add-outcome.Post,
 ) (sub-outcome-at t) sub-outcome.Post
-sub-outcome-sub-rule-requires t c κs = operands-below goldilocks (c .before .before .before .args .list .now) (c .before .before .before .args .n) (c .before .before .before .args .a) (c .before .before .before .args .b) (c .before .before .before .pre .1) _ _ (c .before .node-at .ensures) (c .node-at2 .ensures) (Use 0)
+sub-outcome-sub-rule-requires t c κs =
+    let at-node-at = c .before in
+    let start = at-node-at .before .before in
+    operands-below goldilocks (start .args .list .now) (start .args .n) (start .args .a) (start .args .b) (start .pre .1) _ _
+    (at-node-at .node-at .ensures) (c .node-at2 .ensures) (Use 0)
 
 sub-outcome-enum-known-rule : (t : ℕ) → sub-outcome-lts.Need-enum-known-rule (
   node-at-reads.Asked,
@@ -209,7 +250,18 @@ sub-outcome-add-outcome-requires : (t : ℕ) → sub-outcome-lts.Need-add-outcom
   add-outcome-below t,
   add-outcome.Post,
 ) (sub-outcome-at t) sub-outcome.Post
-sub-outcome-add-outcome-requires t c κs = let h = sub-lower goldilocks (c .before .before .before .before .before .before .before .args .list .now) (c .before .before .before .before .before .before .before .args .n) (c .before .before .before .before .before .before .before .args .a) (c .before .before .before .before .before .before .before .args .b) (c .before .before .before .before .before .before .before .pre .1) _ _ (c .before .before .before .before .before .node-at .ensures) (c .before .before .before .before .node-at2 .ensures) (c .before .before .before .sub-rule .result) (c .before .before .before .sub-rule .ensures) _ _ (c .before .rule3 .given .1) in (subst (λ (j : ℕ). c .before .rule3 .given .0 .0 + c .before .rule3 .given .0 .1 .0 < j) (c .before .before .before .before .before .before .before .pre .0) (h .0), h .1)
+sub-outcome-add-outcome-requires t c κs =
+    let at-rule3 = c .before in
+    let at-sub-rule = at-rule3 .before .before in
+    let at-node-at2 = at-sub-rule .before in
+    let at-node-at = at-node-at2 .before in
+    let start = at-node-at .before .before in
+    let h = sub-lower goldilocks (start .args .list .now) (start .args .n) (start .args .a) (start .args .b) (start .pre .1) _ _
+    (at-node-at .node-at .ensures) (at-node-at2 .node-at2 .ensures) (at-sub-rule .sub-rule .result) (at-sub-rule .sub-rule .ensures) _ _
+    (at-rule3 .rule3 .given .1) in (
+      subst (λ (j : ℕ). at-rule3 .rule3 .given .0 .0 + at-rule3 .rule3 .given .0 .1 .0 < j) (start .pre .0) (h .0),
+      h .1,
+    )
 
 sub-outcome-returns : (t : ℕ) → sub-outcome-lts.Need-returns (
   node-at-reads.Asked,
@@ -219,7 +271,14 @@ sub-outcome-returns : (t : ℕ) → sub-outcome-lts.Need-returns (
   add-outcome-below t,
   add-outcome.Post,
 ) (sub-outcome-at t) sub-outcome.Post
-sub-outcome-returns t c = sub-used goldilocks (c .before .before .before .before .before .before .before .args .list .now) (c .before .before .before .before .before .before .before .args .n) (c .before .before .before .before .before .before .before .args .a) (c .before .before .before .before .before .before .before .args .b) (c .before .before .before .before .before .before .before .pre .1) _ _ (c .before .before .before .before .before .node-at .ensures) (c .before .before .before .before .node-at2 .ensures) (c .before .before .before .sub-rule .result) (c .before .before .before .sub-rule .ensures) _ (c .before .rule .given .1)
+sub-outcome-returns t c =
+    let at-rule = c .before in
+    let at-sub-rule = at-rule .before .before in
+    let at-node-at2 = at-sub-rule .before in
+    let at-node-at = at-node-at2 .before in
+    let start = at-node-at .before .before in
+    sub-used goldilocks (start .args .list .now) (start .args .n) (start .args .a) (start .args .b) (start .pre .1) _ _ (at-node-at .node-at .ensures)
+    (at-node-at2 .node-at2 .ensures) (at-sub-rule .sub-rule .result) (at-sub-rule .sub-rule .ensures) _ (at-rule .rule .given .1)
 
 sub-outcome-returns-2 : (t : ℕ) → sub-outcome-lts.Need-returns-2 (
   node-at-reads.Asked,
@@ -229,7 +288,14 @@ sub-outcome-returns-2 : (t : ℕ) → sub-outcome-lts.Need-returns-2 (
   add-outcome-below t,
   add-outcome.Post,
 ) (sub-outcome-at t) sub-outcome.Post
-sub-outcome-returns-2 t c = sub-made goldilocks (c .before .before .before .before .before .before .before .args .list .now) (c .before .before .before .before .before .before .before .args .n) (c .before .before .before .before .before .before .before .args .a) (c .before .before .before .before .before .before .before .args .b) (c .before .before .before .before .before .before .before .pre .1) _ _ (c .before .before .before .before .before .node-at .ensures) (c .before .before .before .before .node-at2 .ensures) (c .before .before .before .sub-rule .result) (c .before .before .before .sub-rule .ensures) _ (c .before .rule2 .given .1)
+sub-outcome-returns-2 t c =
+    let at-rule2 = c .before in
+    let at-sub-rule = at-rule2 .before .before in
+    let at-node-at2 = at-sub-rule .before in
+    let at-node-at = at-node-at2 .before in
+    let start = at-node-at .before .before in
+    sub-made goldilocks (start .args .list .now) (start .args .n) (start .args .a) (start .args .b) (start .pre .1) _ _ (at-node-at .node-at .ensures)
+    (at-node-at2 .node-at2 .ensures) (at-sub-rule .sub-rule .result) (at-sub-rule .sub-rule .ensures) _ (at-rule2 .rule2 .given .1)
 
 sub-outcome-returns-3 : (t : ℕ) → sub-outcome-lts.Need-returns-3 (
   node-at-reads.Asked,
@@ -239,7 +305,15 @@ sub-outcome-returns-3 : (t : ℕ) → sub-outcome-lts.Need-returns-3 (
   add-outcome-below t,
   add-outcome.Post,
 ) (sub-outcome-at t) sub-outcome.Post
-sub-outcome-returns-3 t c = sub-handed goldilocks (c .before .before .before .before .before .before .before .before .args .list .now) (c .before .before .before .before .before .before .before .before .args .n) (c .before .before .before .before .before .before .before .before .args .a) (c .before .before .before .before .before .before .before .before .args .b) (c .before .before .before .before .before .before .before .before .pre .1) _ _ (c .before .before .before .before .before .before .node-at .ensures) (c .before .before .before .before .before .node-at2 .ensures) (c .before .before .before .before .sub-rule .result) (c .before .before .before .before .sub-rule .ensures) _ _ _ (c .before .before .rule3 .given .1) (c .add-outcome .ensures)
+sub-outcome-returns-3 t c =
+    let at-rule3 = c .before .before in
+    let at-sub-rule = at-rule3 .before .before in
+    let at-node-at2 = at-sub-rule .before in
+    let at-node-at = at-node-at2 .before in
+    let start = at-node-at .before .before in
+    sub-handed goldilocks (start .args .list .now) (start .args .n) (start .args .a) (start .args .b) (start .pre .1) _ _ (at-node-at .node-at .ensures)
+    (at-node-at2 .node-at2 .ensures) (at-sub-rule .sub-rule .result) (at-sub-rule .sub-rule .ensures) _ _ _ (at-rule3 .rule3 .given .1)
+    (c .add-outcome .ensures)
 
 pub +add-outcome+sub-outcome-spec : {M : Type 1} → statement M
 +add-outcome+sub-outcome-spec = close μ-add-outcome μ-sub-outcome (λ t. add-outcome-lts.spec (

@@ -17,7 +17,13 @@ use Rattle.builder.proofs.replay.Statement.{statement}
 use Rattle.builder.proofs.replay.Tie as tie
 
 abbrev Inv-loop : tie.InvT-loop
-Inv-loop list n result₀ map₀ links₀ count₀ i₀ result map links count i = (i ≤ n) × (length result ≡ length result₀) × (length map ≡ length map₀) × Contracts.Holds goldilocks (Steps.replay quad (Nodes.nodes list n) i) i result map count × (length links ≡ length links₀) × NodeIndex (Nodes.nodes result count) links
+Inv-loop list n result₀ map₀ links₀ count₀ i₀ result map links count i =
+    (i ≤ n)
+    × (length result ≡ length result₀)
+    × (length map ≡ length map₀)
+    × Contracts.Holds goldilocks (Steps.replay quad (Nodes.nodes list n) i) i result map count
+    × (length links ≡ length links₀)
+    × NodeIndex (Nodes.nodes result count) links
 
 abbrev μ-loop : tie.MeasureT-loop
 μ-loop list n result₀ map₀ links₀ count₀ i₀ result map links count i = n - i
@@ -67,26 +73,30 @@ push-requires c κs =
 
 mul-map : tie.Need-mul-map Inv-loop μ-loop
 mul-map c =
-    let at-loop-test = c .before .before .before .before .before .before .before .before .before .before in
+    let at-point = c .before .before .before .before .before .before .before .before .before .before in
+    let at-loop-test = at-point in
     let start = at-loop-test .before .before .before .before .before .before .before .before .before .before in
     omega (arith, (start .good .1 .1 .1 .0 .1), (start .pre .2), (at-loop-test .loop-test .taken))
 
 slice-write-map : tie.Need-slice-write-map Inv-loop μ-loop
 slice-write-map c =
-    let at-loop-test = c .before .before .before .before .before .before .before .before .before .before in
+    let at-point = c .before .before .before .before .before .before .before .before .before .before in
+    let at-loop-test = at-point in
     let at-loop = at-loop-test .before in
     let start = at-loop .before .before .before .before .before .before .before .before .before in
     omega (arith, (start .pre .2), (at-loop-test .loop-test .taken), (at-loop .loop .inv .2))
 
 add-i : tie.Need-add-i Inv-loop μ-loop
 add-i c =
-    let at-loop-test = c .before .before .before .before .before .before .before .before .before .before in
+    let at-point = c .before .before .before .before .before .before .before .before .before .before in
+    let at-loop-test = at-point in
     let start = at-loop-test .before .before .before .before .before .before .before .before .before .before in
     omega (arith, (start .good .1 .1 .1 .0 .0), (start .pre .2), (at-loop-test .loop-test .taken))
 
 loop-less : tie.Need-loop-less Inv-loop μ-loop
 loop-less c =
-    let at-loop-test = c .before .before .before .before .before .before .before .before .before .before in
+    let at-point = c .before .before .before .before .before .before .before .before .before .before in
+    let at-loop-test = at-point in
     omega (arith, (at-loop-test .loop-test .taken))
 
 loop-again : tie.Need-loop-again Inv-loop μ-loop

@@ -19,7 +19,12 @@ use Rattle.lower.proofs.build_periodic_nodes.Statement.{statement}
 use Rattle.lower.proofs.build_periodic_nodes.Tie as tie
 
 abbrev Inv-loop : tie.InvT-loop
-Inv-loop list₀ n lengths entries log places₀ gains each count₀ j₀ list places count j = (j ≤ length lengths) × (length places ≡ length places₀) × Said.Listing goldilocks list₀ count₀ (Builder.turns (λ j ps. Builder.also ps (Periodic.columnNode goldilocks (Prepare.columns lengths entries) log j)) j []) list count places j × Said.Ready goldilocks list count
+Inv-loop list₀ n lengths entries log places₀ gains each count₀ j₀ list places count j =
+    (j ≤ length lengths)
+    × (length places ≡ length places₀)
+    × Said.Listing goldilocks list₀ count₀ (Builder.turns (λ j ps. Builder.also ps
+    (Periodic.columnNode goldilocks (Prepare.columns lengths entries) log j)) j []) list count places j
+    × Said.Ready goldilocks list count
 
 abbrev μ-loop : tie.MeasureT-loop
 μ-loop list₀ n lengths entries log places₀ gains each count₀ j₀ list places count j = length lengths - j
@@ -41,12 +46,14 @@ savings-each-requires c κs =
 
 loop-holds : tie.Need-loop-holds Inv-loop μ-loop
 loop-holds c =
-    let start = c .before .before .before .before .before .before .before in
+    let at-point = c .before .before .before .before .before .before .before in
+    let start = at-point in
     (omega arith, refl, list-none goldilocks _ _ _ _ _ _ refl (none-inside _), start .pre .0)
 
 slice-aggregate-column-node : tie.Need-slice-aggregate-column-node Inv-loop μ-loop
 slice-aggregate-column-node c =
-    let at-gains = c .before .before .before .before .before .before in
+    let at-point = c .before .before .before .before .before .before in
+    let at-gains = at-point in
     let start = at-gains .before .before .before .before .before in
     sym (ap length (at-gains .gains .ensures) ∙ length-gains p _ _ (start .pre .1 .tested .handed))
 
@@ -71,12 +78,14 @@ column-node-requires c κs =
 
 mul-places : tie.Need-mul-places Inv-loop μ-loop
 mul-places c =
-    let start = c .before .before .before .before .before .before .before .before .before .before .before .before .before .before .before in
+    let at-point = c .before .before .before .before .before .before .before .before .before .before .before .before .before .before .before in
+    let start = at-point in
     omega (arith, start .pre .2)
 
 slice-write-places : tie.Need-slice-write-places Inv-loop μ-loop
 slice-write-places c =
-    let start = c .before .before .before .before .before .before .before .before .before .before .before .before .before .before .before in
+    let at-point = c .before .before .before .before .before .before .before .before .before .before .before .before .before .before .before in
+    let start = at-point in
     omega (arith, start .pre .2)
 
 add-j : tie.Need-add-j Inv-loop μ-loop

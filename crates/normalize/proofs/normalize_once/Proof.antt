@@ -135,7 +135,8 @@ same-length-14 c = search needs
 
 same-length-15 : tie.Need-same-length-15
 same-length-15 c =
-    let at-fanout = c .before .before .before .before .before .before .before .before .before .before .before .before .before .before .before .before .before .before .before .before .before .before .before .before .before .before .before .before .before .before .before .before .before .before .before .before .before .before .before in
+    let at-last = c .before .before .before .before .before .before .before .before .before .before .before .before .before .before .before .before .before .before .before in
+    let at-fanout = at-last .before .before .before .before .before .before .before .before .before .before .before .before .before .before .before .before .before .before .before .before in
     let at-fill = at-fanout .before .before .before .before .before in
     (at-fanout .fanout .kept .1 .1 .1 .0) ∙ (at-fill .fill .kept .0)
 

@@ -15,7 +15,14 @@ use Rattle.periodic.proofs.chain.Statement.{statement}
 use Rattle.periodic.proofs.chain.Tie as tie
 
 abbrev Inv-loop : tie.InvT-loop
-Inv-loop list₀ n first factors k places₀ count₀ i₀ list places count i = (i ≤ k) × (k < length places) × (length places ≡ length places₀) × Said.Listing goldilocks list₀ count₀ (Builder.turns (λ i ps. Builder.also ps (Builder.mul quad (getD ps i 0) (getD factors i 0))) i (first ∷ [])) list count places (i + 1) × Said.Ready goldilocks list count × Said.AllInside count factors
+Inv-loop list₀ n first factors k places₀ count₀ i₀ list places count i =
+    (i ≤ k)
+    × (k < length places)
+    × (length places ≡ length places₀)
+    × Said.Listing goldilocks list₀ count₀ (Builder.turns (λ i ps. Builder.also ps (Builder.mul quad (getD ps i 0) (getD factors i 0))) i (first ∷ []))
+    list count places (i + 1)
+    × Said.Ready goldilocks list count
+    × Said.AllInside count factors
 
 abbrev μ-loop : tie.MeasureT-loop
 μ-loop list₀ n first factors k places₀ count₀ i₀ list places count i = k - i
@@ -44,12 +51,14 @@ slice-read-mul c = omega arith
 
 mul-mul-2 : tie.Need-mul-mul-2 Inv-loop μ-loop
 mul-mul-2 c =
-    let start = c .before .before .before .before .before .before .before in
+    let at-point = c .before .before .before .before .before .before .before in
+    let start = at-point in
     omega (arith, start .pre .3)
 
 shared-slice-read-mul : tie.Need-shared-slice-read-mul Inv-loop μ-loop
 shared-slice-read-mul c =
-    let start = c .before .before .before .before .before .before .before .before in
+    let at-point = c .before .before .before .before .before .before .before .before in
+    let start = at-point in
     omega (arith, start .pre .3)
 
 mul-requires : tie.Need-mul-requires Inv-loop μ-loop

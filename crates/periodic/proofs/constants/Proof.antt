@@ -17,7 +17,11 @@ use Rattle.periodic.proofs.constants.Statement.{statement}
 use Rattle.periodic.proofs.constants.Tie as tie
 
 abbrev Inv-loop : tie.InvT-loop
-Inv-loop list₀ n numbers places₀ count₀ i₀ list places count i = (i ≤ length numbers) × (length places ≡ length places₀) × Said.Listing goldilocks list₀ count₀ (Builder.turns (λ j ks. Builder.also ks (Builder.constant quad (getD numbers j 0))) i []) list count places i × Said.Ready goldilocks list count
+Inv-loop list₀ n numbers places₀ count₀ i₀ list places count i =
+    (i ≤ length numbers)
+    × (length places ≡ length places₀)
+    × Said.Listing goldilocks list₀ count₀ (Builder.turns (λ j ks. Builder.also ks (Builder.constant quad (getD numbers j 0))) i []) list count places i
+    × Said.Ready goldilocks list count
 
 abbrev μ-loop : tie.MeasureT-loop
 μ-loop list₀ n numbers places₀ count₀ i₀ list places count i = length numbers - i
@@ -40,12 +44,14 @@ constant-requires c κs =
 
 mul-places : tie.Need-mul-places Inv-loop μ-loop
 mul-places c =
-    let start = c .before .before .before .before .before .before .before .before .before .before in
+    let at-point = c .before .before .before .before .before .before .before .before .before .before in
+    let start = at-point in
     omega (arith, start .pre .2)
 
 slice-write-places : tie.Need-slice-write-places Inv-loop μ-loop
 slice-write-places c =
-    let start = c .before .before .before .before .before .before .before .before .before .before in
+    let at-point = c .before .before .before .before .before .before .before .before .before .before in
+    let start = at-point in
     omega (arith, start .pre .2)
 
 add-i : tie.Need-add-i Inv-loop μ-loop

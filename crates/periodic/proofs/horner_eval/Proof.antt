@@ -16,7 +16,12 @@ use Rattle.periodic.proofs.horner_eval.Statement.{statement}
 use Rattle.periodic.proofs.horner_eval.Tie as tie
 
 abbrev Inv-loop : tie.InvT-loop
-Inv-loop list₀ n point coeffs acc₀ i₀ list acc i = (i ≤ length coeffs) × Said.Entering goldilocks list₀ (acc₀ .count) (Builder.turns (Periodic.hornerTurn quad point coeffs (length coeffs)) i (acc₀ .place)) list acc × Said.Ready goldilocks list (acc .count) × Said.Inside (acc .count) point × Said.AllInside (acc .count) coeffs
+Inv-loop list₀ n point coeffs acc₀ i₀ list acc i =
+    (i ≤ length coeffs)
+    × Said.Entering goldilocks list₀ (acc₀ .count) (Builder.turns (Periodic.hornerTurn quad point coeffs (length coeffs)) i (acc₀ .place)) list acc
+    × Said.Ready goldilocks list (acc .count)
+    × Said.Inside (acc .count) point
+    × Said.AllInside (acc .count) coeffs
 
 abbrev μ-loop : tie.MeasureT-loop
 μ-loop list₀ n point coeffs acc₀ i₀ list acc i = length coeffs - i
@@ -89,7 +94,11 @@ same-length c = c .before .loop .inv .1 .ran .kept ∙ c .before .before .before
 
 returns : tie.Need-returns Inv-loop μ-loop
 unfolding Periodic.hornerEval
-returns c = then-enter goldilocks _ _ _ _ _ _ _ _ (c .before .before .before .before .constant .ensures) (enter-all goldilocks _ _ _ _ _ _ _ _ (c .before .loop .inv .0) (c .loop-test .left) (c .before .loop .inv .1))
+returns c =
+    let at-loop = c .before in
+    let at-constant = at-loop .before .before .before in
+    then-enter goldilocks _ _ _ _ _ _ _ _ (at-constant .constant .ensures)
+    (enter-all goldilocks _ _ _ _ _ _ _ _ (at-loop .loop .inv .0) (c .loop-test .left) (at-loop .loop .inv .1))
 
 pub horner-eval-spec : {M : Type 1} → statement M
 horner-eval-spec =

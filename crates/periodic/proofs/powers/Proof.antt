@@ -17,7 +17,13 @@ use Rattle.periodic.proofs.powers.Statement.{statement}
 use Rattle.periodic.proofs.powers.Tie as tie
 
 abbrev Inv-loop : tie.InvT-loop
-Inv-loop list₀ n z k places₀ count₀ i₀ list places count i = (i ≤ k) × (k < length places) × (length places ≡ length places₀) × Said.Listing goldilocks list₀ count₀ (Builder.turns (λ i ps. Builder.also ps (Builder.mul quad (getD ps i 0) (getD ps i 0))) i (z ∷ [])) list count places (i + 1) × Said.Ready goldilocks list count
+Inv-loop list₀ n z k places₀ count₀ i₀ list places count i =
+    (i ≤ k)
+    × (k < length places)
+    × (length places ≡ length places₀)
+    × Said.Listing goldilocks list₀ count₀ (Builder.turns (λ i ps. Builder.also ps (Builder.mul quad (getD ps i 0) (getD ps i 0))) i (z ∷ [])) list count
+    places (i + 1)
+    × Said.Ready goldilocks list count
 
 abbrev μ-loop : tie.MeasureT-loop
 μ-loop list₀ n z k places₀ count₀ i₀ list places count i = k - i

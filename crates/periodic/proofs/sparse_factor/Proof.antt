@@ -15,7 +15,12 @@ use Rattle.periodic.proofs.sparse_factor.Statement.{statement}
 use Rattle.periodic.proofs.sparse_factor.Tie as tie
 
 abbrev Inv-loop : tie.InvT-loop
-Inv-loop list₀ n zpow log row factor₀ i₀ list factor i = (i ≤ log) × Said.Entering goldilocks list₀ (factor₀ .count) (Builder.turns (λ i factor. Periodic.sparseTurn quad (getD row i 0) (getD zpow i 0) factor) i (factor₀ .place)) list factor × Said.Ready goldilocks list (factor .count) × Said.AllInside (factor .count) zpow
+Inv-loop list₀ n zpow log row factor₀ i₀ list factor i =
+    (i ≤ log)
+    × Said.Entering goldilocks list₀ (factor₀ .count) (Builder.turns (λ i factor. Periodic.sparseTurn quad (getD row i 0) (getD zpow i 0) factor) i
+    (factor₀ .place)) list factor
+    × Said.Ready goldilocks list (factor .count)
+    × Said.AllInside (factor .count) zpow
 
 abbrev μ-loop : tie.MeasureT-loop
 μ-loop list₀ n zpow log row factor₀ i₀ list factor i = log - i
@@ -35,22 +40,26 @@ loop-holds c =
 
 mul-sparse-turn : tie.Need-mul-sparse-turn Inv-loop μ-loop
 mul-sparse-turn c =
-    let start = c .before .before .before .before .before .before .before .before .before in
+    let at-point = c .before .before .before .before .before .before .before .before .before in
+    let start = at-point in
     omega (arith, start .pre .2 .few)
 
 array-read-sparse-turn : tie.Need-array-read-sparse-turn Inv-loop μ-loop
 array-read-sparse-turn c =
-    let start = c .before .before .before .before .before .before .before .before .before in
+    let at-point = c .before .before .before .before .before .before .before .before .before in
+    let start = at-point in
     omega (arith, start .pre .2 .few)
 
 mul-sparse-turn-2 : tie.Need-mul-sparse-turn-2 Inv-loop μ-loop
 mul-sparse-turn-2 c =
-    let start = c .before .before .before .before .before .before .before .before .before in
+    let at-point = c .before .before .before .before .before .before .before .before .before in
+    let start = at-point in
     omega (arith, start .pre .2 .few)
 
 shared-slice-read-sparse-turn : tie.Need-shared-slice-read-sparse-turn Inv-loop μ-loop
 shared-slice-read-sparse-turn c =
-    let start = c .before .before .before .before .before .before .before .before .before .before in
+    let at-point = c .before .before .before .before .before .before .before .before .before .before in
+    let start = at-point in
     omega (arith, start .pre .3)
 
 sparse-turn-requires : tie.Need-sparse-turn-requires Inv-loop μ-loop
@@ -84,7 +93,11 @@ same-length c = c .before .loop .inv .1 .ran .kept ∙ c .before .before .before
 
 returns : tie.Need-returns Inv-loop μ-loop
 unfolding Periodic.sparseFactor
-returns c = then-enter goldilocks _ _ _ _ _ _ _ _ (c .before .before .before .before .constant .ensures) (enter-all goldilocks _ _ _ _ _ _ _ _ (c .before .loop .inv .0) (c .loop-test .left) (c .before .loop .inv .1))
+returns c =
+    let at-loop = c .before in
+    let at-constant = at-loop .before .before .before in
+    then-enter goldilocks _ _ _ _ _ _ _ _ (at-constant .constant .ensures)
+    (enter-all goldilocks _ _ _ _ _ _ _ _ (at-loop .loop .inv .0) (c .loop-test .left) (at-loop .loop .inv .1))
 
 pub sparse-factor-spec : {M : Type 1} → statement M
 sparse-factor-spec =

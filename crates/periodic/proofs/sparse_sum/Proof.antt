@@ -18,7 +18,12 @@ use Rattle.periodic.proofs.sparse_sum.Statement.{statement}
 use Rattle.periodic.proofs.sparse_sum.Tie as tie
 
 abbrev Inv-loop : tie.InvT-loop
-Inv-loop list₀ n zpow log t rows values sum₀ k₀ list sum k = (k ≤ t - 1) × Said.Entering goldilocks list₀ (sum₀ .count) (Builder.turns (Periodic.sumTurn quad zpow (λ k i. getD (getD rows k []) i 0) log (λ k. getD values k 0)) k (sum₀ .place)) list sum × Said.Ready goldilocks list (sum .count) × Said.AllInside (sum .count) zpow
+Inv-loop list₀ n zpow log t rows values sum₀ k₀ list sum k =
+    (k ≤ t - 1)
+    × Said.Entering goldilocks list₀ (sum₀ .count) (Builder.turns
+    (Periodic.sumTurn quad zpow (λ k i. getD (getD rows k []) i 0) log (λ k. getD values k 0)) k (sum₀ .place)) list sum
+    × Said.Ready goldilocks list (sum .count)
+    × Said.AllInside (sum .count) zpow
 
 abbrev μ-loop : tie.MeasureT-loop
 μ-loop list₀ n zpow log t rows values sum₀ k₀ list sum k = t - 1 - k
@@ -58,37 +63,44 @@ loop-holds c =
 
 sub-loop : tie.Need-sub-loop Inv-loop μ-loop
 sub-loop c =
-    let at-if1 = c .before .before .before .before .before .before in
+    let at-point = c .before .before .before .before .before .before in
+    let at-if1 = at-point in
     omega (arith, at-if1 .if1 .left)
 
 add-sparse-term : tie.Need-add-sparse-term Inv-loop μ-loop
 add-sparse-term c =
-    let start = c .before .before .before .before .before .before .before .before .before .before .before in
+    let at-point = c .before .before .before .before .before .before .before .before .before .before .before in
+    let start = at-point in
     omega (arith, start .pre .2 .few)
 
 mul-sparse-term : tie.Need-mul-sparse-term Inv-loop μ-loop
 mul-sparse-term c =
-    let start = c .before .before .before .before .before .before .before .before .before .before .before in
+    let at-point = c .before .before .before .before .before .before .before .before .before .before .before in
+    let start = at-point in
     omega (arith, start .pre .2 .few)
 
 array-copy-out-sparse-term-2 : tie.Need-array-copy-out-sparse-term-2 Inv-loop μ-loop
 array-copy-out-sparse-term-2 c =
-    let start = c .before .before .before .before .before .before .before .before .before .before .before in
+    let at-point = c .before .before .before .before .before .before .before .before .before .before .before in
+    let start = at-point in
     omega (arith, start .pre .2 .few)
 
 add-sparse-term-2 : tie.Need-add-sparse-term-2 Inv-loop μ-loop
 add-sparse-term-2 c =
-    let start = c .before .before .before .before .before .before .before .before .before .before .before .before in
+    let at-point = c .before .before .before .before .before .before .before .before .before .before .before .before in
+    let start = at-point in
     omega (arith, start .pre .2 .few)
 
 mul-sparse-term-2 : tie.Need-mul-sparse-term-2 Inv-loop μ-loop
 mul-sparse-term-2 c =
-    let start = c .before .before .before .before .before .before .before .before .before .before .before .before in
+    let at-point = c .before .before .before .before .before .before .before .before .before .before .before .before in
+    let start = at-point in
     omega (arith, start .pre .2 .few)
 
 array-read-sparse-term-2 : tie.Need-array-read-sparse-term-2 Inv-loop μ-loop
 array-read-sparse-term-2 c =
-    let start = c .before .before .before .before .before .before .before .before .before .before .before .before in
+    let at-point = c .before .before .before .before .before .before .before .before .before .before .before .before in
+    let start = at-point in
     omega (arith, start .pre .2 .few)
 
 sparse-term-requires-2 : tie.Need-sparse-term-requires-2 Inv-loop μ-loop

@@ -64,7 +64,12 @@ put-decimal-returns : (t : ℕ) → put-decimal-lts.Need-returns (
   put-decimal-below t,
   put-decimal.Post,
 ) (put-decimal-at t) put-decimal.Post
-put-decimal-returns t c = wrote-as (ap (λ b. b ∷ []) (c .before .before .before .digit .ensures) ∙ decimal-one (c .before .before .before .before .before .before .before .args .n) (c .before .before .before .before .before .if1 .taken)) (c .before .before .put-byte .ensures)
+put-decimal-returns t c =
+    let at-put-byte = c .before .before in
+    let at-digit = at-put-byte .before in
+    let at-if1 = at-digit .before .before in
+    let start = at-if1 .before .before in
+    wrote-as (ap (λ b. b ∷ []) (at-digit .digit .ensures) ∙ decimal-one (start .args .n) (at-if1 .if1 .taken)) (at-put-byte .put-byte .ensures)
 
 put-decimal-put-decimal-requires : (t : ℕ) → put-decimal-lts.Need-put-decimal-requires (
   digit-reads.Asked,
@@ -74,7 +79,10 @@ put-decimal-put-decimal-requires : (t : ℕ) → put-decimal-lts.Need-put-decima
   put-decimal-below t,
   put-decimal.Post,
 ) (put-decimal-at t) put-decimal.Post
-put-decimal-put-decimal-requires t c κs = (omega (arith, c .before .before .before .pre .0, c .before .if1 .left), omega (arith, c .before .before .before .pre .1, decimal-longer (c .before .before .before .args .n) (c .before .if1 .left)))
+put-decimal-put-decimal-requires t c κs =
+    let at-if1 = c .before in
+    let start = at-if1 .before .before in
+    (omega (arith, start .pre .0, at-if1 .if1 .left), omega (arith, start .pre .1, decimal-longer (start .args .n) (at-if1 .if1 .left)))
 
 put-decimal-digit-requires-2 : (t : ℕ) → put-decimal-lts.Need-digit-requires-2 (
   digit-reads.Asked,
@@ -94,7 +102,17 @@ put-decimal-put-byte-requires-2 : (t : ℕ) → put-decimal-lts.Need-put-byte-re
   put-decimal-below t,
   put-decimal.Post,
 ) (put-decimal-at t) put-decimal.Post
-put-decimal-put-byte-requires-2 t c κs = omega (arith, c .before .before .before .before .before .before .before .before .pre .1, decimal-longer (c .before .before .before .before .before .before .before .before .args .n) (c .before .before .before .before .before .before .if1 .left), c .before .before .before .before .put-decimal .ensures .end-is, c .before .before .before .before .put-decimal .kept .0)
+put-decimal-put-byte-requires-2 t c κs =
+    let at-put-decimal = c .before .before .before .before in
+    let at-if1 = at-put-decimal .before .before in
+    let start = at-if1 .before .before in
+    omega (
+      arith,
+      start .pre .1,
+      decimal-longer (start .args .n) (at-if1 .if1 .left),
+      at-put-decimal .put-decimal .ensures .end-is,
+      at-put-decimal .put-decimal .kept .0,
+    )
 
 put-decimal-same-length-2 : (t : ℕ) → put-decimal-lts.Need-same-length-2 (
   digit-reads.Asked,
@@ -104,7 +122,10 @@ put-decimal-same-length-2 : (t : ℕ) → put-decimal-lts.Need-same-length-2 (
   put-decimal-below t,
   put-decimal.Post,
 ) (put-decimal-at t) put-decimal.Post
-put-decimal-same-length-2 t c = c .before .before .put-byte2 .kept .0 ∙ c .before .before .before .before .before .before .before .put-decimal .kept .0
+put-decimal-same-length-2 t c =
+    let at-put-byte2 = c .before .before in
+    let at-put-decimal = at-put-byte2 .before .before .before .before .before in
+    at-put-byte2 .put-byte2 .kept .0 ∙ at-put-decimal .put-decimal .kept .0
 
 put-decimal-returns-2 : (t : ℕ) → put-decimal-lts.Need-returns-2 (
   digit-reads.Asked,
@@ -114,7 +135,14 @@ put-decimal-returns-2 : (t : ℕ) → put-decimal-lts.Need-returns-2 (
   put-decimal-below t,
   put-decimal.Post,
 ) (put-decimal-at t) put-decimal.Post
-put-decimal-returns-2 t c = wrote-as (decimal-more (c .before .before .before .before .before .before .before .before .before .before .before .args .n) (c .before .before .before .before .before .before .before .before .before .if1 .left)) (and-then (c .before .before .before .before .before .before .before .put-decimal .ensures) (wrote-as (ap (λ b. b ∷ []) (c .before .before .before .digit2 .ensures)) (c .before .before .put-byte2 .ensures)))
+put-decimal-returns-2 t c =
+    let at-put-byte2 = c .before .before in
+    let at-digit2 = at-put-byte2 .before in
+    let at-put-decimal = at-digit2 .before .before .before .before in
+    let at-if1 = at-put-decimal .before .before in
+    let start = at-if1 .before .before in
+    wrote-as (decimal-more (start .args .n) (at-if1 .if1 .left)) (and-then (at-put-decimal .put-decimal .ensures)
+    (wrote-as (ap (λ b. b ∷ []) (at-digit2 .digit2 .ensures)) (at-put-byte2 .put-byte2 .ensures)))
 
 pub +put-decimal-spec : {M : Type 1} → statement M
 +put-decimal-spec = close μ-put-decimal λ t. put-decimal-lts.spec (
