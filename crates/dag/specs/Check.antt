@@ -41,6 +41,10 @@ checkAt m s i = recordCheck m (getD s (3 * i) 0) (getD s (3 * i + 1) 0) (getD s 
 abbrev pub recordsCheck : Bounds → List ℕ → ℕ → Checked
 recordsCheck m s = firstRefused (checkAt m s)
 
+-- 2 for a store with less room than is needed
+unfoldable pub roomCheck : ℕ → ℕ → Checked
+roomCheck needed room = need (leb needed room) StoreTooShort
+
 -- the tests of a list of at least `least` records without a root: 1, 2, then the records
 unfoldable pub rootlessCheck : Bounds → ℕ → List ℕ → ℕ → Checked
 rootlessCheck m least s n =

@@ -4,6 +4,7 @@ pub mod Refusals
 pub mod Check
 pub mod Lookup
 pub mod WellFormed
+pub mod Roots
 pub mod Store
 pub mod BranchLaws
 pub mod CaseLaws
@@ -16,4 +17,5 @@ pub mod CheckLaws
 pub mod StoreLaws
 pub mod WordLaws
 pub mod BlankLaws
+pub mod RootLaws
 pub mod PassLaws

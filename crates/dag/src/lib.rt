@@ -3,7 +3,8 @@ use field::QuadFelt;
 ghost use mathlib.Core.Path.{_≡_};
 ghost use Prim.Native.Nat.{ℕ, _+_, _*_, _-_, _^_, _<_, _≤_};
 ghost use lib.Dec.{ltb};
-ghost use mathlib.Core.List.{_++_};
+ghost use mathlib.Core.List.{[], _∷_, _++_};
+ghost use mathlib.Core.List as Lists;
 ghost use lib.ListN.{length, getD, take, replicate};
 ghost use Rattle.field.specs.Fields.{goldilocks};
 ghost use Rattle.dag.specs.Keys as Keys;
@@ -13,6 +14,7 @@ ghost use Rattle.dag.specs.Check as Check;
 ghost use Rattle.dag.specs.Store as Store;
 ghost use Rattle.dag.specs.Lookup as Lookup;
 ghost use Rattle.dag.specs.WellFormed as Well;
+ghost use Rattle.dag.specs.Roots.{rootsOf, Inside, mostRoots};
 
 // The word behind the last one filled.
 pub const BLANK: u64 = 0;
@@ -23,6 +25,9 @@ pub const MOST_RECORDS: usize = 4096;
 // A list is short up to so many records: stores for the longest would take longer to clear than it takes to use.
 pub const FEW_RECORDS: usize = 256;
 
+// The most roots that a list has.
+pub const MOST_ROOTS: usize = 8;
+
 // One record of a list. An input holds its key number; operands are places.
 pub enum NodeKind {
     Input(u64),
@@ -31,6 +36,12 @@ pub enum NodeKind {
     Sub(usize, usize),
     Mul(usize, usize),
     Neg(usize),
+}
+
+// A list's roots: the first `count` of these places.
+pub struct Roots {
+    pub places: [u64; MOST_ROOTS],
+    pub count: usize,
 }
 
 // Why a call says no, with the record, entry or column at fault where there is one.
@@ -208,6 +219,16 @@ fn records_check(list: &[u64], n: usize) -> Checked
     Checked::Good
 }
 
+// The test of a store's room: 2.
+pub fn room_check(needed: usize, room: usize) -> Checked
+    ensures { λ r. ⌜ r ≡ Check.roomCheck needed room ⌝ }
+{
+    if room < needed {
+        return Checked::Refused(Refusal::StoreTooShort);
+    }
+    Checked::Good
+}
+
 // The tests of a list of at least `least` records without a root: 1, 2, then the records.
 pub fn rootless_check(list: &[u64], n: usize, least: usize) -> Checked
     ensures { λ r. ⌜ r ≡ Check.rootlessCheck (goldilocks .bounds) least (now (list .entry)) n ⌝ }
@@ -340,6 +361,52 @@ pub fn renamed(map: &[u64], x: NodeKind) -> NodeKind
         NodeKind::Sub(a, b) => NodeKind::Sub(mapped(map, a), mapped(map, b)),
         NodeKind::Mul(a, b) => NodeKind::Mul(mapped(map, a), mapped(map, b)),
         NodeKind::Neg(a) => NodeKind::Neg(mapped(map, a)),
+    }
+}
+
+// No roots.
+pub fn no_roots() -> Roots
+    ensures { λ r. ⌜ (rootsOf r ≡ []) × Inside 0 r ⌝ }
+{
+    Roots {
+        places: [0u64; MOST_ROOTS],
+        count: 0,
+    }
+}
+
+// A list's one root.
+pub fn one_root(root: usize) -> Roots
+    ensures { λ r. ⌜ (rootsOf r ≡ root ∷ []) × Inside (root + 1) r ⌝ }
+{
+    Roots {
+        places: [root as u64, 0, 0, 0, 0, 0, 0, 0],
+        count: 1,
+    }
+}
+
+// Root j.
+pub fn root_at(roots: Roots, j: usize) -> usize
+    requires { ⌜ (j < roots .count) × ((n : ℕ) × Inside n roots) ⌝ }
+    ensures { λ r. ⌜ r ≡ getD (roots .places) j 0 ⌝ }
+{
+    let places = roots.places;
+    places[j] as usize
+}
+
+// The new places of a list's roots.
+pub fn renamed_roots(map: &[u64], roots: Roots) -> Roots
+    requires { ⌜ Inside (length (now map)) roots ⌝ }
+    ensures { λ r. ⌜ (rootsOf r ≡ Lists.map (λ i. getD (now (map .entry)) i 0) (rootsOf roots)) × (r .count ≡ roots .count) × (length (r .places) ≡ mostRoots) ⌝ }
+{
+    let mut places = [0u64; MOST_ROOTS];
+    let mut j = 0;
+    while j < roots.count {
+        places[j] = mapped(map, root_at(roots, j)) as u64;
+        j += 1;
+    }
+    Roots {
+        places,
+        count: roots.count,
     }
 }
 
