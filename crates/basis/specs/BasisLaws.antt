@@ -12,9 +12,10 @@ use Rattle.field.specs.Fields.{Field, modulus, coordinateLaws}
 use Rattle.ring.specs.Power.{low-pow}
 use Rattle.field.specs.Field.{felt}
 use Rattle.columns.specs.Columns.{logLength, offset, values}
-use Rattle.columns.specs.Prepare.{upTo, padded, allBelow}
+use Rattle.columns.specs.Prepare.{allBelow}
+use Rattle.dag.specs.Arrays.{upTo, padded}
 use Rattle.columns.specs.ClassLaws.{below-values}
-use Rattle.columns.specs.ArrayLaws.{length-upTo, getD-upTo, getD-filled}
+use Rattle.dag.specs.ArrayLaws.{length-upTo, getD-upTo, getD-filled}
 use Rattle.coefficients.specs.Terms.{root}
 use Rattle.coefficients.specs.Arrays.{roots}
 use Rattle.periodic.specs.Builder.{done, _>>=_, add}

@@ -6,7 +6,7 @@ ghost use Prim.Native.Nat.{_+_, _-_, _<_, _≤_};
 ghost use lib.ListN.{length};
 ghost use Rattle.field.specs.Fields.{goldilocks};
 ghost use Rattle.field.specs.Field.{p};
-ghost use Rattle.columns.specs.Prepare.{padded};
+ghost use Rattle.dag.specs.Arrays.{padded};
 ghost use Rattle.columns.specs.Contracts as ColumnContracts;
 ghost use Rattle.periodic.specs.Periodic as Periodic;
 ghost use Rattle.periodic.specs.Contracts as PeriodicContracts;

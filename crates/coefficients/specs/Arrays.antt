@@ -9,7 +9,7 @@ use Rattle.ring.specs.Ring.{Ops}
 use Rattle.ring.specs.Power.{pow}
 use Rattle.field.specs.Fields.{Field}
 use Rattle.columns.specs.Columns.{logLength, support}
-use Rattle.columns.specs.Prepare.{upTo, padded}
+use Rattle.dag.specs.Arrays.{upTo, padded}
 use Rattle.coefficients.specs.Terms.{root, dense, scaledValue, twiddle}
 
 -- place j, unless its entry v is 0

@@ -22,8 +22,8 @@ use Rattle.dag.specs.CaseLaws.{le-or-lt, below-suc, cond-elim}
 use Rattle.columns.specs.Columns.{logLength}
 use Rattle.columns.specs.Contracts.{Column}
 use Rattle.columns.specs.LogLaws.{log-le, power-is}
-use Rattle.columns.specs.Prepare.{upTo, padded}
-use Rattle.columns.specs.ArrayLaws.{fill-next, getD-filled, length-upTo, length-padded}
+use Rattle.dag.specs.Arrays.{upTo, padded}
+use Rattle.dag.specs.ArrayLaws.{fill-next, getD-filled, length-upTo, length-padded}
 use Rattle.columns.specs.ClassLaws.{below-at}
 use Rattle.coefficients.specs.Terms.{root, rootInverse, sizeInverse, dense}
 use Rattle.coefficients.specs.Arrays.{powers, copied}

@@ -18,7 +18,8 @@ use Rattle.ring.specs.Sums.{sum, sum-zero, sum-cong, sum-shift, sum-scale}
 use Rattle.field.specs.Field.{felt}
 use Rattle.dag.specs.CaseLaws.{cond-elim}
 use Rattle.columns.specs.Columns.{logLength, count, others, placesFrom, support}
-use Rattle.columns.specs.Prepare.{upTo, padded, allBelow}
+use Rattle.columns.specs.Prepare.{allBelow}
+use Rattle.dag.specs.Arrays.{upTo, padded}
 use Rattle.columns.specs.CountLaws.{count-le}
 use Rattle.columns.specs.ClassLaws.{below-at}
 use Rattle.coefficients.specs.Terms.{root, rootInverse, sizeInverse, dense, scaledValue, twiddle}

@@ -7,7 +7,7 @@ use Rattle.field.specs.Fields.{Field}
 use Rattle.ring.specs.Power.{pow}
 use Rattle.ring.specs.Sums.{sum}
 use Rattle.columns.specs.Columns.{logLength}
-use Rattle.columns.specs.Prepare.{upTo, padded}
+use Rattle.dag.specs.Arrays.{upTo, padded}
 
 module _ (field : Field) where
   -- w^k, where w generates the subgroup of the column's P rows

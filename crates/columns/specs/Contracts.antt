@@ -6,7 +6,8 @@ use mathlib.Core.Path.{_≡_}
 use lib.Dec.{leb, ltb, eqb}
 use lib.ListN.{getD, length}
 use Rattle.columns.specs.Columns.{isPower, values, column, gain, isAmong, saving, threshold}
-use Rattle.columns.specs.Prepare.{total, columns, allBelow, mostColumns, upTo, padded}
+use Rattle.columns.specs.Prepare.{total, columns, allBelow, mostColumns}
+use Rattle.dag.specs.Arrays.{upTo, padded}
 
 -- a column that was tested
 pub record Column (m : ℕ) (c : List ℕ) : Type 0 where

@@ -6,6 +6,5 @@ pub mod CountLaws
 pub mod ClassLaws
 pub mod CostLaws
 pub mod ColumnLaws
-pub mod ArrayLaws
 pub mod PrepareLaws
 pub mod SavingLaws

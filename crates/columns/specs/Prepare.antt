@@ -45,15 +45,6 @@ prepareCheck m ls es =
     then need (leb (total ls) (length es)) StoreTooShort
     then firstRefused (entriesCheck m (columns ls es)) (length ls)
 
--- f 0, f 1, .., f (n − 1)
-unfoldable pub upTo : {A : Type 0} → (ℕ → A) → ℕ → List A
-upTo f zero = []
-upTo f (suc n) = upTo f n ++ (f n ∷ [])
-
--- an array of n elements that begins with ws, then z
-unfoldable pub padded : {A : Type 0} → A → ℕ → List A → List A
-padded z n ws = ws ++ replicate (n - length ws) z
-
 -- the columns' forms as numbers, 0 past the last
 unfoldable pub forms : ℕ → List (List ℕ) → List ℕ
 forms m cs = padded 0 mostColumns (upTo (λ j. formNumber (form m cs j)) (length cs))

@@ -18,7 +18,8 @@ use Rattle.dag.specs.declared.Refusal.the-variants.{StoreTooShort, Malformed, T
 use Rattle.dag.specs.declared.Checked.{Checked}
 use Rattle.dag.specs.declared.Checked.the-variants.{Good, Refused}
 use Rattle.columns.specs.Columns.{isPower, column}
-use Rattle.columns.specs.Prepare.{total, columns, allBelow, lengthCheck, entriesCheck, mostColumns, prepareCheck, padded, forms, answer, prepare}
+use Rattle.columns.specs.Prepare.{total, columns, allBelow, lengthCheck, entriesCheck, mostColumns, prepareCheck, forms, answer, prepare}
+use Rattle.dag.specs.Arrays.{padded}
 use Rattle.columns.specs.LogLaws.{power-pos, power-le}
 use Rattle.columns.specs.ColumnLaws.{length-columns, column-length}
 use Rattle.columns.specs.Contracts.{Column, Handed, Tested}

@@ -11,11 +11,12 @@ use lib.Dec.{leb, ltb, eqb}
 use lib.ListN.{getD, length, List·getD-eq-default}
 use Rattle.dag.specs.CaseLaws.{cond-elim}
 use Rattle.columns.specs.Columns.{column, gain, isAmong, saving, savings, goesOver, isSparse, form}
-use Rattle.columns.specs.Prepare.{columns, upTo, padded, mostColumns}
+use Rattle.columns.specs.Prepare.{columns, mostColumns}
+use Rattle.dag.specs.Arrays.{upTo, padded}
 use Rattle.columns.specs.Contracts.{Handed, Tested, gains, savingsEach, counted, Small, savingsOf, over, Weighed}
 use Rattle.columns.specs.LogLaws.{power-le}
 use Rattle.columns.specs.ColumnLaws.{length-columns, column-length}
-use Rattle.columns.specs.ArrayLaws.{length-upTo, length-padded, getD-filled}
+use Rattle.dag.specs.ArrayLaws.{length-upTo, length-padded, getD-filled}
 use Rattle.columns.specs.CostLaws.{gain-small}
 use Rattle.columns.specs.PrepareLaws.{column-short}
 use Rattle.columns.specs.declared.Form.the-variants.{Sparse, Dense, Basis}

@@ -4,6 +4,7 @@ pub mod Refusals
 pub mod Check
 pub mod Lookup
 pub mod WellFormed
+pub mod Arrays
 pub mod Roots
 pub mod Store
 pub mod BranchLaws
@@ -17,5 +18,6 @@ pub mod CheckLaws
 pub mod StoreLaws
 pub mod WordLaws
 pub mod BlankLaws
+pub mod ArrayLaws
 pub mod RootLaws
 pub mod PassLaws

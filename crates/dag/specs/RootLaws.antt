@@ -1,16 +1,18 @@
 -- Roots one by one, and their new places.
-use Prim.Native.Nat.{ℕ, zero, suc, _+_, _<_, _≤_}
+use Prim.Native.Nat.{ℕ, zero, suc, _+_, _-_, _<_, _≤_}
 use mathlib.Core.List.{List, [], _∷_, _++_, map}
 use mathlib.Core.Path.{_≡_, refl, sym, _∙_, ap}
 use native.Mathlib.Omega.{arith}
 use native.Mathlib.Numerals.{add-one}
-use lib.ListN.{getD, length, set, take, length-set}
-use lib.Seq.{getD-take, take-suc, take-suc-set, length-take-le}
-use Rattle.dag.specs.Roots.{mostRoots, rootsOf, Inside}
+use lib.ListN.{getD, length, set, take, replicate, List·getD-append}
+use lib.Seq.{getD-take, take-suc, length-take-le, take-append-seam}
+use Rattle.dag.specs.Arrays.{padded}
+use Rattle.dag.specs.ArrayLaws.{length-padded, padded-set}
+use Rattle.dag.specs.Roots.{mostRoots, rootsOf, rootsFrom, Inside}
 use Rattle.dag.specs.declared.Roots.{Roots}
 
 module _ (f : ℕ → ℕ) where
-  pub map-snoc : (l : List ℕ) (x : ℕ) → map f (l ++ (x ∷ [])) ≡ map f l ++ (f x ∷ [])
+  map-snoc : (l : List ℕ) (x : ℕ) → map f (l ++ (x ∷ [])) ≡ map f l ++ (f x ∷ [])
   map-snoc [] x = refl
   map-snoc (y ∷ l) x = ap (λ t. f y ∷ t) (map-snoc l x)
 
@@ -24,46 +26,52 @@ module _ (f : ℕ → ℕ) where
   getD-map (x ∷ l) (suc j) h = getD-map l j (omega arith)
 
   -- one root more with its new place
-  pub map-turn : (new old : List ℕ) (j v : ℕ) → j < length new → j < length old → take j new ≡ map f (take j old) → v ≡ f (getD old j 0) → take (j + 1) (set new j v) ≡ map f (take (j + 1) old)
+  pub map-turn : (new old : List ℕ) (j v : ℕ) → j < mostRoots → j < length old → new ≡ padded 0 mostRoots (map f (take j old)) → v ≡ f (getD old j 0) → set new j v ≡ padded 0 mostRoots (map f (take (j + 1) old))
   map-turn new old j v h k e q =
-      rw (add-one j, take-suc old j 0 k, q) (take-suc-set new j (f (getD old j 0)) h ∙ (ap (λ l. l ++ (f (getD old j 0) ∷ [])) e ∙ sym (map-snoc (take j old) (getD old j 0))))
+      let long : length (map f (take j old)) ≡ j = length-map (take j old) ∙ length-take-le j old (omega arith) in
+      rw (e, q, add-one j, take-suc old j 0 k, map-snoc (take j old) (getD old j 0))
+      (ap (λ i. set (padded 0 mostRoots (map f (take j old))) i (f (getD old j 0))) (sym long) ∙ padded-set 0 mostRoots (map f (take j old)) (f (getD old j 0)) (rw long h))
 
--- root j
-pub root-is : (n : ℕ) (r : Roots) → Inside n r → (j : ℕ) → j < r .count → getD (rootsOf r) j 0 ≡ getD (r .places) j 0
-unfolding rootsOf
-root-is n r inside j h = getD-take (r .count) (r .places) j 0 h
+-- the roots that were put in
+pub roots-from : (is : List ℕ) → rootsOf (rootsFrom is) ≡ is
+unfolding rootsOf rootsFrom padded
+roots-from is = take-append-seam is (replicate (mostRoots - length is) 0)
 
-pub length-roots : (n : ℕ) (r : Roots) → Inside n r → length (rootsOf r) ≡ r .count
-unfolding rootsOf
-length-roots n r inside = length-take-le (r .count) (r .places) (rw (inside .long) (inside .few))
+module _ (n : ℕ) (r : Roots) (inside : Inside n r) where
+  pub root-is : (j : ℕ) → j < r .count → getD (rootsOf r) j 0 ≡ getD (r .places) j 0
+  unfolding rootsOf
+  root-is j h = getD-take (r .count) (r .places) j 0 h
 
-pub inside-mono : (m n : ℕ) (r : Roots) → m ≤ n → Inside m r → Inside n r
-inside-mono m n r h inside = record { long = inside .long; few = inside .few; below = λ j k. omega (arith, inside .below j k) }
+  pub length-roots : length (rootsOf r) ≡ r .count
+  unfolding rootsOf
+  length-roots = length-take-le (r .count) (r .places) (rw (inside .long) (inside .few))
 
--- one root
-pub inside-one : (root : ℕ) (r : Roots) → length (r .places) ≡ mostRoots → r .count ≡ 1 → getD (r .places) 0 0 ≡ root → Inside (root + 1) r
-inside-one root r long one is =
+  pub inside-mono : (m : ℕ) → n ≤ m → Inside m r
+  inside-mono m h = record { long = inside .long; few = inside .few; below = λ j k. omega (arith, inside .below j k) }
+
+-- places below n are roots of a list of n records
+pub inside-from : (n : ℕ) (is : List ℕ) → length is ≤ mostRoots → ((j : ℕ) → j < length is → getD is j 0 < n) → Inside n (rootsFrom is)
+unfolding rootsFrom padded
+inside-from n is h low =
     record {
-      long = long;
-      few = omega (arith, one);
-      below = λ j h. let z : j ≡ 0 = omega (arith, one, h) in rw (z, is) (omega arith);
+      long = length-padded 0 mostRoots is h;
+      few = h;
+      below = λ j k. rw (List·getD-append is (replicate (mostRoots - length is) 0) 0 j k) (low j k);
     }
 
-roots-take : (q : Roots) → take (q .count) (q .places) ≡ rootsOf q
-unfolding rootsOf
-roots-take q = refl
+pub inside-one : (n root : ℕ) → root < n → Inside n (rootsFrom (root ∷ []))
+inside-one n root h = inside-from n (root ∷ []) (omega arith) (λ j k. let z : j ≡ 0 = omega arith in rw z h)
 
 -- new places below n are roots of a list of n records
-pub inside-renamed : (f : ℕ → ℕ) (m n : ℕ) (r q : Roots) → Inside m r → length (q .places) ≡ mostRoots → q .count ≡ r .count → rootsOf q ≡ map f (rootsOf r) → ((i : ℕ) → i < m → f i < n) → Inside n q
-inside-renamed f m n r q inside long same e low =
-    record {
-      long = long;
-      few = rw same (inside .few);
-      below = λ j h.
-          let k : j < r .count = rw (sym same) h in
-          let is : getD (q .places) j 0 ≡ f (getD (r .places) j 0) =
-          sym (getD-take (q .count) (q .places) j 0 h)
-          ∙ (ap (λ l. getD l j 0) (roots-take q ∙ e)
-          ∙ (getD-map f (rootsOf r) j (rw (length-roots m r inside) k) ∙ ap f (root-is m r inside j k))) in
-          rw is (low (getD (r .places) j 0) (inside .below j k));
-    }
+pub inside-renamed : (f : ℕ → ℕ) (m n : ℕ) (r : Roots) → Inside m r → ((i : ℕ) → i < m → f i < n) → Inside n (rootsFrom (map f (rootsOf r)))
+inside-renamed f m n r inside low =
+    inside-from n (map f (rootsOf r)) (rw (length-map f (rootsOf r), length-roots m r inside) (inside .few))
+    (λ j k.
+    let h : j < r .count = rw (length-map f (rootsOf r), length-roots m r inside) at k in
+    rw (getD-map f (rootsOf r) j (rw (length-roots m r inside) h), root-is m r inside j h) (low (getD (r .places) j 0) (inside .below j h)))
+
+-- an array with every root's new place
+pub renamed-all : (f : ℕ → ℕ) (m : ℕ) (r : Roots) → Inside m r → (new : List ℕ) (j : ℕ) → j ≡ r .count → new ≡ padded 0 mostRoots (map f (take j (r .places))) → record { places = new; count = r .count } ≡ rootsFrom (map f (rootsOf r))
+unfolding rootsFrom rootsOf
+renamed-all f m r inside new j q e =
+    rw (e, q, length-map f (take (r .count) (r .places)), length-take-le (r .count) (r .places) (rw (inside .long) (inside .few)))

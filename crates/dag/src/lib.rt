@@ -14,7 +14,7 @@ ghost use Rattle.dag.specs.Check as Check;
 ghost use Rattle.dag.specs.Store as Store;
 ghost use Rattle.dag.specs.Lookup as Lookup;
 ghost use Rattle.dag.specs.WellFormed as Well;
-ghost use Rattle.dag.specs.Roots.{rootsOf, Inside, mostRoots};
+ghost use Rattle.dag.specs.Roots.{rootsOf, rootsFrom, Inside};
 
 // The word behind the last one filled.
 pub const BLANK: u64 = 0;
@@ -366,7 +366,7 @@ pub fn renamed(map: &[u64], x: NodeKind) -> NodeKind
 
 // No roots.
 pub fn no_roots() -> Roots
-    ensures { λ r. ⌜ (rootsOf r ≡ []) × Inside 0 r ⌝ }
+    ensures { λ r. ⌜ r ≡ rootsFrom [] ⌝ }
 {
     Roots {
         places: [0u64; MOST_ROOTS],
@@ -376,7 +376,7 @@ pub fn no_roots() -> Roots
 
 // A list's one root.
 pub fn one_root(root: usize) -> Roots
-    ensures { λ r. ⌜ (rootsOf r ≡ root ∷ []) × Inside (root + 1) r ⌝ }
+    ensures { λ r. ⌜ r ≡ rootsFrom (root ∷ []) ⌝ }
 {
     Roots {
         places: [root as u64, 0, 0, 0, 0, 0, 0, 0],
@@ -396,7 +396,7 @@ pub fn root_at(roots: Roots, j: usize) -> usize
 // The new places of a list's roots.
 pub fn renamed_roots(map: &[u64], roots: Roots) -> Roots
     requires { ⌜ Inside (length (now map)) roots ⌝ }
-    ensures { λ r. ⌜ (rootsOf r ≡ Lists.map (λ i. getD (now (map .entry)) i 0) (rootsOf roots)) × (r .count ≡ roots .count) × (length (r .places) ≡ mostRoots) ⌝ }
+    ensures { λ r. ⌜ r ≡ rootsFrom (Lists.map (λ i. getD (now (map .entry)) i 0) (rootsOf roots)) ⌝ }
 {
     let mut places = [0u64; MOST_ROOTS];
     let mut j = 0;

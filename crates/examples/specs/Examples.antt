@@ -18,7 +18,8 @@ use Rattle.plan.specs.Plan.{count, mentions, fanout, sharedFactor, commonFactor
 use Rattle.normalize.specs.Rounds.{planned, round, fired, rounded, isKept, roundsFrom, normalize, Normal}
 use Rattle.columns.specs.Columns.{logWithin, logLength, count as occurrences, isSparse, standalone, placesFrom, withNew, valuesFrom, values, weight, heaviest, dominant, isScaled}
 use Rattle.columns.specs.Columns.{scalings, combinationCost, offset, equalEntries, gain, sameEntries, isAmong, saving, savings, threshold, goesOver, form, formNumber}
-use Rattle.columns.specs.Prepare.{upTo, total, columns, prepareCheck}
+use Rattle.columns.specs.Prepare.{total, columns, prepareCheck}
+use Rattle.dag.specs.Arrays.{upTo}
 use Rattle.dag.specs.Keys.{isKey}
 use Rattle.dag.specs.Check.{formed, earlier, recordCheck, checkAt, recordsCheck, rootlessCheck, listCheck}
 use Rattle.periodic.specs.Builder.{turns, done}

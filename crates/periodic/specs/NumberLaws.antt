@@ -11,8 +11,9 @@ use Rattle.field.specs.Fields.{Field, modulus, coordinateLaws}
 use Rattle.ring.specs.Power.{low-pow}
 use Rattle.ring.specs.Sums.{sum}
 use Rattle.columns.specs.Columns.{logLength, support}
-use Rattle.columns.specs.Prepare.{upTo, padded, allBelow}
-use Rattle.columns.specs.ArrayLaws.{getD-filled, length-upTo, length-padded}
+use Rattle.columns.specs.Prepare.{allBelow}
+use Rattle.dag.specs.Arrays.{upTo, padded}
+use Rattle.dag.specs.ArrayLaws.{getD-filled, length-upTo, length-padded}
 use Rattle.columns.specs.CostLaws.{log-length-le}
 use Rattle.columns.specs.ClassLaws.{below-snoc}
 use Rattle.coefficients.specs.Terms.{rootInverse, sizeInverse, dense, scaledValue, twiddle}

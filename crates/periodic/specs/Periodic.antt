@@ -11,7 +11,7 @@ use Rattle.field.specs.Fields.{Field, modulus}
 use Rattle.field.specs.declared.QuadFelt.{QuadFelt}
 use Rattle.dag.specs.Keys.{ZK}
 use Rattle.columns.specs.Columns.{logLength, logWithin, support, values, offset, column, form}
-use Rattle.columns.specs.Prepare.{upTo}
+use Rattle.dag.specs.Arrays.{upTo}
 use Rattle.columns.specs.declared.Form.{Form}
 use Rattle.columns.specs.declared.Form.the-variants.{Sparse, Dense, Basis}
 use Rattle.coefficients.specs.Terms.{root, sizeInverse, dense, scaledValue, twiddle}

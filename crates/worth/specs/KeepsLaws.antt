@@ -16,7 +16,7 @@ use Rattle.meaning.specs.Values.{valueOf, value}
 use Rattle.meaning.specs.ValueLaws.{value-snoc}
 use Rattle.builder.specs.StepLaws.{step-grown}
 use Rattle.builder.specs.StepValueLaws.{step-value}
-use Rattle.columns.specs.ArrayLaws.{length-upTo, getD-upTo}
+use Rattle.dag.specs.ArrayLaws.{length-upTo, getD-upTo}
 use Rattle.periodic.specs.Builder.{Extends, Builder, done, _>>=_, turns, enter, also}
 use Rattle.periodic.specs.Periodic.{backwards}
 use Rattle.worth.specs.Keeps.{Keeps, Is, Are}

@@ -4,20 +4,20 @@ use mathlib.Core.Path.{_≡_, refl}
 use native.Mathlib.Nat.{lt-of-lt-of-le}
 use native.Mathlib.Omega.{arith}
 use lib.ListN.{length, getD}
-use Rattle.columns.specs.Prepare as Prepare
-use Rattle.columns.specs.ArrayLaws.{fill-next, fill-all}
+use Rattle.dag.specs.Arrays as Arrays
+use Rattle.dag.specs.ArrayLaws.{fill-next, fill-all}
 use Rattle.periodic.specs.Periodic as Periodic
 use Rattle.basis.proofs.backwards.Statement.{statement}
 use Rattle.basis.proofs.backwards.Tie as tie
 
 abbrev Inv-loop : tie.InvT-loop
-Inv-loop places turned₀ i₀ turned i = (i ≤ length places) × (turned ≡ Prepare.padded 0 128 (Prepare.upTo (λ k. getD places (length places - (k + 1)) 0) i))
+Inv-loop places turned₀ i₀ turned i = (i ≤ length places) × (turned ≡ Arrays.padded 0 128 (Arrays.upTo (λ k. getD places (length places - (k + 1)) 0) i))
 
 abbrev μ-loop : tie.MeasureT-loop
 μ-loop places turned₀ i₀ turned i = length places - i
 
 loop-holds : tie.Need-loop-holds Inv-loop μ-loop
-unfolding Prepare.padded Prepare.upTo
+unfolding Arrays.padded Arrays.upTo
 loop-holds c = (omega arith, refl)
 
 add-turned : tie.Need-add-turned Inv-loop μ-loop

@@ -9,13 +9,14 @@ use lib.ListN.{length}
 use Rattle.field.specs.Field.{p}
 use Rattle.columns.specs.Columns as Columns
 use Rattle.columns.specs.Prepare as Prepare
+use Rattle.dag.specs.Arrays as Arrays
 use Rattle.columns.specs.ColumnLaws.{length-columns}
-use Rattle.columns.specs.ArrayLaws.{fill-next, fill-all}
+use Rattle.dag.specs.ArrayLaws.{fill-next, fill-all}
 use Rattle.columns.proofs.forms.Statement.{statement}
 use Rattle.columns.proofs.forms.Tie as tie
 
 abbrev Inv-loop : tie.InvT-loop
-Inv-loop lengths entries gains each forms₀ j₀ forms j = (j ≤ length lengths) × (forms ≡ Prepare.padded 0 16 (Prepare.upTo (λ i. Columns.formNumber (Columns.form p (Prepare.columns lengths entries) i)) j))
+Inv-loop lengths entries gains each forms₀ j₀ forms j = (j ≤ length lengths) × (forms ≡ Arrays.padded 0 16 (Arrays.upTo (λ i. Columns.formNumber (Columns.form p (Prepare.columns lengths entries) i)) j))
 
 abbrev μ-loop : tie.MeasureT-loop
 μ-loop lengths entries gains each forms₀ j₀ forms j = length lengths - j
@@ -30,7 +31,7 @@ savings-each-requires : tie.Need-savings-each-requires Inv-loop μ-loop
 savings-each-requires c κs = (c .before .before .before .before .pre .handed, c .before .gains .ensures)
 
 loop-holds : tie.Need-loop-holds Inv-loop μ-loop
-unfolding Prepare.padded Prepare.upTo
+unfolding Arrays.padded Arrays.upTo
 loop-holds c = (omega arith, refl)
 
 slice-aggregate-column-form : tie.Need-slice-aggregate-column-form Inv-loop μ-loop

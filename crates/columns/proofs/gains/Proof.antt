@@ -1,4 +1,4 @@
-use Rattle.columns.specs.ArrayLaws.{fill-all}
+use Rattle.dag.specs.ArrayLaws.{fill-all}
 use native.Mathlib.Nat.{lt-of-lt-of-le}
 -- The invariant: the places before j are filled.
 use Prim.Native.Nat.{_-_, _≤_}
@@ -8,21 +8,22 @@ use lib.ListN.{length}
 use Rattle.field.specs.Field.{p}
 use Rattle.columns.specs.Columns as Columns
 use Rattle.columns.specs.Prepare as Prepare
+use Rattle.dag.specs.Arrays as Arrays
 use Rattle.columns.specs.Contracts as Said
 use Rattle.columns.specs.ColumnLaws.{length-columns}
-use Rattle.columns.specs.ArrayLaws.{fill-next}
+use Rattle.dag.specs.ArrayLaws.{fill-next}
 use Rattle.columns.specs.PrepareLaws.{tested-column}
 use Rattle.columns.proofs.gains.Statement.{statement}
 use Rattle.columns.proofs.gains.Tie as tie
 
 abbrev Inv-loop : tie.InvT-loop
-Inv-loop lengths entries gains₀ j₀ gains j = (j ≤ length lengths) × (gains ≡ Prepare.padded 0 16 (Prepare.upTo (λ i. Columns.gain p (Columns.column (Prepare.columns lengths entries) i)) j))
+Inv-loop lengths entries gains₀ j₀ gains j = (j ≤ length lengths) × (gains ≡ Arrays.padded 0 16 (Arrays.upTo (λ i. Columns.gain p (Columns.column (Prepare.columns lengths entries) i)) j))
 
 abbrev μ-loop : tie.MeasureT-loop
 μ-loop lengths entries gains₀ j₀ gains j = length lengths - j
 
 loop-holds : tie.Need-loop-holds Inv-loop μ-loop
-unfolding Prepare.padded Prepare.upTo
+unfolding Arrays.padded Arrays.upTo
 loop-holds c = (omega arith, refl)
 
 column-requires : tie.Need-column-requires Inv-loop μ-loop

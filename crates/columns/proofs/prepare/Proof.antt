@@ -1,7 +1,7 @@
 use Rattle.columns.specs.PrepareLaws.{prepare-refused, prepare-good}
 use borrow.Author.Needs.{needs}
 use Rattle.dag.specs.CheckLaws.{good-told, bad-told}
-use Rattle.columns.specs.Prepare as Prepare
+use Rattle.dag.specs.Arrays as Arrays
 use Rattle.columns.specs.PrepareLaws.{prepared}
 use Rattle.columns.proofs.prepare.Statement.{statement}
 use Rattle.columns.proofs.prepare.Tie as tie
@@ -13,7 +13,7 @@ is-refused-requires : tie.Need-is-refused-requires
 is-refused-requires c κs = search needs
 
 returns : tie.Need-returns
-unfolding Prepare.padded
+unfolding Arrays.padded
 returns c = prepare-refused _ _ _ _ (c .before .before .prepare-check .ensures) (bad-told (c .before .before .prepare-check .ensures) (c .before .is-refused .ensures) (c .if1 .taken))
 
 forms-requires : tie.Need-forms-requires

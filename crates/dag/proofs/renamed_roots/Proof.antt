@@ -3,21 +3,23 @@ use mathlib.Core.List as Lists
 use mathlib.Core.Path.{_≡_, refl, _∙_, ap}
 use native.Mathlib.Omega.{arith}
 use native.Mathlib.Nat.{le-antisymm}
-use lib.ListN.{length, getD, take, length-set}
-use Rattle.dag.specs.Roots.{mostRoots, rootsOf}
-use Rattle.dag.specs.RootLaws.{map-turn}
+use lib.ListN.{length, getD, take}
+use Rattle.dag.specs.Arrays.{padded}
+use Rattle.dag.specs.Roots.{mostRoots}
+use Rattle.dag.specs.RootLaws.{map-turn, renamed-all}
 use Rattle.dag.proofs.renamed_roots.Statement.{statement}
 use Rattle.dag.proofs.renamed_roots.Tie as tie
 
 abbrev Inv-loop : tie.InvT-loop
 Inv-loop map roots places₀ j₀ places j =
-    (j ≤ roots .count) × (length places ≡ mostRoots) × (take j places ≡ Lists.map (λ i. getD map i 0) (take j (roots .places)))
+    (j ≤ roots .count) × (places ≡ padded 0 mostRoots (Lists.map (λ i. getD map i 0) (take j (roots .places))))
 
 abbrev μ-loop : tie.MeasureT-loop
 μ-loop map roots places₀ j₀ places j = roots .count - j
 
 loop-holds : tie.Need-loop-holds Inv-loop μ-loop
-loop-holds c = (omega arith, refl, refl)
+unfolding padded
+loop-holds c = (omega arith, refl)
 
 root-at-requires : tie.Need-root-at-requires Inv-loop μ-loop
 root-at-requires c κs =
@@ -58,22 +60,19 @@ loop-again c =
     let at-loop = at-test .before .before in
     let start = at-loop .before .before in (
       omega (arith, at-test .if1 .taken),
-      simp length-set (at-loop .loop .inv .1),
       map-turn (λ i. getD (start .args .map .now) i 0) (at-loop .loop .places) (start .args .roots .places) (at-loop .loop .j) _
-          (omega (arith, at-loop .loop .inv .1, start .pre .few, at-test .if1 .taken))
+          (omega (arith, start .pre .few, at-test .if1 .taken))
           (omega (arith, start .pre .long, start .pre .few, at-test .if1 .taken))
-          (at-loop .loop .inv .2)
+          (at-loop .loop .inv .1)
           (c .mapped .ensures ∙ ap (λ i. getD (start .args .map .now) i 0) (at-root-at .root-at .ensures)),
     )
 
 returns : tie.Need-returns Inv-loop μ-loop
-unfolding rootsOf
 returns c =
-    let at-loop = c .before .before in (
-      rw (le-antisymm (at-loop .loop .inv .0) (c .if1 .left)) at (at-loop .loop .inv .2),
-      refl,
-      at-loop .loop .inv .1,
-    )
+    let at-loop = c .before .before in
+    let start = at-loop .before .before in
+    renamed-all (λ i. getD (start .args .map .now) i 0) (length (start .args .map .now)) (start .args .roots) (start .pre) (at-loop .loop .places) (at-loop .loop .j)
+    (le-antisymm (at-loop .loop .inv .0) (c .if1 .left)) (at-loop .loop .inv .1)
 
 pub renamed-roots-spec : {M : Type 1} → statement M
 renamed-roots-spec =

@@ -6,8 +6,8 @@ use native.Mathlib.Numerals.{add-one}
 use native.Mathlib.Omega.{arith}
 use lib.ListN.{getD, length, set, replicate, length-append, length-replicate, List·getD-append}
 use lib.Seq.{set-at, getD-at}
 use Rattle.dag.specs.CaseLaws.{below-suc-elim}
-use Rattle.columns.specs.Prepare.{upTo, padded}
+use Rattle.dag.specs.Arrays.{upTo, padded}
 
 module _ {A : Type 0} where
   pub length-upTo : (f : ℕ → A) (n : ℕ) → length (upTo f n) ≡ n
