@@ -1,10 +1,9 @@
 -- The list check (document 01), with the bounds of coordinates left open.
-use Prim.Native.Nat.{ℕ, _+_, _*_}
+use Prim.Native.Nat.{ℕ}
 use mathlib.Core.Bool.{Bool, true, cond, _&&_}
-use mathlib.Core.List.{List}
 use lib.Dec.{leb, ltb, eqb}
-use lib.ListN.{getD, length}
 use Rattle.field.specs.Fields.{Bounds}
+use Rattle.dag.specs.View.{View}
 use Rattle.dag.specs.Keys.{isKey}
 use Rattle.dag.specs.Nodes.{mostRecords}
 use Rattle.dag.specs.Refusals.{need, _then_, firstRefused}
@@ -34,11 +33,11 @@ recordCheck m t a b i =
     then need (earlier t a b i) (OperandNotEarlier i)
 
 -- the tests of the record at place i of a store
-unfoldable pub checkAt : Bounds → List ℕ → ℕ → Checked
-checkAt m s i = recordCheck m (getD s (3 * i) 0) (getD s (3 * i + 1) 0) (getD s (3 * i + 2) 0) i
+unfoldable pub checkAt : Bounds → View → ℕ → Checked
+checkAt m s i = recordCheck m (s .tagWord i) (s .firstWord i) (s .secondWord i) i
 
 -- the first bad record among the first n of a store
-abbrev pub recordsCheck : Bounds → List ℕ → ℕ → Checked
+abbrev pub recordsCheck : Bounds → View → ℕ → Checked
 recordsCheck m s = firstRefused (checkAt m s)
 
 -- 2 for a store with less room than is needed
@@ -46,12 +45,12 @@ unfoldable pub roomCheck : ℕ → ℕ → Checked
 roomCheck needed room = need (leb needed room) StoreTooShort
 
 -- the tests of a list of at least `least` records without a root: 1, 2, then the records
-unfoldable pub rootlessCheck : Bounds → ℕ → List ℕ → ℕ → Checked
+unfoldable pub rootlessCheck : Bounds → ℕ → View → ℕ → Checked
 rootlessCheck m least s n =
     need (leb least n && leb n mostRecords) CountOutOfRange
-    then need (leb (3 * n) (length s)) StoreTooShort
+    then roomCheck n (s .room)
     then recordsCheck m s n
 
 -- the list check: n from 1, and last the root, 6
-unfoldable pub listCheck : Bounds → List ℕ → ℕ → ℕ → Checked
+unfoldable pub listCheck : Bounds → View → ℕ → ℕ → Checked
 listCheck m s n root = rootlessCheck m 1 s n then need (ltb root n) RootOutside

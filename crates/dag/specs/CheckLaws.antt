@@ -1,16 +1,15 @@
 -- What the list check gives: each record's words are its node's words, and the list is well-formed.
-use Prim.Native.Nat.{ℕ, zero, suc, _+_, _*_, _≤_, _<_}
+use Prim.Native.Nat.{ℕ, zero, suc, _+_, _≤_, _<_}
 use mathlib.Core.Bool.{Bool, true, false, cond, _&&_, true≢false}
-use mathlib.Core.List.{List}
 use mathlib.Core.Logic.{_⊎_, inl, inr}
 use mathlib.Core.Path.{_≡_, refl, sym, _∙_, ap}
 use native.Mathlib.Numerals.{add-one}
 use native.Mathlib.Omega.{arith}
 use borrow.Author.Tests.{lt-ltb, le-leb, eqb-true, leb-true, ltb-true}
 use lib.Dec.{leb, ltb, eqb}
-use lib.ListN.{getD, length}
 use Rattle.field.specs.declared.QuadFelt.{QuadFelt}
 use Rattle.field.specs.Fields.{Bounds, Within}
+use Rattle.dag.specs.View.{View}
 use Rattle.dag.specs.Keys.{isKey}
 use Rattle.dag.specs.Nodes.{tag, first, second, decode, recordAt, nodes, at}
 use Rattle.dag.specs.NodeLaws.{length-nodes, at-nodes}
@@ -25,8 +24,6 @@ use Rattle.dag.specs.declared.Refusal.{Refusal}
 use Rattle.dag.specs.declared.Refusal.the-variants.{UnknownTag, Malformed, OperandNotEarlier}
 use Rattle.dag.specs.declared.Checked.{Checked}
 use Rattle.dag.specs.declared.Checked.the-variants.{Good, Refused}
-
--- both coordinates below m
 
 pub then-good : (c d : Checked) → c then d ≡ Good → (c ≡ Good) × (d ≡ Good)
 then-good Good d e = (refl, e)
@@ -51,7 +48,6 @@ good-told {r} e f g = sym e ∙ not-refused r (sym f ∙ g)
 pub bad-told : {r d : Checked} {b : Bool} → r ≡ d → b ≡ isRefused r → b ≡ true → isRefused d ≡ true
 bad-told e f g = ap isRefused (sym e) ∙ (sym f ∙ g)
 
--- the first n records one by one
 -- a test at the places below n, one by one
 module _ (test : ℕ → Checked) where
   pub first-none : firstRefused test 0 ≡ Good
@@ -145,7 +141,7 @@ fine-passes m i (Mul a b) f = record { known = omega arith; form = refl; order =
 fine-passes m i (Neg a) f = record { known = omega arith; form = refl; order = rw (lt-ltb a i f) }
 
 -- a list that passes is well-formed
-pub check-well-formed : (m : Bounds) (s : List ℕ) (n : ℕ) → recordsCheck m s n ≡ Good → WellFormed (Within m) (nodes s n)
+pub check-well-formed : (m : Bounds) (s : View) (n : ℕ) → recordsCheck m s n ≡ Good → WellFormed (Within m) (nodes s n)
 unfolding checkAt recordAt
 check-well-formed m s n e =
     well-formed-below (Within m) (nodes s n) λ i h.

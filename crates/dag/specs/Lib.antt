@@ -1,4 +1,5 @@
 pub mod Keys
+pub mod View
 pub mod Nodes
 pub mod Refusals
 pub mod Check
@@ -15,9 +16,10 @@ pub mod NodeLaws
 pub mod LookupLaws
 pub mod WellFormedLaws
 pub mod CheckLaws
+pub mod PassLaws
+pub mod ViewLaws
 pub mod StoreLaws
 pub mod WordLaws
 pub mod BlankLaws
 pub mod ArrayLaws
 pub mod RootLaws
-pub mod PassLaws

@@ -9,6 +9,7 @@ use lib.Dec.{eqb}
 use lib.ListN.{getD, length, length-append, List·getD-append, List·getD-eq-default}
 use lib.Seq.{getD-at}
 use borrow.Author.Tests.{eqb-true, eq-eqb}
+use Rattle.dag.specs.View.{View}
 use Rattle.dag.specs.Nodes.{tag, first, second, decode, recordAt, nodes, at, sameNode}
 use Rattle.dag.specs.CaseLaws.{and-true, below-suc-elim}
 use Rattle.dag.specs.declared.NodeKind.{NodeKind}
@@ -65,12 +66,12 @@ pub length-snoc : {A : Type 0} (l : List A) (x : A) → length (l ++ (x ∷ []))
 length-snoc l x = length-append l (x ∷ []) ∙ add-one (length l)
 
 -- the list that words hold
-pub length-nodes : (s : List ℕ) (n : ℕ) → length (nodes s n) ≡ n
+pub length-nodes : (s : View) (n : ℕ) → length (nodes s n) ≡ n
 unfolding nodes
 length-nodes s zero = refl
 length-nodes s (suc n) = length-snoc (nodes s n) (recordAt s n) ∙ ap suc (length-nodes s n)
 
-pub at-nodes : (s : List ℕ) (n i : ℕ) → i < n → at (nodes s n) i ≡ recordAt s i
+pub at-nodes : (s : View) (n i : ℕ) → i < n → at (nodes s n) i ≡ recordAt s i
 unfolding nodes
 at-nodes s zero i h = absurd (omega arith)
 at-nodes s (suc n) i h =

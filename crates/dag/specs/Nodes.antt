@@ -1,10 +1,11 @@
 -- Records and lists (document 01, 'What is handed over'; `NodeKind` of ir.rs): a record's three words, and the list that words hold.
-use Prim.Native.Nat.{ℕ, zero, suc, _+_, _*_, _-_}
+use Prim.Native.Nat.{ℕ, zero, suc, _*_, _-_}
 use mathlib.Core.Bool.{Bool, cond, _&&_}
 use mathlib.Core.List.{List, [], _∷_, _++_}
 use lib.Dec.{eqb}
 use lib.ListN.{getD, length, replicate}
 use Rattle.field.specs.declared.QuadFelt.{QuadFelt}
+use Rattle.dag.specs.View.{View}
 use Rattle.dag.specs.declared.NodeKind.{NodeKind}
 use Rattle.dag.specs.declared.NodeKind.the-variants.{Input, Constant, Add, Sub, Mul, Neg}
 
@@ -15,6 +16,10 @@ blank = 0
 -- the longest list
 abbrev pub mostRecords : ℕ
 mostRecords = 4096
+
+-- the words that the longest list takes
+abbrev pub mostWords : ℕ
+mostWords = 3 * mostRecords
 
 -- a record's first word
 abbrev pub tag : NodeKind → ℕ
@@ -54,11 +59,11 @@ decode t a b =
     (Neg a)))))
 
 -- the record at place i of a store
-unfoldable pub recordAt : List ℕ → ℕ → NodeKind
-recordAt s i = decode (getD s (3 * i) 0) (getD s (3 * i + 1) 0) (getD s (3 * i + 2) 0)
+unfoldable pub recordAt : View → ℕ → NodeKind
+recordAt s i = decode (s .tagWord i) (s .firstWord i) (s .secondWord i)
 
 -- the list of the first n records of a store
-unfoldable pub nodes : List ℕ → ℕ → List NodeKind
+unfoldable pub nodes : View → ℕ → List NodeKind
 nodes s zero = []
 nodes s (suc n) = nodes s n ++ (recordAt s n ∷ [])
 

@@ -3,24 +3,27 @@ use Prim.Native.Nat.{ℕ, zero, suc, _+_, _*_, _-_, _≤_, _<_}
 use mathlib.Core.List.{List, [], _∷_, _++_, append-assoc}
 use mathlib.Core.Path.{_≡_, refl, _∙_}
 use native.Mathlib.Omega.{arith}
-use lib.ListN.{getD, length, take, drop, set, replicate, length-append, length-drop}
+use lib.ListN.{getD, length, take, drop, set, replicate, length-append, length-drop, length-replicate, take-append-drop}
 use lib.Seq.{drop-cons, set-at, take-at, append-snoc, ext-getD}
 use borrow.Author.Tests.{le-leb, lt-ltb}
-use Rattle.dag.specs.Refusals.{firstRefused}
 use Rattle.field.specs.Fields.{Bounds, Within}
+use Rattle.dag.specs.View.{interleaved}
+use Rattle.dag.specs.ViewLaws.{room-words, words-room}
+use Rattle.dag.specs.Refusals.{firstRefused}
 use Rattle.dag.specs.Nodes.{tag, first, second, recordAt, nodes, at, words, wordsOf, filled, blank, mostRecords}
 use Rattle.dag.specs.NodeLaws.{decode-words, length-nodes, at-nodes, length-snoc}
 use Rattle.dag.specs.Check.{checkAt, recordsCheck, rootlessCheck, listCheck}
 use Rattle.dag.specs.CheckLaws.{passes, fine-passes}
-use Rattle.dag.specs.Store.{put, written, Sound}
-use Rattle.dag.specs.StoreLaws.{words-snoc, length-words}
+use Rattle.dag.specs.PassLaws.{enough-room}
+use Rattle.dag.specs.Store.{put, front, behind, written, stored, blankedBehind, Sound}
+use Rattle.dag.specs.StoreLaws.{words-snoc, length-words, front-words}
 use Rattle.dag.specs.WellFormed.{WellFormed}
 use Rattle.dag.specs.declared.NodeKind.{NodeKind}
 use Rattle.dag.specs.declared.NodeKind.the-variants.{Input}
 use Rattle.dag.specs.declared.Checked.the-variants.{Good}
 
 pub written-nil : (s : List ℕ) → written s [] ≡ s
-unfolding written wordsOf
+unfolding written wordsOf behind
 written-nil s = refl
 
 -- the three words of the record at place i
@@ -42,41 +45,41 @@ module _ (t : List ℕ) where
       record { tag-is = rw e₀ (w .tag-is); first-is = rw e₁ (w .first-is); second-is = rw e₂ (w .second-is) }
 
   -- the store holds the list
-  pub nodes-words : (l : List NodeKind) → nodes (wordsOf l ++ t) (length l) ≡ l
-  unfolding at recordAt
+  pub nodes-words : (l : List NodeKind) → nodes (interleaved (wordsOf l ++ t)) (length l) ≡ l
+  unfolding at recordAt interleaved
   nodes-words l =
-      ext-getD (Input 0) (nodes (wordsOf l ++ t) (length l)) l (length-nodes (wordsOf l ++ t) (length l)) λ i h.
-      let k : i < length l = omega (arith, length-nodes (wordsOf l ++ t) (length l)) in
+      ext-getD (Input 0) (nodes (interleaved (wordsOf l ++ t)) (length l)) l (length-nodes (interleaved (wordsOf l ++ t)) (length l)) λ i h.
+      let k : i < length l = omega (arith, length-nodes (interleaved (wordsOf l ++ t)) (length l)) in
       let w = words-at l i k in
-      at-nodes (wordsOf l ++ t) (length l) i k ∙ rw (w .tag-is, w .first-is, w .second-is) (decode-words (at l i))
+      at-nodes (interleaved (wordsOf l ++ t)) (length l) i k ∙ rw (w .tag-is, w .first-is, w .second-is) (decode-words (at l i))
 
   module _ (m : Bounds) (l : List NodeKind) (f : WellFormed (Within m) l) where
-    check-words : (i : ℕ) → i < length l → checkAt m (wordsOf l ++ t) i ≡ Good
-    unfolding checkAt WellFormed
+    check-words : (i : ℕ) → i < length l → checkAt m (interleaved (wordsOf l ++ t)) i ≡ Good
+    unfolding checkAt WellFormed interleaved
     check-words i h =
         let w = words-at l i h in
         rw (w .tag-is, w .first-is, w .second-is) (passes m _ _ _ i (fine-passes m i (at l i) (f i)))
 
-    checks-words : (n : ℕ) → n ≤ length l → recordsCheck m (wordsOf l ++ t) n ≡ Good
+    checks-words : (n : ℕ) → n ≤ length l → recordsCheck m (interleaved (wordsOf l ++ t)) n ≡ Good
     unfolding firstRefused
     checks-words zero h = refl
     checks-words (suc n) h = rw (checks-words n (omega arith)) (check-words n h)
 
     -- the store passes the tests of records
-    pub sound-words : Sound m (wordsOf l ++ t) (length l)
+    pub sound-words : Sound m (interleaved (wordsOf l ++ t)) (length l)
     sound-words =
         record {
-          room = omega (arith, length-append (wordsOf l) t, length-words l);
+          room = words-room (wordsOf l ++ t) (length l) (omega (arith, length-append (wordsOf l) t, length-words l));
           good = checks-words (length l) (omega arith);
         }
 
     -- the store passes the tests of a list of at least `least` records
-    pub words-rootless : (least : ℕ) → least ≤ length l → length l ≤ mostRecords → rootlessCheck m least (wordsOf l ++ t) (length l) ≡ Good
+    pub words-rootless : (least : ℕ) → least ≤ length l → length l ≤ mostRecords → rootlessCheck m least (interleaved (wordsOf l ++ t)) (length l) ≡ Good
     unfolding rootlessCheck
-    words-rootless least h k = simp (le-leb least (length l) h, le-leb (length l) mostRecords k, le-leb _ _ (sound-words .room), sound-words .good)
+    words-rootless least h k = simp (le-leb least (length l) h, le-leb (length l) mostRecords k, enough-room _ _ (sound-words .room), sound-words .good)
 
     -- the store passes the list check
-    pub words-pass : (root : ℕ) → root < length l → length l ≤ mostRecords → listCheck m (wordsOf l ++ t) (length l) root ≡ Good
+    pub words-pass : (root : ℕ) → root < length l → length l ≤ mostRecords → listCheck m (interleaved (wordsOf l ++ t)) (length l) root ≡ Good
     unfolding listCheck
     words-pass root h k = rw (words-rootless 1 (omega arith) k, lt-ltb root (length l) h)
 
@@ -90,33 +93,85 @@ set-three p ys a b c x y z n e =
     (simp append-assoc)))
 
 -- a record written behind the last one
-pub written-put : (s : List ℕ) (l : List NodeKind) (x : NodeKind) → 3 * length l + 2 < length s → put (written s l) (length l) x ≡ written s (l ++ (x ∷ []))
-unfolding written put words
+pub written-put : (s : List ℕ) (l : List NodeKind) (x : NodeKind) → length l < interleaved s .room → put (written s l) (length l) x ≡ written s (l ++ (x ∷ []))
+unfolding written put words behind
 written-put s l x h =
     rw (split, length-snoc l x, words-snoc l x, three)
     (set-three (wordsOf l) (drop (suc (suc (suc (3 * length l)))) s) _ _ _ (tag x) (first x) (second x) (3 * length l) (length-words l))
   where
+    fits : 3 * suc (length l) ≤ length s
+    fits = room-words s (suc (length l)) h
+
     split : drop (3 * length l) s ≡ getD s (3 * length l) 0 ∷ getD s (suc (3 * length l)) 0 ∷ getD s (suc (suc (3 * length l))) 0 ∷ drop (suc (suc (suc (3 * length l)))) s
-    split = rw (drop-cons s (3 * length l) 0 (omega arith), drop-cons s (suc (3 * length l)) 0 (omega arith), drop-cons s (suc (suc (3 * length l))) 0 (omega arith))
+    split = rw (drop-cons s (3 * length l) 0 (omega (arith, fits)), drop-cons s (suc (3 * length l)) 0 (omega (arith, fits)), drop-cons s (suc (suc (3 * length l))) 0 (omega (arith, fits)))
 
     three : 3 * suc (length l) ≡ suc (suc (suc (3 * length l)))
     three = omega arith
 
-module _ (s : List ℕ) (l : List NodeKind) (h : 3 * length l ≤ length s) where
+module _ (s : List ℕ) (l : List NodeKind) (h : length l ≤ interleaved s .room) where
   pub length-written : length (written s l) ≡ length s
-  unfolding written
-  length-written = omega (arith, length-append (wordsOf l) (drop (3 * length l) s), length-words l, length-drop (3 * length l) s)
+  unfolding written behind
+  length-written = omega (arith, room-words s (length l) h, length-append (wordsOf l) (drop (3 * length l) s), length-words l, length-drop (3 * length l) s)
 
   -- with blanks behind the list, a result store
-  pub written-filled : take (3 * length l) (written s l) ++ replicate (length (written s l) - 3 * length l) blank ≡ filled (length s) (wordsOf l)
-  unfolding written filled
-  written-filled =
-      rw (length-written, take-at (wordsOf l) (drop (3 * length l) s) (3 * length l) (length-words l), length-words l)
+  pub written-stored : blankedBehind (written s l) (length l) ≡ stored s l
+  unfolding stored filled blankedBehind written behind
+  written-stored = rw (length-written, front-written, length-words l)
+    where
+      front-written : take (3 * length l) (wordsOf l ++ drop (3 * length l) s) ≡ wordsOf l
+      front-written = take-at (wordsOf l) (drop (3 * length l) s) (3 * length l) (length-words l)
 
-pub nodes-written : (s : List ℕ) (l : List NodeKind) → nodes (written s l) (length l) ≡ l
+pub nodes-written : (s : List ℕ) (l : List NodeKind) → nodes (interleaved (written s l)) (length l) ≡ l
 unfolding written
-nodes-written s l = nodes-words (drop (3 * length l) s) l
+nodes-written s l = nodes-words (behind (length l) s) l
 
-pub sound-written : (m : Bounds) (s : List ℕ) (l : List NodeKind) → WellFormed (Within m) l → Sound m (written s l) (length l)
+pub sound-written : (m : Bounds) (s : List ℕ) (l : List NodeKind) → WellFormed (Within m) l → Sound m (interleaved (written s l)) (length l)
 unfolding written
-sound-written m s l f = sound-words (drop (3 * length l) s) m l f
+sound-written m s l f = sound-words (behind (length l) s) m l f
+
+-- a store that holds a list
+module _ (s : List ℕ) (l : List NodeKind) where
+  pub nodes-stored : nodes (interleaved (stored s l)) (length l) ≡ l
+  unfolding stored filled
+  nodes-stored = nodes-words (replicate (length s - length (wordsOf l)) blank) l
+
+  pub front-stored : front (length l) (stored s l) ≡ wordsOf l
+  unfolding stored filled front
+  front-stored = take-at (wordsOf l) (replicate (length s - length (wordsOf l)) blank) (3 * length l) (length-words l)
+
+  pub length-stored : length l ≤ interleaved s .room → length (stored s l) ≡ length s
+  unfolding stored filled
+  length-stored h =
+      omega
+      (arith, room-words s (length l) h, length-append (wordsOf l) (replicate (length s - length (wordsOf l)) blank), length-words l
+      , length-replicate (length s - length (wordsOf l)) blank)
+
+  module _ (m : Bounds) (f : WellFormed (Within m) l) where
+    pub sound-stored : Sound m (interleaved (stored s l)) (length l)
+    unfolding stored filled
+    sound-stored = sound-words (replicate (length s - length (wordsOf l)) blank) m l f
+
+    pub stored-rootless : (least : ℕ) → least ≤ length l → length l ≤ mostRecords → rootlessCheck m least (interleaved (stored s l)) (length l) ≡ Good
+    unfolding stored filled
+    stored-rootless = words-rootless (replicate (length s - length (wordsOf l)) blank) m l f
+
+    pub stored-pass : (root : ℕ) → root < length l → length l ≤ mostRecords → listCheck m (interleaved (stored s l)) (length l) root ≡ Good
+    unfolding stored filled
+    stored-pass = words-pass (replicate (length s - length (wordsOf l)) blank) m l f
+
+-- blanks behind a list that passes
+pub blanked-stored : (m : Bounds) (s d : List ℕ) (n : ℕ) → Sound m (interleaved s) n → length s ≡ length d → blankedBehind s n ≡ stored d (nodes (interleaved s) n)
+unfolding blankedBehind stored filled front
+blanked-stored m s d n sound e =
+    rw (front-take, e, length-words (nodes (interleaved s) n), length-nodes (interleaved s) n)
+  where
+    front-take : take (3 * n) s ≡ wordsOf (nodes (interleaved s) n)
+    front-take = front-words m s n sound
+
+-- a store's own list written over it
+pub written-own : (m : Bounds) (s : List ℕ) (n : ℕ) → Sound m (interleaved s) n → written s (nodes (interleaved s) n) ≡ s
+unfolding written behind front
+written-own m s n sound = rw (length-nodes (interleaved s) n, ← front-take) (take-append-drop (3 * n) s)
+  where
+    front-take : take (3 * n) s ≡ wordsOf (nodes (interleaved s) n)
+    front-take = front-words m s n sound

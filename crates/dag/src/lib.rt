@@ -7,6 +7,7 @@ ghost use mathlib.Core.List.{[], _∷_, _++_};
 ghost use mathlib.Core.List as Lists;
 ghost use lib.ListN.{length, getD, take, replicate};
 ghost use Rattle.field.specs.Fields.{goldilocks};
+ghost use Rattle.dag.specs.View.{interleaved};
 ghost use Rattle.dag.specs.Keys as Keys;
 ghost use Rattle.dag.specs.Nodes as Nodes;
 ghost use Rattle.dag.specs.Refusals as Refusals;
@@ -195,18 +196,49 @@ pub fn is_refused(c: Checked) -> bool
     }
 }
 
+// How many records a store has room for.
+pub fn room(list: &[u64]) -> usize
+    ensures { λ r. ⌜ r ≡ interleaved (now (list .entry)) .room ⌝ }
+{
+    list.len() / 3
+}
+
+// The first word of the record at place i: its tag.
+pub fn tag_at(list: &[u64], i: usize) -> u64
+    requires { ⌜ i < interleaved (now list) .room ⌝ }
+    ensures { λ r. ⌜ r ≡ interleaved (now (list .entry)) .tagWord i ⌝ }
+{
+    list[3 * i]
+}
+
+// Its second word.
+pub fn first_at(list: &[u64], i: usize) -> u64
+    requires { ⌜ i < interleaved (now list) .room ⌝ }
+    ensures { λ r. ⌜ r ≡ interleaved (now (list .entry)) .firstWord i ⌝ }
+{
+    list[3 * i + 1]
+}
+
+// Its third word.
+pub fn second_at(list: &[u64], i: usize) -> u64
+    requires { ⌜ i < interleaved (now list) .room ⌝ }
+    ensures { λ r. ⌜ r ≡ interleaved (now (list .entry)) .secondWord i ⌝ }
+{
+    list[3 * i + 2]
+}
+
 // The tests of the record at place i.
 fn check_at(list: &[u64], i: usize) -> Checked
-    requires { ⌜ 3 * i + 2 < length (now list) ⌝ }
-    ensures { λ r. ⌜ r ≡ Check.checkAt (goldilocks .bounds) (now (list .entry)) i ⌝ }
+    requires { ⌜ i < interleaved (now list) .room ⌝ }
+    ensures { λ r. ⌜ r ≡ Check.checkAt (goldilocks .bounds) (interleaved (now (list .entry))) i ⌝ }
 {
-    record_check(list[3 * i], list[3 * i + 1], list[3 * i + 2], i)
+    record_check(tag_at(list, i), first_at(list, i), second_at(list, i), i)
 }
 
 // The first bad record among the first n.
 fn records_check(list: &[u64], n: usize) -> Checked
-    requires { ⌜ 3 * n ≤ length (now list) ⌝ }
-    ensures { λ r. ⌜ r ≡ Check.recordsCheck (goldilocks .bounds) (now (list .entry)) n ⌝ }
+    requires { ⌜ n ≤ interleaved (now list) .room ⌝ }
+    ensures { λ r. ⌜ r ≡ Check.recordsCheck (goldilocks .bounds) (interleaved (now (list .entry))) n ⌝ }
 {
     let mut i = 0;
     while i < n {
@@ -231,7 +263,7 @@ pub fn room_check(needed: usize, room: usize) -> Checked
 
 // The tests of a list of at least `least` records without a root: 1, 2, then the records.
 pub fn rootless_check(list: &[u64], n: usize, least: usize) -> Checked
-    ensures { λ r. ⌜ r ≡ Check.rootlessCheck (goldilocks .bounds) least (now (list .entry)) n ⌝ }
+    ensures { λ r. ⌜ r ≡ Check.rootlessCheck (goldilocks .bounds) least (interleaved (now (list .entry))) n ⌝ }
 {
     if n < least {
         return Checked::Refused(Refusal::CountOutOfRange);
@@ -239,15 +271,16 @@ pub fn rootless_check(list: &[u64], n: usize, least: usize) -> Checked
     if MOST_RECORDS < n {
         return Checked::Refused(Refusal::CountOutOfRange);
     }
-    if list.len() < 3 * n {
-        return Checked::Refused(Refusal::StoreTooShort);
+    let short = room_check(n, room(list));
+    if is_refused(short) {
+        return short;
     }
     records_check(list, n)
 }
 
 // The list check, with a root.
 pub fn list_check(list: &[u64], n: usize, root: usize) -> Checked
-    ensures { λ r. ⌜ r ≡ Check.listCheck (goldilocks .bounds) (now (list .entry)) n root ⌝ }
+    ensures { λ r. ⌜ r ≡ Check.listCheck (goldilocks .bounds) (interleaved (now (list .entry))) n root ⌝ }
 {
     let checked = rootless_check(list, n, 1);
     if is_refused(checked) {
@@ -283,10 +316,10 @@ pub fn decode(t: u64, a: u64, b: u64) -> NodeKind
 
 // The record at place i.
 pub fn node_at(list: &[u64], i: usize) -> NodeKind
-    requires { ⌜ 3 * i + 2 < length (now list) ⌝ }
-    ensures { λ r. ⌜ r ≡ Nodes.recordAt (now (list .entry)) i ⌝ }
+    requires { ⌜ i < interleaved (now list) .room ⌝ }
+    ensures { λ r. ⌜ r ≡ Nodes.recordAt (interleaved (now (list .entry))) i ⌝ }
 {
-    decode(list[3 * i], list[3 * i + 1], list[3 * i + 2])
+    decode(tag_at(list, i), first_at(list, i), second_at(list, i))
 }
 
 // A record's first word.
@@ -333,7 +366,7 @@ pub fn second_of(x: NodeKind) -> u64
 
 // Writes the record x at place i.
 pub fn put_node(list: &mut [u64], i: usize, x: NodeKind)
-    requires { ⌜ 3 * i + 2 < length (now list) ⌝ }
+    requires { ⌜ i < interleaved (now list) .room ⌝ }
     ensures { λ _. ⌜ now (list .exit) ≡ Store.put (now (list .entry)) i x ⌝ }
 {
     list[3 * i] = tag_of(x);
@@ -412,12 +445,12 @@ pub fn renamed_roots(map: &[u64], roots: Roots) -> Roots
 
 // Whether the record at place i has the words t, a, b.
 pub fn words_are(list: &[u64], i: usize, t: u64, a: u64, b: u64) -> bool
-    requires { ⌜ 3 * i + 2 < length (now list) ⌝ }
-    ensures { λ r. ⌜ r ≡ Store.wordsAre (now (list .entry)) i t a b ⌝ }
+    requires { ⌜ i < interleaved (now list) .room ⌝ }
+    ensures { λ r. ⌜ r ≡ Store.wordsAre (interleaved (now (list .entry))) i t a b ⌝ }
 {
-    if list[3 * i] == t {
-        if list[3 * i + 1] == a {
-            return list[3 * i + 2] == b;
+    if tag_at(list, i) == t {
+        if first_at(list, i) == a {
+            return second_at(list, i) == b;
         }
     }
     false
@@ -425,8 +458,8 @@ pub fn words_are(list: &[u64], i: usize, t: u64, a: u64, b: u64) -> bool
 
 // The greatest place of a record equal to x among the first n.
 pub fn lookup(list: &[u64], n: usize, x: NodeKind) -> Found
-    requires { ⌜ Store.Records (now list) n ⌝ }
-    ensures { λ r. ⌜ r ≡ Lookup.lookup (Nodes.nodes (now (list .entry)) n) x n ⌝ }
+    requires { ⌜ Store.Records (interleaved (now list)) n ⌝ }
+    ensures { λ r. ⌜ r ≡ Lookup.lookup (Nodes.nodes (interleaved (now (list .entry))) n) x n ⌝ }
 {
     let t = tag_of(x);
     let a = first_of(x);
@@ -453,6 +486,14 @@ pub fn copy_words(from: &[u64], m: usize, to: &mut [u64])
     }
 }
 
+// Copies the first n records of a store to the start of another.
+pub fn copy_records(from: &[u64], n: usize, to: &mut [u64])
+    requires { ⌜ (n ≤ interleaved (now from) .room) × (n ≤ interleaved (now to) .room) ⌝ }
+    ensures { λ _. ⌜ now (to .exit) ≡ Store.copiedRecords (now (from .entry)) (now (to .entry)) n ⌝ }
+{
+    copy_words(from, 3 * n, to);
+}
+
 // Fills a store with a word from a place on.
 pub fn fill(store: &mut [u64], from: usize, word: u64)
     requires { ⌜ from ≤ length (now store) ⌝ }
@@ -471,6 +512,14 @@ pub fn blank_from(store: &mut [u64], from: usize)
     ensures { λ _. ⌜ now (store .exit) ≡ take from (now (store .entry)) ++ replicate (length (now (store .entry)) - from) Nodes.blank ⌝ }
 {
     fill(store, from, BLANK);
+}
+
+// Blanks a store behind its first n records.
+pub fn blank_records(store: &mut [u64], n: usize)
+    requires { ⌜ n ≤ interleaved (now store) .room ⌝ }
+    ensures { λ _. ⌜ now (store .exit) ≡ Store.blankedBehind (now (store .entry)) n ⌝ }
+{
+    blank_from(store, 3 * n);
 }
 
 // A refusal's number.

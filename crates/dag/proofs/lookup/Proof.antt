@@ -1,3 +1,4 @@
+use Rattle.dag.specs.View.{interleaved}
 use Rattle.dag.specs.BranchLaws.{told}
 use Rattle.dag.specs.StoreLaws.{search-on, search-hit, search-none}
 use Prim.Native.Nat.{_≤_}
@@ -9,7 +10,7 @@ use Rattle.dag.proofs.lookup.Statement.{statement}
 use Rattle.dag.proofs.lookup.Tie as tie
 
 abbrev Inv-loop : tie.InvT-loop
-Inv-loop list n t a b i₀ i = (i ≤ n) × (Store.lookupWords list t a b n ≡ Store.lookupWords list t a b i)
+Inv-loop list n t a b i₀ i = (i ≤ n) × (Store.lookupWords (interleaved list) t a b n ≡ Store.lookupWords (interleaved list) t a b i)
 
 abbrev μ-loop : tie.MeasureT-loop
 μ-loop list n t a b i₀ i = i
@@ -43,7 +44,7 @@ returns c =
     let at-first-of = at-second-of .before in
     let at-tag-of = at-first-of .before in
     let start = at-tag-of .before .before in
-    search-hit (start .pre .0) (start .args .list .now) (start .args .n) (start .args .x) (at-tag-of .tag-of .result) (at-first-of .first-of .result)
+    search-hit (start .pre .0) (interleaved (start .args .list .now)) (start .args .n) (start .args .x) (at-tag-of .tag-of .result) (at-first-of .first-of .result)
     (at-second-of .second-of .result) (start .pre .1) (at-tag-of .tag-of .ensures) (at-first-of .first-of .ensures) (at-second-of .second-of .ensures)
     (at-loop .loop .i) (at-loop-test .loop-test .taken) (at-loop .loop .inv .1) (told (at-words-are .words-are .ensures) (c .if1 .taken))
 
@@ -60,7 +61,7 @@ loop-again c =
     let at-tag-of = at-first-of .before in
     let start = at-tag-of .before .before in (
       omega arith,
-      search-on (start .pre .0) (start .args .list .now) (start .args .n) (start .args .x) (at-tag-of .tag-of .result) (at-first-of .first-of .result)
+      search-on (start .pre .0) (interleaved (start .args .list .now)) (start .args .n) (start .args .x) (at-tag-of .tag-of .result) (at-first-of .first-of .result)
           (at-second-of .second-of .result) (at-loop .loop .i) (at-loop-test .loop-test .taken) (at-loop .loop .inv .1)
           (told (at-words-are .words-are .ensures) (c .if1 .left)),
     )
@@ -72,7 +73,7 @@ returns-2 c =
     let at-first-of = at-second-of .before in
     let at-tag-of = at-first-of .before in
     let start = at-tag-of .before .before in
-    search-none (start .pre .0) (start .args .list .now) (start .args .n) (start .args .x) (at-tag-of .tag-of .result) (at-first-of .first-of .result)
+    search-none (start .pre .0) (interleaved (start .args .list .now)) (start .args .n) (start .args .x) (at-tag-of .tag-of .result) (at-first-of .first-of .result)
     (at-second-of .second-of .result) (start .pre .1) (at-tag-of .tag-of .ensures) (at-first-of .first-of .ensures) (at-second-of .second-of .ensures)
     (at-loop .loop .i) (c .loop-test .left) (at-loop .loop .inv .1)
 

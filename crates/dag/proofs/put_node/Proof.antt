@@ -1,7 +1,8 @@
 use native.Mathlib.Omega.{arith}
 use lib.ListN.{length-set}
-use Rattle.dag.specs.Store as Store
 use borrow.Author.Needs.{needs}
+use Rattle.dag.specs.Store as Store
+use Rattle.dag.specs.View.{interleaved}
 use Rattle.dag.proofs.put_node.Statement.{statement}
 use Rattle.dag.proofs.put_node.Tie as tie
 
@@ -9,43 +10,54 @@ tag-of-requires : tie.Need-tag-of-requires
 tag-of-requires c κs = search needs
 
 mul-list : tie.Need-mul-list
+unfolding interleaved
 mul-list c = search needs
 
 mul-list-2 : tie.Need-mul-list-2
+unfolding interleaved
 mul-list-2 c = search needs
 
 slice-write-list : tie.Need-slice-write-list
+unfolding interleaved
 slice-write-list c = search needs
 
 first-of-requires : tie.Need-first-of-requires
 first-of-requires c κs = search needs
 
 mul-list-3 : tie.Need-mul-list-3
+unfolding interleaved
 mul-list-3 c = search needs
 
 add-list : tie.Need-add-list
+unfolding interleaved
 add-list c = search needs
 
 mul-list-4 : tie.Need-mul-list-4
+unfolding interleaved
 mul-list-4 c = search needs
 
 slice-write-list-2 : tie.Need-slice-write-list-2
+unfolding interleaved
 slice-write-list-2 c = simp length-set (omega arith)
 
 second-of-requires : tie.Need-second-of-requires
 second-of-requires c κs = search needs
 
 mul-list-5 : tie.Need-mul-list-5
+unfolding interleaved
 mul-list-5 c = search needs
 
 add-list-2 : tie.Need-add-list-2
+unfolding interleaved
 add-list-2 c = search needs
 
 mul-list-6 : tie.Need-mul-list-6
+unfolding interleaved
 mul-list-6 c = search needs
 
 slice-write-list-3 : tie.Need-slice-write-list-3
-slice-write-list-3 c = search needs
+unfolding interleaved
+slice-write-list-3 c = simp length-set (omega arith)
 
 same-length : tie.Need-same-length
 same-length c = search needs

@@ -1,3 +1,4 @@
+use Rattle.dag.specs.View.{interleaved}
 use Rattle.dag.specs.Refusals.{firstRefused}
 use Rattle.field.specs.Fields.{goldilocks}
 use Rattle.dag.specs.CheckLaws.{good-told, bad-told}
@@ -14,7 +15,7 @@ use Rattle.dag.proofs.records_check.Statement.{statement}
 use Rattle.dag.proofs.records_check.Tie as tie
 
 abbrev Inv-loop : tie.InvT-loop
-Inv-loop list n i₀ i = (i ≤ n) × (Check.recordsCheck (goldilocks .bounds) list i ≡ Good)
+Inv-loop list n i₀ i = (i ≤ n) × (Check.recordsCheck (goldilocks .bounds) (interleaved list) i ≡ Good)
 
 abbrev μ-loop : tie.MeasureT-loop
 μ-loop list n i₀ i = n - i
