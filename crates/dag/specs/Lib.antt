@@ -13,6 +13,7 @@ pub mod CaseLaws
 pub mod KeyLaws
 pub mod RefusalLaws
 pub mod NodeLaws
+pub mod SearchLaws
 pub mod LookupLaws
 pub mod WellFormedLaws
 pub mod CheckLaws

@@ -1,9 +1,8 @@
 -- Stores that pass the list check, and what writing a record does to one.
-use Prim.Native.Nat.{ℕ, zero, suc, _+_, _*_, _-_, _≤_, _<_}
-use mathlib.Core.Bool.{true, false, cond}
+use Prim.Native.Nat.{ℕ, zero, suc, _+_, _*_, _≤_, _<_}
 use mathlib.Core.List.{List, [], _∷_, _++_, append-assoc}
 use mathlib.Core.Path.{_≡_, refl, sym, _∙_, ap, ap₂}
-use native.Mathlib.Numerals.{add-three, towards-suc, sub-one}
+use native.Mathlib.Numerals.{add-three, towards-suc}
 use native.Mathlib.Nat.{mul-suc}
 use native.Mathlib.Omega.{arith}
 use lib.ListN.{getD, length, set, take, length-set}
@@ -16,11 +15,11 @@ use Rattle.dag.specs.NodeLaws.{decode-words, at-nodes}
 use Rattle.dag.specs.Refusals.{firstRefused}
 use Rattle.dag.specs.Check.{checkAt, recordsCheck}
 use Rattle.dag.specs.CheckLaws.{first-good, then-good, passed, passes, faithful, fine-passes, check-well-formed}
-use Rattle.dag.specs.Lookup.{greatest, lookup}
+use Rattle.dag.specs.Lookup.{lookup}
+use Rattle.dag.specs.SearchLaws.{greatest-same}
 use Rattle.dag.specs.Store.{put, front, wordsAre, lookupWords, Sound}
 use Rattle.dag.specs.WellFormed.{Fine, WellFormed}
 use Rattle.dag.specs.declared.NodeKind.{NodeKind}
-use Rattle.dag.specs.declared.Found.the-variants.{At, Missing}
 use Rattle.dag.specs.declared.Checked.the-variants.{Good}
 
 -- the words of a record that passes
@@ -49,16 +48,8 @@ module _ (m : Bounds) (s : View) (n : ℕ) (sound : Sound m s n) where
   unfolding wordsAre sameNode
   words-are-same x i h = rw (at-nodes s n i h, tag-word i h, first-word i h, second-word i h)
 
-  pub lookup-words : (x : NodeKind) (k : ℕ) → k ≤ n → lookupWords s (tag x) (first x) (second x) k ≡ lookup (nodes s n) x k
-  unfolding greatest
-  lookup-words x zero h = refl
-  lookup-words x (suc k) h = rw (words-are-same x k (omega arith), lookup-words x k (omega arith))
-
--- one step of the search downward
-pub lookup-step : (s : View) (t a b i : ℕ) → 0 < i → lookupWords s t a b i ≡ cond (wordsAre s (i - 1) t a b) (At (i - 1)) (lookupWords s t a b (i - 1))
-unfolding greatest
-lookup-step s t a b zero h = absurd (omega arith)
-lookup-step s t a b (suc i) h = rw (sub-one (suc i))
+  lookup-words : (x : NodeKind) → lookupWords s (tag x) (first x) (second x) n ≡ lookup (nodes s n) x n
+  lookup-words x = greatest-same (λ i. wordsAre s i (tag x) (first x) (second x)) (λ i. sameNode (at (nodes s n) i) x) n (words-are-same x)
 
 -- a store with a record written
 module _ (s : List ℕ) (i : ℕ) (x : NodeKind) where
@@ -157,19 +148,6 @@ front-words m s (suc n) sound =
     three : getD s (3 * n) 0 ∷ getD s (3 * n + 1) 0 ∷ getD s (3 * n + 2) 0 ∷ [] ≡ words (recordAt (interleaved s) n)
     three = sym (record-words m (interleaved s) (suc n) sound n (omega arith) ∙ held s n)
 
--- the search downward over the words t, a, b of a record x
-module _ (m : Bounds) (s : View) (n : ℕ) (x : NodeKind) (t a b : ℕ) where
-  pub search-on : (i : ℕ) → 0 < i → lookupWords s t a b n ≡ lookupWords s t a b i → wordsAre s (i - 1) t a b ≡ false → lookupWords s t a b n ≡ lookupWords s t a b (i - 1)
-  search-on i h inv miss = inv ∙ (lookup-step s t a b i h ∙ rw miss)
-
-  module _ (sound : Sound m s n) (et : t ≡ tag x) (ea : a ≡ first x) (eb : b ≡ second x) where
-    whole : lookupWords s t a b n ≡ lookup (nodes s n) x n
-    whole = rw (et, ea, eb) (lookup-words m s n sound x n (omega arith))
-
-    pub search-hit : (i : ℕ) → 0 < i → lookupWords s t a b n ≡ lookupWords s t a b i → wordsAre s (i - 1) t a b ≡ true → At (i - 1) ≡ lookup (nodes s n) x n
-    search-hit i h inv hit = sym (inv ∙ (lookup-step s t a b i h ∙ rw hit)) ∙ whole
-
-    pub search-none : (i : ℕ) → i ≤ 0 → lookupWords s t a b n ≡ lookupWords s t a b i → Missing ≡ lookup (nodes s n) x n
-    unfolding greatest
-    search-none zero h inv = sym inv ∙ whole
-    search-none (suc i) h inv = absurd (omega arith)
+-- the search over the words t, a, b of a record x
+pub lookup-whole : (m : Bounds) (s : View) (n : ℕ) (x : NodeKind) (t a b : ℕ) → Sound m s n → t ≡ tag x → a ≡ first x → b ≡ second x → lookupWords s t a b n ≡ lookup (nodes s n) x n
+lookup-whole m s n x t a b sound et ea eb = rw (et, ea, eb) (lookup-words m s n sound x)

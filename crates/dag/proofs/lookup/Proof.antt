@@ -1,10 +1,11 @@
 use Rattle.dag.specs.View.{interleaved}
 use Rattle.dag.specs.BranchLaws.{told}
-use Rattle.dag.specs.StoreLaws.{search-on, search-hit, search-none}
+use Rattle.dag.specs.SearchLaws.{greatest-miss, greatest-hit, greatest-none}
+use Rattle.dag.specs.StoreLaws.{lookup-whole}
 use Prim.Native.Nat.{_≤_}
 use native.Mathlib.Omega.{arith}
 use borrow.Author.Needs.{needs}
-use mathlib.Core.Path.{_≡_, refl}
+use mathlib.Core.Path.{_≡_, refl, sym, _∙_}
 use Rattle.dag.specs.Store as Store
 use Rattle.dag.proofs.lookup.Statement.{statement}
 use Rattle.dag.proofs.lookup.Tie as tie
@@ -44,9 +45,9 @@ returns c =
     let at-first-of = at-second-of .before in
     let at-tag-of = at-first-of .before in
     let start = at-tag-of .before .before in
-    search-hit (start .pre .0) (interleaved (start .args .list .now)) (start .args .n) (start .args .x) (at-tag-of .tag-of .result) (at-first-of .first-of .result)
+    sym (at-loop .loop .inv .1 ∙ greatest-hit _ (at-loop .loop .i) (at-loop-test .loop-test .taken) (told (at-words-are .words-are .ensures) (c .if1 .taken)))
+    ∙ lookup-whole (start .pre .0) (interleaved (start .args .list .now)) (start .args .n) (start .args .x) (at-tag-of .tag-of .result) (at-first-of .first-of .result)
     (at-second-of .second-of .result) (start .pre .1) (at-tag-of .tag-of .ensures) (at-first-of .first-of .ensures) (at-second-of .second-of .ensures)
-    (at-loop .loop .i) (at-loop-test .loop-test .taken) (at-loop .loop .inv .1) (told (at-words-are .words-are .ensures) (c .if1 .taken))
 
 loop-less : tie.Need-loop-less Inv-loop μ-loop
 loop-less c = omega arith
@@ -55,15 +56,9 @@ loop-again : tie.Need-loop-again Inv-loop μ-loop
 loop-again c =
     let at-words-are = c .before in
     let at-loop-test = at-words-are .before in
-    let at-loop = at-loop-test .before in
-    let at-second-of = at-loop .before in
-    let at-first-of = at-second-of .before in
-    let at-tag-of = at-first-of .before in
-    let start = at-tag-of .before .before in (
+    let at-loop = at-loop-test .before in (
       omega arith,
-      search-on (start .pre .0) (interleaved (start .args .list .now)) (start .args .n) (start .args .x) (at-tag-of .tag-of .result) (at-first-of .first-of .result)
-          (at-second-of .second-of .result) (at-loop .loop .i) (at-loop-test .loop-test .taken) (at-loop .loop .inv .1)
-          (told (at-words-are .words-are .ensures) (c .if1 .left)),
+      at-loop .loop .inv .1 ∙ greatest-miss _ (at-loop .loop .i) (at-loop-test .loop-test .taken) (told (at-words-are .words-are .ensures) (c .if1 .left)),
     )
 
 returns-2 : tie.Need-returns-2 Inv-loop μ-loop
@@ -73,9 +68,9 @@ returns-2 c =
     let at-first-of = at-second-of .before in
     let at-tag-of = at-first-of .before in
     let start = at-tag-of .before .before in
-    search-none (start .pre .0) (interleaved (start .args .list .now)) (start .args .n) (start .args .x) (at-tag-of .tag-of .result) (at-first-of .first-of .result)
+    sym (at-loop .loop .inv .1 ∙ greatest-none _ (at-loop .loop .i) (c .loop-test .left))
+    ∙ lookup-whole (start .pre .0) (interleaved (start .args .list .now)) (start .args .n) (start .args .x) (at-tag-of .tag-of .result) (at-first-of .first-of .result)
     (at-second-of .second-of .result) (start .pre .1) (at-tag-of .tag-of .ensures) (at-first-of .first-of .ensures) (at-second-of .second-of .ensures)
-    (at-loop .loop .i) (c .loop-test .left) (at-loop .loop .inv .1)
 
 pub lookup-spec : {M : Type 1} → statement M
 lookup-spec =
