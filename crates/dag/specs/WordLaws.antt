@@ -142,9 +142,13 @@ module _ (s : List ℕ) (l : List NodeKind) where
   pub length-stored : length l ≤ interleaved s .room → length (stored s l) ≡ length s
   unfolding stored filled
   length-stored h =
-      omega
-      (arith, room-words s (length l) h, length-append (wordsOf l) (replicate (length s - length (wordsOf l)) blank), length-words l
-      , length-replicate (length s - length (wordsOf l)) blank)
+      omega (
+        arith,
+        room-words s (length l) h,
+        length-append (wordsOf l) (replicate (length s - length (wordsOf l)) blank),
+        length-words l,
+        length-replicate (length s - length (wordsOf l)) blank,
+      )
 
   module _ (m : Bounds) (f : WellFormed (Within m) l) where
     pub sound-stored : Sound m (interleaved (stored s l)) (length l)

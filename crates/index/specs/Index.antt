@@ -5,6 +5,7 @@ use mathlib.Core.List.{List}
 use mathlib.Core.Path.{_≡_}
 use lib.Dec.{eqb}
 use lib.ListN.{getD, length, set}
+use Rattle.dag.specs.View.{View}
 use Rattle.dag.specs.Nodes.{tag, first, second, at}
 use Rattle.dag.specs.declared.NodeKind.{NodeKind}
 
@@ -37,6 +38,10 @@ bucketOf b h = h * b / 2 ^ 32
 -- one of b buckets for a record
 abbrev pub nodeBucket : ℕ → NodeKind → ℕ
 nodeBucket b x = bucketOf b (hash (tag x) (first x) (second x))
+
+-- one of b buckets for the words of the record at place i of a store
+abbrev pub wordBucket : ℕ → View → ℕ → ℕ
+wordBucket b s i = bucketOf b (hash (s .tagWord i) (s .firstWord i) (s .secondWord i))
 
 -- a store of links that an index can use
 pub record Usable (links : List ℕ) : Type 0 where

@@ -11,17 +11,18 @@ use native.Mathlib.Omega.{arith}
 use borrow.Author.Tests.{eqb-true}
 use lib.Dec.{eqb}
 use lib.ListN.{getD, length, take, replicate, length-replicate}
+use Rattle.dag.specs.View.{View}
 use Rattle.dag.specs.BlankLaws.{all-zero}
 use Rattle.dag.specs.CaseLaws.{and-true, below-suc}
 use Rattle.dag.specs.Nodes.{tag, first, second, at, nodes, recordAt}
 use Rattle.dag.specs.NodeLaws.{at-left, at-last, at-nodes, length-nodes, length-snoc}
 use Rattle.dag.specs.Lookup.{greatest, lookup}
-use Rattle.dag.specs.Store.{Sound, wordsAre, lookupWords}
-use Rattle.dag.specs.StoreLaws.{lookup-words, tag-word, first-word, second-word, sound-less}
+use Rattle.dag.specs.Store.{Sound, wordsAre}
+use Rattle.dag.specs.StoreLaws.{lookup-whole, tag-word, first-word, second-word, sound-less}
 use Rattle.dag.specs.declared.NodeKind.{NodeKind}
 use Rattle.dag.specs.declared.Found.{Found}
 use Rattle.dag.specs.declared.Found.the-variants.{At, Missing}
-use Rattle.index.specs.Index.{half, Indexed, noted, hash, bucketOf, nodeBucket, Usable, NodeIndex}
+use Rattle.index.specs.Index.{half, Indexed, noted, hash, bucketOf, nodeBucket, wordBucket, Usable, NodeIndex}
 use Rattle.index.specs.IndexLaws.{indexed-agree, indexed-none, indexed-noted, length-noted}
 use Rattle.index.specs.WalkLaws.{Walking, walk-begin, walk-on, walk-down, walk-hit, walk-none}
 
@@ -74,8 +75,8 @@ pub noted-as : (links : List ℕ) (n t a b k : ℕ) {h : ℕ} {after : List ℕ}
 noted-as links n t a b k e ek eh = e ∙ ap (noted links n) (ek ∙ ap (bucketOf (half links)) eh)
 
 -- the record at place i of a store, behind those before it
-pub index-next : (m : Bounds) (s : List ℕ) (n i : ℕ) (links after : List ℕ) → Sound m s n → i < n → n ≤ half links → NodeIndex (nodes s i) links
-    → after ≡ noted links i (bucketOf (half links) (hash (getD s (3 * i) 0) (getD s (3 * i + 1) 0) (getD s (3 * i + 2) 0)))
+pub index-next : (m : Bounds) (s : View) (n i : ℕ) (links after : List ℕ) → Sound m s n → i < n → n ≤ half links → NodeIndex (nodes s i) links
+    → after ≡ noted links i (wordBucket (half links) s i)
     → NodeIndex (nodes s (i + 1)) after
 unfolding nodes
 index-next m s n i links after sound h room d e =
@@ -85,7 +86,7 @@ index-next m s n i links after sound h room d e =
     rw (add-one i, is) (index-more (nodes s i) links (recordAt s i) d in-list)
 
 -- the first of n records that pass
-pub sound-first : (m : Bounds) (s : List ℕ) (n k : ℕ) → k ≤ n → Sound m s n → Sound m s k
+pub sound-first : (m : Bounds) (s : View) (n k : ℕ) → k ≤ n → Sound m s n → Sound m s k
 sound-first m s zero k h d = let e : k ≡ 0 = omega arith in rw e d
 sound-first m s (suc n) k h d = go (below-suc k (suc n) (omega arith)) (λ j. sound-first m s n k j (sound-less m s n d))
   where
@@ -94,7 +95,7 @@ sound-first m s (suc n) k h d = go (below-suc k (suc n) (omega arith)) (λ j. so
     go (inr e) before = rw e d
 
 -- the walk of a lookup over the words t, a, b of a record
-module _ (s : List ℕ) (n : ℕ) (links : List ℕ) (t a b : ℕ) where
+module _ (s : View) (n : ℕ) (links : List ℕ) (t a b : ℕ) where
   here : ℕ → Bool
   here i = wordsAre s i t a b
 
@@ -115,11 +116,11 @@ module _ (s : List ℕ) (n : ℕ) (links : List ℕ) (t a b : ℕ) where
     only : (i : ℕ) → i < n → here i ≡ true → bucket i ≡ start
     unfolding here bucket start wordsAre
     only i h e =
-        let p = and-true (eqb (getD s (3 * i) 0) t && eqb (getD s (3 * i + 1) 0) a) (eqb (getD s (3 * i + 2) 0) b) e in
-        let q = and-true (eqb (getD s (3 * i) 0) t) (eqb (getD s (3 * i + 1) 0) a) (p .0) in
+        let p = and-true (eqb (s .tagWord i) t && eqb (s .firstWord i) a) (eqb (s .secondWord i) b) e in
+        let q = and-true (eqb (s .tagWord i) t) (eqb (s .firstWord i) a) (p .0) in
         ap (nodeBucket (half links)) (at-nodes s n i h)
-        ∙ same-bucket (half links) (tag-word m s n sound i h ∙ eqb-true (getD s (3 * i) 0) t (q .0)) (first-word m s n sound i h ∙ eqb-true (getD s (3 * i + 1) 0) a (q .1))
-        (second-word m s n sound i h ∙ eqb-true (getD s (3 * i + 2) 0) b (p .1))
+        ∙ same-bucket (half links) (tag-word m s n sound i h ∙ eqb-true (s .tagWord i) t (q .0)) (first-word m s n sound i h ∙ eqb-true (s .firstWord i) a (q .1))
+        (second-word m s n sound i h ∙ eqb-true (s .secondWord i) b (p .1))
 
     inside : start < half links
     unfolding start
@@ -143,7 +144,7 @@ module _ (s : List ℕ) (n : ℕ) (links : List ℕ) (t a b : ℕ) where
     module _ (x : NodeKind) (et : t ≡ tag x) (ea : a ≡ first x) (eb : b ≡ second x) where
       whole : greatest here n ≡ lookup (nodes s n) x n
       unfolding here
-      whole = rw (et, ea, eb) (lookup-words m s n sound x n (omega arith))
+      whole = lookup-whole m s n x t a b sound et ea eb
 
       pub find-hit : (link : ℕ) → Standing link → 0 < link → wordsAre s (link - 1) t a b ≡ true → At (link - 1) ≡ lookup (nodes s n) x n
       unfolding here
@@ -157,5 +158,5 @@ module _ (s : List ℕ) (n : ℕ) (links : List ℕ) (t a b : ℕ) where
       unfolding here
       find-plain link w e =
           e
-          ∙ (sym (lookup-words m s link (sound-first m s n link (w .walking .below) sound) x link (omega arith))
-          ∙ (sym (rw (et, ea, eb)) ∙ (sym (w .walking .same) ∙ whole)))
+          ∙ (sym (lookup-whole m s link x t a b (sound-first m s n link (w .walking .below) sound) et ea eb)
+          ∙ (sym (w .walking .same) ∙ whole))

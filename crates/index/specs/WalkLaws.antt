@@ -10,6 +10,7 @@ use lib.Dec.{eqb}
 use lib.ListN.{getD}
 use Rattle.dag.specs.declared.Found.the-variants.{At, Missing}
 use Rattle.dag.specs.Lookup.{greatest}
+use Rattle.dag.specs.SearchLaws.{greatest-miss, greatest-hit, greatest-none}
 use Rattle.index.specs.Index.{latest, Indexed}
 use Rattle.index.specs.IndexLaws.{latest-le, latest-in}
 
@@ -24,17 +25,6 @@ greatest-latest hit bucket k (suc n) only = go (eqb (bucket n) k) refl (hit n) r
     go true e h q before = refl
     go false e true q before = absurd (eqb-false (bucket n) k e (only n (omega arith) q))
     go false e false q before = rw q before
-
--- a test that fails at the last place
-greatest-miss : (hit : ℕ → Bool) (n : ℕ) → 0 < n → hit (n - 1) ≡ false → greatest hit n ≡ greatest hit (n - 1)
-unfolding greatest
-greatest-miss hit zero h e = absurd (omega arith)
-greatest-miss hit (suc n) h e = let q : hit n ≡ false = rw (sub-one (suc n)) at e in rw (sub-one (suc n), q)
-
-greatest-hit : (hit : ℕ → Bool) (n : ℕ) → 0 < n → hit (n - 1) ≡ true → greatest hit n ≡ At (n - 1)
-unfolding greatest
-greatest-hit hit zero h e = absurd (omega arith)
-greatest-hit hit (suc n) h e = let q : hit n ≡ true = rw (sub-one (suc n)) at e in rw (sub-one (suc n), q)
 
 -- where a walk along bucket k from place n stands
 pub record Walking (hit : ℕ → Bool) (bucket : ℕ → ℕ) (k n link : ℕ) : Type 0 where
@@ -75,5 +65,4 @@ module _ (hit : ℕ → Bool) (bucket : ℕ → ℕ) (k n : ℕ) (only : (i : �
   walk-hit link w h e = sym (w .same ∙ greatest-hit hit link h e)
 
   pub walk-none : (link : ℕ) → Walking hit bucket k n link → link ≤ 0 → Missing ≡ greatest hit n
-  unfolding greatest
-  walk-none link w h = let e : link ≡ 0 = omega arith in sym (w .same ∙ ap (greatest hit) e)
+  walk-none link w h = sym (w .same ∙ greatest-none hit link h)

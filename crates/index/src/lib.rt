@@ -5,6 +5,7 @@ ghost use mathlib.Core.Path.{_≡_};
 ghost use mathlib.Core.List.{[]};
 ghost use Prim.Native.Nat.{ℕ, _+_, _*_, _/_, _^_, _<_, _≤_};
 ghost use lib.ListN.{length, getD};
+ghost use Rattle.dag.specs.View.{interleaved};
 ghost use Rattle.dag.specs.Nodes as Nodes;
 ghost use Rattle.dag.specs.Store as Store;
 ghost use Rattle.dag.specs.Lookup as Lookup;
@@ -57,23 +58,37 @@ pub fn note(links: &mut [u64], n: usize, t: u64, a: u64, b: u64)
     link(links, n, k);
 }
 
+// Notes the record at place i.
+fn note_record(list: &[u64], i: usize, links: &mut [u64])
+    requires { ⌜ (i < interleaved (now list) .room) × Index.Usable (now links) × (i < Index.half (now links)) ⌝ }
+    ensures { λ _. ⌜ now (links .exit) ≡ Index.noted (now (links .entry)) i (Index.wordBucket (Index.half (now (links .entry))) (interleaved (now (list .entry))) i) ⌝ }
+{
+    note(
+        links,
+        i,
+        dag::tag_at(list, i),
+        dag::first_at(list, i),
+        dag::second_at(list, i),
+    );
+}
+
 // Indexes the first n records of a list.
 pub fn index_list(list: &[u64], n: usize, links: &mut [u64])
-    requires { ⌜ Store.Records (now list) n × Index.Usable (now links) × (n ≤ Index.half (now links)) ⌝ }
-    ensures { λ _. ⌜ Index.NodeIndex (Nodes.nodes (now (list .entry)) n) (now (links .exit)) ⌝ }
+    requires { ⌜ Store.Records (interleaved (now list)) n × Index.Usable (now links) × (n ≤ Index.half (now links)) ⌝ }
+    ensures { λ _. ⌜ Index.NodeIndex (Nodes.nodes (interleaved (now (list .entry))) n) (now (links .exit)) ⌝ }
 {
     clear(links);
     let mut i = 0;
     while i < n {
-        note(links, i, list[3 * i], list[3 * i + 1], list[3 * i + 2]);
+        note_record(list, i, links);
         i += 1;
     }
 }
 
 // The greatest place of a record equal to x among the first n, along its bucket; behind many others of the bucket by the plain search.
 pub fn find(list: &[u64], n: usize, links: &[u64], x: NodeKind) -> Found
-    requires { ⌜ Store.Records (now list) n × Index.NodeIndex (Nodes.nodes (now list) n) (now links) ⌝ }
-    ensures { λ r. ⌜ r ≡ Lookup.lookup (Nodes.nodes (now (list .entry)) n) x n ⌝ }
+    requires { ⌜ Store.Records (interleaved (now list)) n × Index.NodeIndex (Nodes.nodes (interleaved (now list)) n) (now links) ⌝ }
+    ensures { λ r. ⌜ r ≡ Lookup.lookup (Nodes.nodes (interleaved (now (list .entry))) n) x n ⌝ }
 {
     let t = dag::tag_of(x);
     let a = dag::first_of(x);

@@ -26,20 +26,20 @@ is-refused-requires c κs = search needs
 
 returns-3 : tie.Need-returns-3
 unfolding Check.rootlessCheck
-returns-3 c = 
+returns-3 c =
     let at-room-check = c .before .before in
     let at-range = at-room-check .before .before in
     let told = at-room-check .room-check .ensures ∙ ap (Check.roomCheck _) (at-room-check .before .room .ensures) in
     simp (le-leb _ _ (at-range .before .if1 .left), le-leb _ _ (at-range .if2 .left)) (told ∙ refused-then _ _ (bad-told told (c .before .is-refused .ensures) (c .if3 .taken)))
 
 records-check-requires : tie.Need-records-check-requires
-records-check-requires c κs = 
+records-check-requires c κs =
     let at-room-check = c .before .before in
     room-enough _ _ (good-told (at-room-check .room-check .ensures ∙ ap (Check.roomCheck _) (at-room-check .before .room .ensures)) (c .before .is-refused .ensures) (c .if3 .left))
 
 returns-4 : tie.Need-returns-4
 unfolding Check.rootlessCheck
-returns-4 c = 
+returns-4 c =
     let at-room-check = c .before .before .before in
     let at-range = at-room-check .before .before in
     let told = at-room-check .room-check .ensures ∙ ap (Check.roomCheck _) (at-room-check .before .room .ensures) in

@@ -1,13 +1,14 @@
 use native.Mathlib.Omega.{arith}
 use borrow.Author.Needs.{needs}
 use Rattle.dag.specs.BranchLaws.{told}
+use Rattle.dag.specs.View.{interleaved}
 use Rattle.dag.specs.NodeLaws.{length-nodes}
 use Rattle.index.specs.NodeIndexLaws.{Standing, sound-first, standing-below, find-begin, find-on, find-down, find-hit, find-none, find-plain}
 use Rattle.index.proofs.find.Statement.{statement}
 use Rattle.index.proofs.find.Tie as tie
 
 abbrev Inv-loop : tie.InvT-loop
-Inv-loop list n links x t a b half link₀ steps₀ link steps = Standing list n links t a b link
+Inv-loop list n links x t a b half link₀ steps₀ link steps = Standing (interleaved list) n links t a b link
 
 abbrev μ-loop : tie.MeasureT-loop
 μ-loop list n links x t a b half link₀ steps₀ link steps = link
@@ -43,7 +44,7 @@ loop-holds c =
     let at-first-of = at-second-of .before in
     let at-tag-of = at-first-of .before in
     let start = at-tag-of .before .before .before in
-    find-begin (start .args .list .now) (start .args .n) (start .args .links .now) (at-tag-of .tag-of .result) (at-first-of .first-of .result)
+    find-begin (interleaved (start .args .list .now)) (start .args .n) (start .args .links .now) (at-tag-of .tag-of .result) (at-first-of .first-of .result)
     (at-second-of .second-of .result) (start .pre .0 .0) (start .pre .0 .1) (start .pre .1) _ _ (at-bucket-of .bucket-of .ensures .0) (at-hash .hash .ensures .0)
 
 lookup-requires : tie.Need-lookup-requires Inv-loop μ-loop
@@ -59,7 +60,7 @@ returns c =
     let at-first-of = at-second-of .before in
     let at-tag-of = at-first-of .before in
     let start = at-tag-of .before .before .before in
-    find-plain (start .args .list .now) (start .args .n) (start .args .links .now) (at-tag-of .tag-of .result) (at-first-of .first-of .result)
+    find-plain (interleaved (start .args .list .now)) (start .args .n) (start .args .links .now) (at-tag-of .tag-of .result) (at-first-of .first-of .result)
     (at-second-of .second-of .result) (start .pre .0 .0) (start .pre .0 .1) (start .pre .1) (start .args .x) (at-tag-of .tag-of .ensures)
     (at-first-of .first-of .ensures) (at-second-of .second-of .ensures) _ (at-loop .loop .inv) (c .lookup .ensures)
 
@@ -82,7 +83,7 @@ returns-2 c =
     let at-first-of = at-second-of .before in
     let at-tag-of = at-first-of .before in
     let start = at-tag-of .before .before .before in
-    find-hit (start .args .list .now) (start .args .n) (start .args .links .now) (at-tag-of .tag-of .result) (at-first-of .first-of .result)
+    find-hit (interleaved (start .args .list .now)) (start .args .n) (start .args .links .now) (at-tag-of .tag-of .result) (at-first-of .first-of .result)
     (at-second-of .second-of .result) (start .pre .0 .0) (start .pre .0 .1) (start .pre .1) (start .args .x) (at-tag-of .tag-of .ensures)
     (at-first-of .first-of .ensures) (at-second-of .second-of .ensures) _ (at-loop .loop .inv) (omega (arith, (at-loop-test .loop-test .taken)))
     (told (at-words-are .words-are .ensures) (c .if2 .taken))
@@ -93,7 +94,7 @@ add-link c =
     let at-loop = at-loop-test .before in
     let start = at-loop .before .before .before .before .before .before .before .before .before in
     let h = standing-below _ _ _ _ _ _ _ (at-loop .loop .inv) in omega
-    (arith, h, (at-loop-test .loop-test .taken), (start .pre .1 .room), length-nodes (start .args .list .now) (start .args .n))
+    (arith, h, (at-loop-test .loop-test .taken), (start .pre .1 .room), length-nodes (interleaved (start .args .list .now)) (start .args .n))
 
 mul-link-2 : tie.Need-mul-link-2 Inv-loop μ-loop
 mul-link-2 c =
@@ -101,7 +102,7 @@ mul-link-2 c =
     let at-loop = at-loop-test .before in
     let start = at-loop .before .before .before .before .before .before .before .before .before in
     let h = standing-below _ _ _ _ _ _ _ (at-loop .loop .inv) in omega
-    (arith, h, (at-loop-test .loop-test .taken), (start .pre .1 .room), length-nodes (start .args .list .now) (start .args .n))
+    (arith, h, (at-loop-test .loop-test .taken), (start .pre .1 .room), length-nodes (interleaved (start .args .list .now)) (start .args .n))
 
 shared-slice-read-link-2 : tie.Need-shared-slice-read-link-2 Inv-loop μ-loop
 shared-slice-read-link-2 c =
@@ -109,7 +110,7 @@ shared-slice-read-link-2 c =
     let at-loop = at-loop-test .before in
     let start = at-loop .before .before .before .before .before .before .before .before .before in
     let h = standing-below _ _ _ _ _ _ _ (at-loop .loop .inv) in omega
-    (arith, h, (at-loop-test .loop-test .taken), (start .pre .1 .room), length-nodes (start .args .list .now) (start .args .n))
+    (arith, h, (at-loop-test .loop-test .taken), (start .pre .1 .room), length-nodes (interleaved (start .args .list .now)) (start .args .n))
 
 add-steps : tie.Need-add-steps Inv-loop μ-loop
 add-steps c = search needs
@@ -122,7 +123,7 @@ loop-less c =
     let at-first-of = at-second-of .before in
     let at-tag-of = at-first-of .before in
     let start = at-tag-of .before .before .before in
-    find-down (start .args .list .now) (start .args .n) (start .args .links .now) (at-tag-of .tag-of .result) (at-first-of .first-of .result)
+    find-down (interleaved (start .args .list .now)) (start .args .n) (start .args .links .now) (at-tag-of .tag-of .result) (at-first-of .first-of .result)
     (at-second-of .second-of .result) (start .pre .0 .0) (start .pre .0 .1) (start .pre .1) _ (at-loop .loop .inv) (omega (arith, (at-loop-test .loop-test .taken)))
 
 loop-again : tie.Need-loop-again Inv-loop μ-loop
@@ -135,7 +136,7 @@ loop-again c =
     let at-first-of = at-second-of .before in
     let at-tag-of = at-first-of .before in
     let start = at-tag-of .before .before .before in
-    find-on (start .args .list .now) (start .args .n) (start .args .links .now) (at-tag-of .tag-of .result) (at-first-of .first-of .result)
+    find-on (interleaved (start .args .list .now)) (start .args .n) (start .args .links .now) (at-tag-of .tag-of .result) (at-first-of .first-of .result)
     (at-second-of .second-of .result) (start .pre .0 .0) (start .pre .0 .1) (start .pre .1) _ (at-loop .loop .inv) (omega (arith, (at-loop-test .loop-test .taken)))
     (told (at-words-are .words-are .ensures) (at-if2 .if2 .left))
 
@@ -146,7 +147,7 @@ returns-3 c =
     let at-first-of = at-second-of .before in
     let at-tag-of = at-first-of .before in
     let start = at-tag-of .before .before .before in
-    find-none (start .args .list .now) (start .args .n) (start .args .links .now) (at-tag-of .tag-of .result) (at-first-of .first-of .result)
+    find-none (interleaved (start .args .list .now)) (start .args .n) (start .args .links .now) (at-tag-of .tag-of .result) (at-first-of .first-of .result)
     (at-second-of .second-of .result) (start .pre .0 .0) (start .pre .0 .1) (start .pre .1) (start .args .x) (at-tag-of .tag-of .ensures)
     (at-first-of .first-of .ensures) (at-second-of .second-of .ensures) _ (at-loop .loop .inv) (omega (arith, (c .loop-test .left)))
 
