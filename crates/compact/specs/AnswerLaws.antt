@@ -4,7 +4,7 @@ use mathlib.Core.List.{List, [], _∷_, _++_}
 use mathlib.Core.Logic.{_↔_}
 use mathlib.Core.Path.{_≡_}
 use native.Mathlib.Omega.{arith}
-use lib.ListN.{length, replicate}
+use lib.ListN.{getD, length, replicate}
 use Rattle.field.specs.Fields.{Field, Within}
 use Rattle.ring.specs.Ring.{Ops}
 use Rattle.field.specs.declared.QuadFelt.{QuadFelt}
@@ -32,7 +32,10 @@ module _ (field : Field) where
   module _ (s : List ℕ) (n at-root : ℕ) (result : List ℕ) (e : compactCheck field s n at-root (length result) ≡ Good) where
     -- the answer and the result store
     abbrev kept : Kept
-    kept = keptOf (compacted s n at-root)
+    kept = keptOf (compacted s n (at-root ∷ []))
+
+    abbrev new-root : ℕ
+    new-root = getD (compacted s n (at-root ∷ []) .roots) 0 0
 
     abbrev store : List ℕ
     store = compactResult field s n at-root result
@@ -46,31 +49,31 @@ module _ (field : Field) where
     inside : AllBelow (length (nodes s n)) (at-root ∷ [])
     inside = one-below (length (nodes s n)) at-root (omega (arith, length-nodes s n, passed .inside))
 
-    begins : store ≡ wordsOf (compacted s n at-root .list) ++ replicate (length result - length (wordsOf (compacted s n at-root .list))) blank
+    begins : store ≡ wordsOf (compacted s n (at-root ∷ []) .list) ++ replicate (length result - length (wordsOf (compacted s n (at-root ∷ []) .list))) blank
     unfolding compactResult filled
     begins = rw e
 
     -- it holds the compacted list
-    pub answer-list : nodes store (kept .count) ≡ compacted s n at-root .list
+    pub answer-list : nodes store (kept .count) ≡ compacted s n (at-root ∷ []) .list
     unfolding keptOf
-    answer-list = rw begins (nodes-words (replicate (length result - length (wordsOf (compacted s n at-root .list))) blank) (compacted s n at-root .list))
+    answer-list = rw begins (nodes-words (replicate (length result - length (wordsOf (compacted s n (at-root ∷ []) .list))) blank) (compacted s n (at-root ∷ []) .list))
 
     -- it passes the list check
-    pub answer-passes : listCheck (field .bounds) store (kept .count) (kept .root) ≡ Good
+    pub answer-passes : listCheck (field .bounds) store (kept .count) new-root ≡ Good
     unfolding keptOf compacted compact
     answer-passes =
         rw begins
-        (words-pass (replicate (length result - length (wordsOf (compacted s n at-root .list))) blank) (field .bounds) (compacted s n at-root .list)
-        (compact-well-formed (nodes s n) (at-root ∷ []) (Within (field .bounds)) well-formed inside) (kept .root)
-        (compact-inside (nodes s n) (at-root ∷ []) (Within (field .bounds)) well-formed inside (kept .root) here)
+        (words-pass (replicate (length result - length (wordsOf (compacted s n (at-root ∷ []) .list))) blank) (field .bounds) (compacted s n (at-root ∷ []) .list)
+        (compact-well-formed (nodes s n) (at-root ∷ []) (Within (field .bounds)) well-formed inside) new-root
+        (compact-inside (nodes s n) (at-root ∷ []) (Within (field .bounds)) well-formed inside new-root here)
         (omega (arith, compact-short (nodes s n) (at-root ∷ []), length-nodes s n, passed .list .most)))
 
-    root-value : (F : Ops QuadFelt) (given : ℕ → QuadFelt) → value F given (compacted s n at-root .list) (kept .root) ≡ value F given (nodes s n) at-root
+    root-value : (F : Ops QuadFelt) (given : ℕ → QuadFelt) → value F given (compacted s n (at-root ∷ []) .list) new-root ≡ value F given (nodes s n) at-root
     unfolding keptOf compacted compact
     root-value F given = compact-value (nodes s n) (at-root ∷ []) (Within (field .bounds)) well-formed inside F given at-root (root here)
 
     -- the root's value is kept, over any ring and any elements given to the keys
-    pub answer-value : (F : Ops QuadFelt) (given : ℕ → QuadFelt) → value F given (nodes store (kept .count)) (kept .root) ≡ value F given (nodes s n) at-root
+    pub answer-value : (F : Ops QuadFelt) (given : ℕ → QuadFelt) → value F given (nodes store (kept .count)) new-root ≡ value F given (nodes s n) at-root
     answer-value F given = rw answer-list (root-value F given)
 
     -- never more records than before
@@ -83,11 +86,11 @@ module _ (field : Field) where
     unfolding keptOf compacted
     answer-whole = rw (length-nodes s n) at (compact-count (nodes s n) (at-root ∷ []) (Within (field .bounds)) well-formed inside)
 
-    twice : compact (compacted s n at-root .list) (kept .root ∷ []) ≡ compacted s n at-root
+    twice : compact (compacted s n (at-root ∷ []) .list) (new-root ∷ []) ≡ compacted s n (at-root ∷ [])
     unfolding keptOf compacted compact
     twice = compact-twice (Within (field .bounds)) (nodes s n) (at-root ∷ []) well-formed inside
 
     -- compacting the answer changes nothing more
-    pub answer-again : compacted store (kept .count) (kept .root) ≡ compacted s n at-root
+    pub answer-again : compacted store (kept .count) (new-root ∷ []) ≡ compacted s n (at-root ∷ [])
     unfolding compacted
     answer-again = rw answer-list twice

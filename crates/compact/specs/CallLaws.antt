@@ -1,8 +1,8 @@
 -- From the marks in an array to the compacted list, and what Compact answers.
-use Prim.Native.Nat.{ℕ, _*_, _-_, _≤_}
-use mathlib.Core.Bool.{Bool, false}
-use mathlib.Core.List.{List, [], _∷_, _++_}
-use mathlib.Core.Path.{_≡_, _∙_, ap}
+use Prim.Native.Nat.{ℕ, _*_, _-_, _≤_, _<_}
+use mathlib.Core.Bool.{Bool, true, false, true≢false}
+use mathlib.Core.List.{List, [], _∷_, _++_, map}
+use mathlib.Core.Path.{_≡_, refl, sym, _∙_, ap}
 use native.Mathlib.Omega.{arith}
 use borrow.Author.Tests.{leb-true}
 use lib.Dec.{leb}
@@ -10,72 +10,82 @@ use lib.ListN.{getD, length, take, drop, replicate, length-replicate}
 use Rattle.field.specs.Fields.{Field, Within}
 use Rattle.dag.specs.Nodes.{mostRecords, nodes, blank}
 use Rattle.dag.specs.NodeLaws.{length-nodes}
-use Rattle.dag.specs.Refusals.{need}
-use Rattle.dag.specs.Check.{listCheck}
+use Rattle.dag.specs.Refusals.{isRefused}
+use Rattle.dag.specs.Roots.{rootsOf, rootsFrom}
+use Rattle.dag.specs.RootLaws.{roots-from, inside-one}
+use Rattle.dag.specs.Check.{roomCheck, listCheck}
 use Rattle.dag.specs.CheckLaws.{then-good, need-good}
 use Rattle.dag.specs.PassLaws.{rooted}
 use Rattle.dag.specs.StoreLaws.{sound-well-formed}
 use Rattle.dag.specs.declared.Refusal.{Refusal}
 use Rattle.dag.specs.declared.Refusal.the-variants.{StoreTooShort}
+use Rattle.dag.specs.declared.Roots.{Roots}
+use Rattle.dag.specs.declared.Checked.{Checked}
 use Rattle.dag.specs.declared.Checked.the-variants as Checked'
 use Rattle.compact.specs.Reach.{marked, sweep, marks}
 use Rattle.compact.specs.Compact.{rank, ranks, kept, compact}
-use Rattle.compact.specs.OperandLaws.{one-below}
+use Rattle.compact.specs.OperandLaws.{inside-below, map-cong}
 use Rattle.compact.specs.ArrayLaws.{Same, sweep-same, rank-same, kept-same, getD-ranks}
 use Rattle.compact.specs.CompactLaws.{compact-length, compact-short}
 use Rattle.dag.specs.Store.{written}
 use Rattle.dag.specs.WordLaws.{length-written, written-filled}
 use Rattle.compact.specs.Contracts.{mostMarks, Unmarked, Markable, Numbered, Writing}
-use Rattle.compact.specs.Calls.{compacted, keptOf, compactCheck, compactAnswer, compactResult}
+use Rattle.compact.specs.Calls.{compacted, keptOf, compactStores, compactCheck, compactAnswer, compactResult}
 use Rattle.compact.specs.declared.Kept.{Kept}
-use Rattle.compact.specs.declared.CompactAnswer.the-variants.{Done, Refused}
 
-abbrev pub kept-of : ℕ → ℕ → Kept
-kept-of count root = record { count = count; root = root }
+abbrev pub kept-of : ℕ → Roots → Kept
+kept-of count roots = record { count = count; roots = roots }
 
-module _ (s : List ℕ) (n root k : ℕ) (g : Markable s n root k) (m : List Bool) (e : m ≡ sweep (nodes s n) n (marked (replicate k false) (root ∷ []))) where
-  same : Same m (marks (nodes s n) (root ∷ []))
+-- a test that refuses has a reason
+pub refused-is : (c : Checked) → isRefused c ≡ true → (r : Refusal) × (c ≡ Checked'.Refused r)
+refused-is Checked'.Good h = absurd (true≢false (sym h))
+refused-is (Checked'.Refused r) h = (r, refl)
+
+-- a store whose test passes has room
+pub room-good : (needed room : ℕ) → roomCheck needed room ≡ Checked'.Good → needed ≤ room
+unfolding roomCheck
+room-good needed room e = leb-true needed room (need-good (leb needed room) StoreTooShort e)
+
+module _ (s : List ℕ) (n : ℕ) (roots : Roots) (k : ℕ) (g : Markable s n roots k) (m : List Bool) (e : m ≡ sweep (nodes s n) n (marked (replicate k false) (rootsOf roots))) where
+  same : Same m (marks (nodes s n) (rootsOf roots))
   same =
-      sweep-same (Within (g .sound .0)) (nodes s n) (sound-well-formed (g .sound .0) s n (g .sound .1)) (root ∷ [])
-      (one-below (length (nodes s n)) root (omega (arith, length-nodes s n, g .inside))) k (omega (arith, length-nodes s n, g .fits)) m
+      sweep-same (Within (g .sound .0)) (nodes s n) (sound-well-formed (g .sound .0) s n (g .sound .1)) (rootsOf roots)
+      (rw (length-nodes s n) (inside-below n roots (g .inside))) k (omega (arith, length-nodes s n, g .fits)) m
       (rw (length-nodes s n) e)
 
-  pub kept-list : kept (nodes s n) m n ≡ compacted s n root .list
+  pub kept-list : kept (nodes s n) m n ≡ compacted s n (rootsOf roots) .list
   unfolding compacted compact
-  kept-list = rw (length-nodes s n) (kept-same m (marks (nodes s n) (root ∷ [])) same (nodes s n) n)
+  kept-list = rw (length-nodes s n) (kept-same m (marks (nodes s n) (rootsOf roots)) same (nodes s n) n)
 
-  pub kept-count : rank m n ≡ length (compacted s n root .list)
+  pub kept-count : rank m n ≡ length (compacted s n (rootsOf roots) .list)
   unfolding compacted
-  kept-count = rank-same m (marks (nodes s n) (root ∷ [])) same n ∙ rw (compact-length (nodes s n) (root ∷ []), length-nodes s n)
+  kept-count = rank-same m (marks (nodes s n) (rootsOf roots)) same n ∙ rw (compact-length (nodes s n) (rootsOf roots), length-nodes s n)
 
-  pub kept-root : rank m root ≡ keptOf (compacted s n root) .root
-  unfolding compacted compact keptOf
-  kept-root = rank-same m (marks (nodes s n) (root ∷ [])) same root
+  module _ (remap z : List ℕ) (f : remap ≡ ranks m n ++ drop n z) where
+    new-place : (i : ℕ) → i < n → getD remap i 0 ≡ rank m i
+    new-place i h = rw f (getD-ranks m (drop n z) n i h)
 
-  module _ (map z : List ℕ) (f : map ≡ ranks m n ++ drop n z) where
-    pub root-place : getD map root 0 ≡ keptOf (compacted s n root) .root
-    root-place = rw (f, getD-ranks m (drop n z) n root (g .inside)) kept-root
+    pub new-roots : rootsFrom (map (λ i. getD remap i 0) (rootsOf roots)) ≡ keptOf (compacted s n (rootsOf roots)) .roots
+    unfolding compacted compact keptOf
+    new-roots =
+        ap rootsFrom
+        (map-cong (λ i. getD remap i 0) (rank (marks (nodes s n) (rootsOf roots))) (rootsOf roots)
+        (λ i p. new-place i (inside-below n roots (g .inside) i p) ∙ rank-same m (marks (nodes s n) (rootsOf roots)) same i))
 
-    pub may-write : n ≤ length m → n ≤ length map → (d : ℕ) → 3 * length (compacted s n root .list) ≤ d → Writing s n m map d
-    may-write hm hp d h =
-        record {
-          sound = g .sound;
-          marks = hm;
-          remaps = record { fits = hp; places = λ i q. rw f (getD-ranks m (drop n z) n i q) };
-          room = rw kept-count h;
-        }
+    pub may-write : n ≤ length m → n ≤ length remap → (d : ℕ) → 3 * length (compacted s n (rootsOf roots) .list) ≤ d → Writing s n m remap d
+    may-write hm hp d h = record { sound = g .sound; marks = hm; remaps = record { fits = hp; places = new-place }; room = rw kept-count h }
 
 -- marks and new places, as they are made
 pub unmarked-long : (k : ℕ) (m : List Bool) → m ≡ replicate k false → length m ≡ k
 unmarked-long k m e = ap length e ∙ length-replicate k false
 
-pub numbered : (s : List ℕ) (n root : ℕ) (m reach : List Bool) (map after : List ℕ) (r : ℕ) → Markable s n root mostMarks → Unmarked m → n ≤ length map
-    → reach ≡ sweep (nodes s n) n (marked m (root ∷ [])) → length reach ≡ length m → r ≡ rank reach n → after ≡ ranks reach n ++ drop n map → length after ≡ length map
-    → (r ≡ length (compacted s n root .list)) × Numbered s n root reach after
-numbered s n root m reach map after r g u fits er el ec ea es =
-    let marks : reach ≡ sweep (nodes s n) n (marked (replicate mostMarks false) (root ∷ [])) = er ∙ ap (λ q. sweep (nodes s n) n (marked q (root ∷ []))) u in
+pub numbered : (s : List ℕ) (n : ℕ) (roots : Roots) (m reach : List Bool) (map after : List ℕ) (r : ℕ) → Markable s n roots mostMarks → Unmarked m → n ≤ length map
+    → reach ≡ sweep (nodes s n) n (marked m (rootsOf roots)) → length reach ≡ length m → r ≡ rank reach n → after ≡ ranks reach n ++ drop n map → length after ≡ length map
+    → (r ≡ length (compacted s n (rootsOf roots) .list)) × Numbered s n roots reach after
+numbered s n roots m reach map after r g u fits er el ec ea es =
+    let marks : reach ≡ sweep (nodes s n) n (marked (replicate mostMarks false) (rootsOf roots)) = er ∙ ap (λ q. sweep (nodes s n) n (marked q (rootsOf roots))) u in
     let long = unmarked-long mostMarks m u in (
-      ec ∙ kept-count s n root mostMarks g reach marks,
+      ec ∙ kept-count s n roots mostMarks g reach marks,
       record {
         markable = g;
         marks-are = marks;
@@ -89,45 +99,55 @@ numbered s n root m reach map after r g u fits er el ec ea es =
 module _ (field : Field) where
   module _ (s : List ℕ) (n root : ℕ) (result : List ℕ) where
     -- where Compact refuses
-    module _ (r : Refusal) (e : compactCheck field s n root (length result) ≡ Checked'.Refused r) where
-      pub answer-refused : Refused r ≡ compactAnswer field s n root (length result)
+    module _ (h : isRefused (compactCheck field s n root (length result)) ≡ true) where
+      reason : (r : Refusal) × (compactCheck field s n root (length result) ≡ Checked'.Refused r)
+      reason = refused-is (compactCheck field s n root (length result)) h
+
+      pub answer-refused : (c : Checked) (roots : Roots) → c ≡ compactCheck field s n root (length result) → roots ≡ rootsFrom []
+          → record { checked = c; count = 0; roots = roots } ≡ compactAnswer field s n root (length result)
       unfolding compactAnswer
-      answer-refused = rw e
+      answer-refused c roots q e = rw (q, e, reason .1)
 
       pub result-refused : result ≡ compactResult field s n root result
       unfolding compactResult
-      result-refused = rw e
+      result-refused = rw (reason .1)
 
     -- where Compact accepts
     module _ (e : compactCheck field s n root (length result) ≡ Checked'.Good) where
-      pub tests : (listCheck (field .bounds) s n root ≡ Checked'.Good) × (need (leb (3 * n) (length result)) StoreTooShort ≡ Checked'.Good)
+      pub tests : (listCheck (field .bounds) s n root ≡ Checked'.Good) × (compactStores n (length result) ≡ Checked'.Good)
       unfolding compactCheck
-      tests = then-good (listCheck (field .bounds) s n root) (need (leb (3 * n) (length result)) StoreTooShort) e
+      tests = then-good (listCheck (field .bounds) s n root) (compactStores n (length result)) e
 
-      pub room : 3 * length (compacted s n root .list) ≤ length result
+      pub room : 3 * length (compacted s n (root ∷ []) .list) ≤ length result
       unfolding compacted
-      room =
-          let h = leb-true (3 * n) (length result) (need-good (leb (3 * n) (length result)) StoreTooShort (tests .1)) in
-          omega (arith, compact-short (nodes s n) (root ∷ []), length-nodes s n)
+      room = omega (arith, room-good (3 * n) (length result) (tests .1), compact-short (nodes s n) (root ∷ []), length-nodes s n)
 
-      pub may-compact : Markable s n root mostRecords × (3 * length (compacted s n root .list) ≤ length result)
-      may-compact =
-          let h = rooted (field .bounds) s n root (tests .0) in
-          (record { sound = (field .bounds, h .list .sound); inside = h .inside; fits = omega (arith, h .list .most) }, room)
+      module _ (roots : Roots) (q : roots ≡ rootsFrom (root ∷ [])) where
+        roots-are : rootsOf roots ≡ root ∷ []
+        roots-are = rw (q, roots-from (root ∷ []))
 
-      module _ (k : Kept) (q : k ≡ keptOf (compacted s n root)) where
-        pub answer-done : Done (k .count) (k .root) ≡ compactAnswer field s n root (length result)
-        unfolding compactAnswer
-        answer-done = rw (e, q)
+        pub may-compact : Markable s n roots mostRecords × (3 * length (compacted s n (rootsOf roots) .list) ≤ length result)
+        may-compact =
+            let h = rooted (field .bounds) s n root (tests .0) in
+            (record { sound = (field .bounds, h .list .sound); inside = rw q (inside-one n root (h .inside)); fits = h .list .most }, rw roots-are room)
 
-        count-is : k .count ≡ length (compacted s n root .list)
-        unfolding keptOf
-        count-is = ap (λ k. k .count) q
+        module _ (k : Kept) (f : k ≡ keptOf (compacted s n (rootsOf roots))) where
+          kept-is : k ≡ keptOf (compacted s n (root ∷ []))
+          kept-is = rw (f, roots-are)
 
-        module _ (mid : List ℕ) (w : mid ≡ written result (compacted s n root .list)) where
-          pub may-blank : 3 * k .count ≤ length mid
-          may-blank = rw (w, count-is, length-written result (compacted s n root .list) room) room
+          pub answer-done : (c : Checked) → c ≡ compactCheck field s n root (length result)
+              → record { checked = c; count = k .count; roots = k .roots } ≡ compactAnswer field s n root (length result)
+          unfolding compactAnswer
+          answer-done c g = rw (g, e, kept-is)
 
-          pub result-done : (after : List ℕ) → after ≡ take (3 * k .count) mid ++ replicate (length mid - 3 * k .count) blank → after ≡ compactResult field s n root result
-          unfolding compactResult
-          result-done after f = f ∙ rw (e, w, count-is) (written-filled result (compacted s n root .list) room)
+          count-is : k .count ≡ length (compacted s n (root ∷ []) .list)
+          unfolding keptOf
+          count-is = ap (λ k. k .count) kept-is
+
+          module _ (mid : List ℕ) (w : mid ≡ written result (compacted s n (rootsOf roots) .list)) where
+            pub may-blank : 3 * k .count ≤ length mid
+            may-blank = rw (w, roots-are, count-is, length-written result (compacted s n (root ∷ []) .list) room) room
+
+            pub result-done : (after : List ℕ) → after ≡ take (3 * k .count) mid ++ replicate (length mid - 3 * k .count) blank → after ≡ compactResult field s n root result
+            unfolding compactResult
+            result-done after g = g ∙ rw (e, w, roots-are, count-is) (written-filled result (compacted s n (root ∷ []) .list) room)

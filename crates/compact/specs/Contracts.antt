@@ -1,11 +1,13 @@
 -- What the functions of compaction ask of their stores.
 use Prim.Native.Nat.{ℕ, _*_, _≤_, _<_}
 use mathlib.Core.Bool.{Bool, false}
-use mathlib.Core.List.{List, [], _∷_, _++_}
+use mathlib.Core.List.{List, _++_}
 use mathlib.Core.Path.{_≡_}
 use lib.ListN.{getD, length, drop, replicate}
 use Rattle.dag.specs.Nodes.{nodes}
+use Rattle.dag.specs.Roots.{rootsOf, Inside}
 use Rattle.dag.specs.Store.{Records}
+use Rattle.dag.specs.declared.Roots.{Roots}
 use Rattle.compact.specs.Compact.{rank, ranks}
 use Rattle.compact.specs.Reach.{marked, sweep, _∈_}
 
@@ -17,10 +19,10 @@ mostMarks = 8192
 abbrev pub Unmarked : List Bool → Type 0
 Unmarked m = m ≡ replicate mostMarks false
 
--- n records that decode, a root among them, and k marks for them
-pub record Markable (s : List ℕ) (n root k : ℕ) : Type 0 where
+-- n records that decode, roots among them, and k marks for them
+pub record Markable (s : List ℕ) (n : ℕ) (roots : Roots) (k : ℕ) : Type 0 where
   pub sound : Records s n
-  pub inside : root < n
+  pub inside : Inside n roots
   pub fits : n ≤ k
 
 -- the first n new places that the marks m give stand in a map
@@ -35,10 +37,10 @@ pub record Writing (s : List ℕ) (n : ℕ) (m : List Bool) (map : List ℕ) (k 
   pub remaps : Remaps map m n
   pub room : 3 * rank m n ≤ k
 
--- the marks of what the root reaches among n records, and its new places
-pub record Numbered (s : List ℕ) (n root : ℕ) (m : List Bool) (map : List ℕ) : Type 0 where
-  pub markable : Markable s n root mostMarks
-  pub marks-are : m ≡ sweep (nodes s n) n (marked (replicate mostMarks false) (root ∷ []))
+-- the marks of what the roots reach among n records, and its new places
+pub record Numbered (s : List ℕ) (n : ℕ) (roots : Roots) (m : List Bool) (map : List ℕ) : Type 0 where
+  pub markable : Markable s n roots mostMarks
+  pub marks-are : m ≡ sweep (nodes s n) n (marked (replicate mostMarks false) (rootsOf roots))
   pub marks-fit : n ≤ length m
   pub behind : List ℕ
   pub places-are : map ≡ ranks m n ++ drop n behind

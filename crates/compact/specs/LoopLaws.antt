@@ -1,11 +1,12 @@
 -- The turns of each loop of the code.
 use Prim.Native.Nat.{ℕ, zero, suc, _+_, _*_, _-_, _≤_, _<_}
-use mathlib.Core.Bool.{Bool, false, cond}
-use mathlib.Core.List.{List}
-use mathlib.Core.Path.{_≡_, refl, _∙_}
+use mathlib.Core.Bool.{Bool, true, false, cond}
+use mathlib.Core.List.{List, [], _∷_, _++_}
+use mathlib.Core.Path.{_≡_, refl, sym, _∙_}
 use native.Mathlib.Numerals.{add-one, sub-one}
 use native.Mathlib.Omega.{arith}
-use lib.ListN.{getD, length}
+use lib.ListN.{getD, length, set, take}
+use lib.Seq.{take-suc}
 use Rattle.field.specs.Fields.{Within}
 use Rattle.dag.specs.Nodes.{nodes, at, operands, rename, recordAt}
 use Rattle.dag.specs.NodeLaws.{at-nodes}
@@ -22,6 +23,11 @@ use Rattle.compact.specs.RankLaws.{rank-lt, length-kept}
 use Rattle.dag.specs.WordLaws.{written-put}
 use Rattle.compact.specs.Contracts.{Writing, AllBelow}
 
+marked-snoc : (m : List Bool) (is : List ℕ) (i : ℕ) → marked m (is ++ (i ∷ [])) ≡ set (marked m is) i true
+unfolding marked
+marked-snoc m [] i = refl
+marked-snoc m (k ∷ is) i = marked-snoc (set m k true) is i
+
 -- the operands of a record that passes are inside a longer array
 pub operands-inside : (s : List ℕ) (n i k : ℕ) (x : NodeKind) → Records s n → i < n → n ≤ k → x ≡ recordAt s i → AllBelow k (operands x)
 unfolding WellFormed
@@ -35,6 +41,10 @@ unfolding WellFormed
 record-fine s n i k x sound h long e =
     rw (e, ← at-nodes s n i h)
     (fine-any (Within (sound .0)) k (at (nodes s n) i) (fine-mono (Within (sound .0)) i k (at (nodes s n) i) (omega arith) (sound-well-formed (sound .0) s n (sound .1) i)))
+
+-- one root more is marked
+pub marked-turn : (m r : List Bool) (is : List ℕ) (j v : ℕ) → j < length is → r ≡ marked m (take j is) → v ≡ getD is j 0 → set r v true ≡ marked m (take (j + 1) is)
+marked-turn m r is j v h e q = rw (e, q, add-one j, take-suc is j 0 h) (sym (marked-snoc m (take j is) (getD is j 0)))
 
 -- one place of the sweep
 sweep-step : (l : List NodeKind) (i : ℕ) (m : List Bool) → 0 < i

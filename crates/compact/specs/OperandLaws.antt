@@ -1,15 +1,19 @@
 -- A record's operands, and places that stand in a list.
-use Prim.Native.Nat.{ℕ, _<_}
+use Prim.Native.Nat.{ℕ, suc, _<_}
 use mathlib.Core.List.{List, [], _∷_, map}
 use mathlib.Core.Path.{_≡_, refl, ap, ap₂}
 use mathlib.Core.Logic.{_⊎_, inl, inr}
 use native.Mathlib.Omega.{arith}
+use lib.ListN.{getD, length}
 use Rattle.ring.specs.Ring.{Ops}
 use Rattle.field.specs.declared.QuadFelt.{QuadFelt}
 use Rattle.dag.specs.Nodes.{operands, rename}
+use Rattle.dag.specs.Roots.{rootsOf, Inside}
+use Rattle.dag.specs.RootLaws.{root-is, length-roots}
 use Rattle.dag.specs.WellFormed.{Fine}
 use Rattle.dag.specs.declared.NodeKind.{NodeKind}
 use Rattle.dag.specs.declared.NodeKind.the-variants.{Input, Constant, Add, Sub, Mul, Neg}
+use Rattle.dag.specs.declared.Roots.{Roots}
 use Rattle.meaning.specs.Values.{valueOf}
 use Rattle.compact.specs.Reach.{_∈_}
 use Rattle.compact.specs.Reach._∈_.{here, there}
@@ -35,6 +39,17 @@ below-nil n i p = absurd (in-nil p)
 pub one-below : (n i : ℕ) → i < n → AllBelow n (i ∷ [])
 one-below n i h = below-cons n i [] h (below-nil n)
 
+below-each : (n : ℕ) (is : List ℕ) → ((j : ℕ) → j < length is → getD is j 0 < n) → AllBelow n is
+below-each n [] h = below-nil n
+below-each n (i ∷ is) h = below-cons n i is (h 0 (omega arith)) (below-each n is (λ j k. h (suc j) (omega arith)))
+
+-- roots of a list of n records are below n
+pub inside-below : (n : ℕ) (r : Roots) → Inside n r → AllBelow n (rootsOf r)
+inside-below n r h =
+    below-each n (rootsOf r) λ j k.
+    let q : j < r .count = rw (length-roots n r h) at k in
+    rw (root-is n r h j q) (h .below j q)
+
 -- a record's operands come before it
 pub operands-below : (Low : QuadFelt → Type 0) (n : ℕ) (x : NodeKind) → Fine Low n x → AllBelow n (operands x)
 unfolding Fine operands
@@ -56,6 +71,10 @@ below-map f n (j ∷ is) h = below-cons n (f j) (map f is) (h j here) (below-map
 pub map-through : {A : Type 0} (f : ℕ → ℕ) (g h : ℕ → A) (is : List ℕ) → ((i : ℕ) → i ∈ is → g (f i) ≡ h i) → map g (map f is) ≡ map h is
 map-through f g h [] e = refl
 map-through f g h (j ∷ is) e = ap₂ _∷_ (e j here) (map-through f g h is (λ i p. e i (there p)))
+
+pub map-cong : (f g : ℕ → ℕ) (is : List ℕ) → ((i : ℕ) → i ∈ is → f i ≡ g i) → map f is ≡ map g is
+map-cong f g [] e = refl
+map-cong f g (j ∷ is) e = ap₂ _∷_ (e j here) (map-cong f g is (λ i p. e i (there p)))
 
 pub map-same : (f : ℕ → ℕ) (is : List ℕ) → ((i : ℕ) → i ∈ is → f i ≡ i) → map f is ≡ is
 map-same f [] e = refl

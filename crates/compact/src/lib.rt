@@ -1,13 +1,14 @@
 // `AceDag::compact`: reachability marks, new places, Compact.
 use dag::Checked;
 use dag::NodeKind;
-use dag::Refusal;
+use dag::Roots;
 ghost use mathlib.Core.Path.{_≡_};
-ghost use mathlib.Core.List.{[], _∷_, _++_};
+ghost use mathlib.Core.List.{_++_};
 ghost use Prim.Native.Nat.{_*_, _≤_};
 ghost use lib.ListN.{length, drop};
 ghost use Rattle.field.specs.Fields.{goldilocks};
 ghost use Rattle.dag.specs.Nodes as Nodes;
+ghost use Rattle.dag.specs.Roots.{rootsOf, Inside};
 ghost use Rattle.compact.specs.Reach as Reach;
 ghost use Rattle.compact.specs.Compact as Places;
 ghost use Rattle.dag.specs.Store.{written};
@@ -17,16 +18,17 @@ ghost use Rattle.compact.specs.Calls as Calls;
 // The most marks: one for each record of a round's list.
 pub const MOST_MARKS: usize = 8192;
 
-// How many records are kept, and the root's new place.
+// How many records are kept, and the roots' new places.
 pub struct Kept {
     pub count: usize,
-    pub root: usize,
+    pub roots: Roots,
 }
 
-// Compact's answer.
-pub enum CompactAnswer {
-    Done { count: usize, root: usize },
-    Refused(Refusal),
+// Compact's answer: no records and no roots where it is refused.
+pub struct CompactAnswer {
+    pub checked: Checked,
+    pub count: usize,
+    pub roots: Roots,
 }
 
 // Marks the operands of the record x.
@@ -44,12 +46,24 @@ fn mark_operands(reachable: &mut [bool], x: NodeKind)
     }
 }
 
-// Marks what the root reaches: the root, then from the last place down the operands of each marked record.
-pub fn mark_reachable(list: &[u64], n: usize, root: usize, reachable: &mut [bool])
-    requires { ⌜ Markable (now list) n root (length (now reachable)) ⌝ }
-    ensures { λ _. ⌜ now (reachable .exit) ≡ Reach.sweep (Nodes.nodes (now (list .entry)) n) n (Reach.marked (now (reachable .entry)) (root ∷ [])) ⌝ }
+// Marks the roots.
+fn mark_roots(reachable: &mut [bool], roots: Roots)
+    requires { ⌜ Inside (length (now reachable)) roots ⌝ }
+    ensures { λ _. ⌜ now (reachable .exit) ≡ Reach.marked (now (reachable .entry)) (rootsOf roots) ⌝ }
 {
-    reachable[root] = true;
+    let mut j = 0;
+    while j < roots.count {
+        reachable[dag::root_at(roots, j)] = true;
+        j += 1;
+    }
+}
+
+// Marks what the roots reach: the roots, then from the last place down the operands of each marked record.
+pub fn mark_reachable(list: &[u64], n: usize, roots: Roots, reachable: &mut [bool])
+    requires { ⌜ Markable (now list) n roots (length (now reachable)) ⌝ }
+    ensures { λ _. ⌜ now (reachable .exit) ≡ Reach.sweep (Nodes.nodes (now (list .entry)) n) n (Reach.marked (now (reachable .entry)) (rootsOf roots)) ⌝ }
+{
+    mark_roots(reachable, roots);
     let mut i = n;
     while 0 < i {
         i -= 1;
@@ -97,64 +111,72 @@ pub fn write_marked(list: &[u64], n: usize, reachable: &[bool], remap: &[u64], r
     }
 }
 
-// Marks and numbers what the root reaches, new places into a lent store; answers how many records that is.
+// Marks and numbers what the roots reach, new places into a lent store; answers how many records that is.
 pub fn number_reachable(
     list: &[u64],
     n: usize,
-    root: usize,
+    roots: Roots,
     reachable: &mut [bool],
     remap: &mut [u64],
 ) -> usize
-    requires { ⌜ Markable (now list) n root mostMarks × Unmarked (now reachable) × (n ≤ length (now remap)) ⌝ }
-    ensures { λ r. ⌜ (r ≡ length (Calls.compacted (now (list .entry)) n root .list)) × Numbered (now (list .entry)) n root (now (reachable .exit)) (now (remap .exit)) ⌝ }
+    requires { ⌜ Markable (now list) n roots mostMarks × Unmarked (now reachable) × (n ≤ length (now remap)) ⌝ }
+    ensures { λ r. ⌜ (r ≡ length (Calls.compacted (now (list .entry)) n (rootsOf roots) .list)) × Numbered (now (list .entry)) n roots (now (reachable .exit)) (now (remap .exit)) ⌝ }
 {
-    mark_reachable(list, n, root, reachable);
+    mark_reachable(list, n, roots, reachable);
     number_marked(reachable, n, remap)
 }
 
-// Writes what was numbered, renamed, to the start of the result store; answers the root's new place.
+// Writes what was numbered, renamed, to the start of the result store; answers the roots' new places.
 pub fn write_numbered(
     list: &[u64],
     n: usize,
-    root: usize,
+    roots: Roots,
     reachable: &[bool],
     remap: &[u64],
     result: &mut [u64],
-) -> usize
-    requires { ⌜ Numbered (now list) n root (now reachable) (now remap) × (3 * length (Calls.compacted (now list) n root .list) ≤ length (now result)) ⌝ }
-    ensures { λ r. ⌜ (r ≡ Calls.keptOf (Calls.compacted (now (list .entry)) n root) .root) × (now (result .exit) ≡ written (now (result .entry)) (Calls.compacted (now (list .entry)) n root .list)) ⌝ }
+) -> Roots
+    requires { ⌜ Numbered (now list) n roots (now reachable) (now remap) × (3 * length (Calls.compacted (now list) n (rootsOf roots) .list) ≤ length (now result)) ⌝ }
+    ensures { λ r. ⌜ (r ≡ Calls.keptOf (Calls.compacted (now (list .entry)) n (rootsOf roots)) .roots) × (now (result .exit) ≡ written (now (result .entry)) (Calls.compacted (now (list .entry)) n (rootsOf roots) .list)) ⌝ }
 {
     write_marked(list, n, reachable, remap, result);
-    dag::mapped(remap, root)
+    dag::renamed_roots(remap, roots)
 }
 
-// Writes what the root reaches, renamed, to the start of the result store, with a store for the new places lent.
-fn compact_in(list: &[u64], n: usize, root: usize, remap: &mut [u64], result: &mut [u64]) -> Kept
-    requires { ⌜ Markable (now list) n root mostMarks × (n ≤ length (now remap)) × (3 * length (Calls.compacted (now list) n root .list) ≤ length (now result)) ⌝ }
-    ensures { λ r. ⌜ r ≡ Calls.keptOf (Calls.compacted (now (list .entry)) n root) ⌝ }
-    ensures { λ _. ⌜ now (result .exit) ≡ written (now (result .entry)) (Calls.compacted (now (list .entry)) n root .list) ⌝ }
+// Writes what the roots reach, renamed, to the start of the result store, with a store for the new places lent.
+fn compact_in(list: &[u64], n: usize, roots: Roots, remap: &mut [u64], result: &mut [u64]) -> Kept
+    requires { ⌜ Markable (now list) n roots mostMarks × (n ≤ length (now remap)) × (3 * length (Calls.compacted (now list) n (rootsOf roots) .list) ≤ length (now result)) ⌝ }
+    ensures { λ r. ⌜ r ≡ Calls.keptOf (Calls.compacted (now (list .entry)) n (rootsOf roots)) ⌝ }
+    ensures { λ _. ⌜ now (result .exit) ≡ written (now (result .entry)) (Calls.compacted (now (list .entry)) n (rootsOf roots) .list) ⌝ }
 {
     let mut reachable = [false; MOST_MARKS];
-    let count = number_reachable(list, n, root, &mut reachable, remap);
+    let count = number_reachable(list, n, roots, &mut reachable, remap);
     Kept {
         count,
-        root: write_numbered(list, n, root, &reachable, remap, result),
+        roots: write_numbered(list, n, roots, &reachable, remap, result),
     }
 }
 
 // The same, with a store for the new places of the list's length.
-fn compact_sized(list: &[u64], n: usize, root: usize, result: &mut [u64]) -> Kept
-    requires { ⌜ Markable (now list) n root Nodes.mostRecords ⌝ }
-    requires { ⌜ 3 * length (Calls.compacted (now list) n root .list) ≤ length (now result) ⌝ }
-    ensures { λ r. ⌜ r ≡ Calls.keptOf (Calls.compacted (now (list .entry)) n root) ⌝ }
-    ensures { λ _. ⌜ now (result .exit) ≡ written (now (result .entry)) (Calls.compacted (now (list .entry)) n root .list) ⌝ }
+fn compact_sized(list: &[u64], n: usize, roots: Roots, result: &mut [u64]) -> Kept
+    requires { ⌜ Markable (now list) n roots Nodes.mostRecords ⌝ }
+    requires { ⌜ 3 * length (Calls.compacted (now list) n (rootsOf roots) .list) ≤ length (now result) ⌝ }
+    ensures { λ r. ⌜ r ≡ Calls.keptOf (Calls.compacted (now (list .entry)) n (rootsOf roots)) ⌝ }
+    ensures { λ _. ⌜ now (result .exit) ≡ written (now (result .entry)) (Calls.compacted (now (list .entry)) n (rootsOf roots) .list) ⌝ }
 {
     if n <= dag::FEW_RECORDS {
         let mut few = [0u64; dag::FEW_RECORDS];
-        return compact_in(list, n, root, &mut few, result);
+        return compact_in(list, n, roots, &mut few, result);
     }
     let mut remap = [0u64; dag::MOST_RECORDS];
-    compact_in(list, n, root, &mut remap, result)
+    compact_in(list, n, roots, &mut remap, result)
+}
+
+// The test of Compact's result store.
+fn compact_stores(n: usize, result_words: usize) -> Checked
+    requires { ⌜ n ≤ Nodes.mostRecords ⌝ }
+    ensures { λ r. ⌜ r ≡ Calls.compactStores n «result_words» ⌝ }
+{
+    dag::room_check(3 * n, result_words)
 }
 
 // Compact's tests.
@@ -165,10 +187,7 @@ fn compact_check(list: &[u64], n: usize, root: usize, result_words: usize) -> Ch
     if dag::is_refused(checked) {
         return checked;
     }
-    if result_words < 3 * n {
-        return Checked::Refused(Refusal::StoreTooShort);
-    }
-    Checked::Good
+    compact_stores(n, result_words)
 }
 
 // Compact: the records that the root reaches, in order, into the result store.
@@ -177,15 +196,19 @@ pub fn compact(list: &[u64], n: usize, root: usize, result: &mut [u64]) -> Compa
     ensures store { λ _. ⌜ now (result .exit) ≡ Calls.compactResult goldilocks (now (list .entry)) n root (now (result .entry)) ⌝ }
 {
     let checked = compact_check(list, n, root, result.len());
-    match checked {
-        Checked::Refused(r) => CompactAnswer::Refused(r),
-        Checked::Good => {
-            let kept = compact_sized(list, n, root, result);
-            dag::blank_from(result, 3 * kept.count);
-            CompactAnswer::Done {
-                count: kept.count,
-                root: kept.root,
-            }
-        }
+    if dag::is_refused(checked) {
+        return CompactAnswer {
+            checked,
+            count: 0,
+            roots: dag::no_roots(),
+        };
+    }
+    let kept = compact_sized(list, n, dag::one_root(root), result);
+    dag::blank_from(result, 3 * kept.count);
+    let roots = kept.roots;
+    CompactAnswer {
+        checked,
+        count: kept.count,
+        roots,
     }
 }

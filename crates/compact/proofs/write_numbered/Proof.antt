@@ -1,7 +1,7 @@
 use mathlib.Core.Path.{_∙_, ap}
-use Rattle.field.specs.Fields.{goldilocks}
 use Rattle.compact.specs.Contracts.{mostMarks}
-use Rattle.compact.specs.CallLaws.{kept-list, root-place, may-write}
+use Rattle.compact.specs.CallLaws.{kept-list, new-roots, may-write}
+use Rattle.dag.specs.RootLaws.{inside-mono}
 use Rattle.dag.specs.Store.{written}
 use borrow.Author.Needs.{needs}
 use Rattle.compact.proofs.write_numbered.Statement.{statement}
@@ -13,8 +13,10 @@ write-marked-requires c κs =
     may-write _ _ _ mostMarks (start .pre .0 .markable) _ (start .pre .0 .marks-are) _ (start .pre .0 .behind) (start .pre .0 .places-are)
     (start .pre .0 .marks-fit) (start .pre .0 .places-fit) _ (start .pre .1)
 
-mapped-requires : tie.Need-mapped-requires
-mapped-requires c κs = search needs
+renamed-roots-requires : tie.Need-renamed-roots-requires
+renamed-roots-requires c κs =
+    let start = c .before .before .before .before .before .before .before .before in
+    inside-mono _ _ (start .pre .0 .markable .inside) _ (start .pre .0 .places-fit)
 
 same-length : tie.Need-same-length
 same-length c = search needs
@@ -23,7 +25,7 @@ returns : tie.Need-returns
 returns c =
     let at-write-marked = c .before .before .before in
     let start = at-write-marked .before .before .before .before .before .before in (
-      (c .mapped .ensures) ∙ root-place _ _ _ mostMarks (start .pre .0 .markable) _ (start .pre .0 .marks-are) _ (start .pre .0 .behind)
+      (c .renamed-roots .ensures) ∙ new-roots _ _ _ mostMarks (start .pre .0 .markable) _ (start .pre .0 .marks-are) _ (start .pre .0 .behind)
           (start .pre .0 .places-are),
       (at-write-marked .write-marked .ensures) ∙ ap (written _)
           (kept-list _ _ _ mostMarks (start .pre .0 .markable) _ (start .pre .0 .marks-are)),
@@ -31,4 +33,4 @@ returns c =
 
 pub write-numbered-spec : {M : Type 1} → statement M
 write-numbered-spec =
-    tie.close (tie.spec write-marked-requires mapped-requires same-length returns)
+    tie.close (tie.spec write-marked-requires renamed-roots-requires same-length returns)
