@@ -1,14 +1,16 @@
 -- Where Compact accepts: what its result store holds, from its answered count and root.
-use Prim.Native.Nat.{ℕ, _-_, _≤_, _<_}
-use mathlib.Core.List.{List, [], _∷_, _++_}
+use Prim.Native.Nat.{ℕ, _≤_, _<_}
+use mathlib.Core.List.{List, [], _∷_}
 use mathlib.Core.Logic.{_↔_}
 use mathlib.Core.Path.{_≡_}
 use native.Mathlib.Omega.{arith}
-use lib.ListN.{getD, length, replicate}
+use lib.ListN.{getD, length}
 use Rattle.field.specs.Fields.{Field, Within}
 use Rattle.ring.specs.Ring.{Ops}
 use Rattle.field.specs.declared.QuadFelt.{QuadFelt}
-use Rattle.dag.specs.Nodes.{nodes, wordsOf, filled, blank}
+use Rattle.dag.specs.View.{View, interleaved}
+use Rattle.dag.specs.Nodes.{nodes}
+use Rattle.dag.specs.Store.{stored}
 use Rattle.dag.specs.NodeLaws.{length-nodes}
 use Rattle.dag.specs.Check.{listCheck}
 use Rattle.dag.specs.PassLaws.{Rooted, rooted}
@@ -22,14 +24,14 @@ use Rattle.compact.specs.Reach.Reach.{root}
 use Rattle.compact.specs.Compact.{compact}
 use Rattle.compact.specs.OperandLaws.{one-below}
 use Rattle.compact.specs.CompactLaws.{compact-short, compact-well-formed, compact-inside, compact-value, compact-count, compact-twice}
-use Rattle.dag.specs.WordLaws.{nodes-words, words-pass}
+use Rattle.dag.specs.WordLaws.{nodes-stored, stored-pass}
 use Rattle.compact.specs.Calls.{compacted, keptOf, compactCheck, compactResult}
 use Rattle.compact.specs.CallLaws.{tests}
 use Rattle.compact.specs.Contracts.{AllBelow}
 use Rattle.compact.specs.declared.Kept.{Kept}
 
 module _ (field : Field) where
-  module _ (s : List ℕ) (n at-root : ℕ) (result : List ℕ) (e : compactCheck field s n at-root (length result) ≡ Good) where
+  module _ (s : View) (n at-root : ℕ) (result : List ℕ) (e : compactCheck field s n at-root (interleaved result .room) ≡ Good) where
     -- the answer and the result store
     abbrev kept : Kept
     kept = keptOf (compacted s n (at-root ∷ []))
@@ -49,21 +51,21 @@ module _ (field : Field) where
     inside : AllBelow (length (nodes s n)) (at-root ∷ [])
     inside = one-below (length (nodes s n)) at-root (omega (arith, length-nodes s n, passed .inside))
 
-    begins : store ≡ wordsOf (compacted s n (at-root ∷ []) .list) ++ replicate (length result - length (wordsOf (compacted s n (at-root ∷ []) .list))) blank
-    unfolding compactResult filled
-    begins = rw e
+    store-is : store ≡ stored result (compacted s n (at-root ∷ []) .list)
+    unfolding compactResult
+    store-is = rw e
 
     -- it holds the compacted list
-    pub answer-list : nodes store (kept .count) ≡ compacted s n (at-root ∷ []) .list
+    pub answer-list : nodes (interleaved store) (kept .count) ≡ compacted s n (at-root ∷ []) .list
     unfolding keptOf
-    answer-list = rw begins (nodes-words (replicate (length result - length (wordsOf (compacted s n (at-root ∷ []) .list))) blank) (compacted s n (at-root ∷ []) .list))
+    answer-list = rw store-is (nodes-stored result (compacted s n (at-root ∷ []) .list))
 
     -- it passes the list check
-    pub answer-passes : listCheck (field .bounds) store (kept .count) new-root ≡ Good
+    pub answer-passes : listCheck (field .bounds) (interleaved store) (kept .count) new-root ≡ Good
     unfolding keptOf compacted compact
     answer-passes =
-        rw begins
-        (words-pass (replicate (length result - length (wordsOf (compacted s n (at-root ∷ []) .list))) blank) (field .bounds) (compacted s n (at-root ∷ []) .list)
+        rw store-is
+        (stored-pass result (compacted s n (at-root ∷ []) .list) (field .bounds)
         (compact-well-formed (nodes s n) (at-root ∷ []) (Within (field .bounds)) well-formed inside) new-root
         (compact-inside (nodes s n) (at-root ∷ []) (Within (field .bounds)) well-formed inside new-root here)
         (omega (arith, compact-short (nodes s n) (at-root ∷ []), length-nodes s n, passed .list .most)))
@@ -73,7 +75,7 @@ module _ (field : Field) where
     root-value F given = compact-value (nodes s n) (at-root ∷ []) (Within (field .bounds)) well-formed inside F given at-root (root here)
 
     -- the root's value is kept, over any ring and any elements given to the keys
-    pub answer-value : (F : Ops QuadFelt) (given : ℕ → QuadFelt) → value F given (nodes store (kept .count)) new-root ≡ value F given (nodes s n) at-root
+    pub answer-value : (F : Ops QuadFelt) (given : ℕ → QuadFelt) → value F given (nodes (interleaved store) (kept .count)) new-root ≡ value F given (nodes s n) at-root
     answer-value F given = rw answer-list (root-value F given)
 
     -- never more records than before
@@ -91,6 +93,6 @@ module _ (field : Field) where
     twice = compact-twice (Within (field .bounds)) (nodes s n) (at-root ∷ []) well-formed inside
 
     -- compacting the answer changes nothing more
-    pub answer-again : compacted store (kept .count) (new-root ∷ []) ≡ compacted s n (at-root ∷ [])
+    pub answer-again : compacted (interleaved store) (kept .count) (new-root ∷ []) ≡ compacted s n (at-root ∷ [])
     unfolding compacted
     answer-again = rw answer-list twice

@@ -1,24 +1,23 @@
 -- From the marks in an array to the compacted list, and what Compact answers.
-use Prim.Native.Nat.{ℕ, _*_, _-_, _≤_, _<_}
+use Prim.Native.Nat.{ℕ, _≤_, _<_}
 use mathlib.Core.Bool.{Bool, true, false, true≢false}
 use mathlib.Core.List.{List, [], _∷_, _++_, map}
 use mathlib.Core.Path.{_≡_, refl, sym, _∙_, ap}
 use native.Mathlib.Omega.{arith}
-use borrow.Author.Tests.{leb-true}
-use lib.Dec.{leb}
-use lib.ListN.{getD, length, take, drop, replicate, length-replicate}
+use lib.ListN.{getD, length, drop, replicate, length-replicate}
 use Rattle.field.specs.Fields.{Field, Within}
-use Rattle.dag.specs.Nodes.{mostRecords, nodes, blank}
+use Rattle.dag.specs.View.{View, interleaved}
+use Rattle.dag.specs.Nodes.{mostRecords, nodes}
 use Rattle.dag.specs.NodeLaws.{length-nodes}
 use Rattle.dag.specs.Refusals.{isRefused}
 use Rattle.dag.specs.Roots.{rootsOf, rootsFrom}
 use Rattle.dag.specs.RootLaws.{roots-from, inside-one}
-use Rattle.dag.specs.Check.{roomCheck, listCheck}
-use Rattle.dag.specs.CheckLaws.{then-good, need-good}
-use Rattle.dag.specs.PassLaws.{rooted}
+use Rattle.dag.specs.Check.{listCheck}
+use Rattle.dag.specs.CheckLaws.{then-good}
+use Rattle.dag.specs.PassLaws.{room-enough, rooted}
+use Rattle.dag.specs.ViewLaws.{same-room}
 use Rattle.dag.specs.StoreLaws.{sound-well-formed}
 use Rattle.dag.specs.declared.Refusal.{Refusal}
-use Rattle.dag.specs.declared.Refusal.the-variants.{StoreTooShort}
 use Rattle.dag.specs.declared.Roots.{Roots}
 use Rattle.dag.specs.declared.Checked.{Checked}
 use Rattle.dag.specs.declared.Checked.the-variants as Checked'
@@ -27,8 +26,8 @@ use Rattle.compact.specs.Compact.{rank, ranks, kept, compact}
 use Rattle.compact.specs.OperandLaws.{inside-below, map-cong}
 use Rattle.compact.specs.ArrayLaws.{Same, sweep-same, rank-same, kept-same, getD-ranks}
 use Rattle.compact.specs.CompactLaws.{compact-length, compact-short}
-use Rattle.dag.specs.Store.{written}
-use Rattle.dag.specs.WordLaws.{length-written, written-filled}
+use Rattle.dag.specs.Store.{written, blankedBehind}
+use Rattle.dag.specs.WordLaws.{length-written, written-stored}
 use Rattle.compact.specs.Contracts.{mostMarks, Unmarked, Markable, Numbered, Writing}
 use Rattle.compact.specs.Calls.{compacted, keptOf, compactStores, compactCheck, compactAnswer, compactResult}
 use Rattle.compact.specs.declared.Kept.{Kept}
@@ -41,12 +40,7 @@ pub refused-is : (c : Checked) → isRefused c ≡ true → (r : Refusal) × (c 
 refused-is Checked'.Good h = absurd (true≢false (sym h))
 refused-is (Checked'.Refused r) h = (r, refl)
 
--- a store whose test passes has room
-pub room-good : (needed room : ℕ) → roomCheck needed room ≡ Checked'.Good → needed ≤ room
-unfolding roomCheck
-room-good needed room e = leb-true needed room (need-good (leb needed room) StoreTooShort e)
-
-module _ (s : List ℕ) (n : ℕ) (roots : Roots) (k : ℕ) (g : Markable s n roots k) (m : List Bool) (e : m ≡ sweep (nodes s n) n (marked (replicate k false) (rootsOf roots))) where
+module _ (s : View) (n : ℕ) (roots : Roots) (k : ℕ) (g : Markable s n roots k) (m : List Bool) (e : m ≡ sweep (nodes s n) n (marked (replicate k false) (rootsOf roots))) where
   same : Same m (marks (nodes s n) (rootsOf roots))
   same =
       sweep-same (Within (g .sound .0)) (nodes s n) (sound-well-formed (g .sound .0) s n (g .sound .1)) (rootsOf roots)
@@ -72,14 +66,14 @@ module _ (s : List ℕ) (n : ℕ) (roots : Roots) (k : ℕ) (g : Markable s n ro
         (map-cong (λ i. getD remap i 0) (rank (marks (nodes s n) (rootsOf roots))) (rootsOf roots)
         (λ i p. new-place i (inside-below n roots (g .inside) i p) ∙ rank-same m (marks (nodes s n) (rootsOf roots)) same i))
 
-    pub may-write : n ≤ length m → n ≤ length remap → (d : ℕ) → 3 * length (compacted s n (rootsOf roots) .list) ≤ d → Writing s n m remap d
+    pub may-write : n ≤ length m → n ≤ length remap → (d : ℕ) → length (compacted s n (rootsOf roots) .list) ≤ d → Writing s n m remap d
     may-write hm hp d h = record { sound = g .sound; marks = hm; remaps = record { fits = hp; places = new-place }; room = rw kept-count h }
 
 -- marks and new places, as they are made
 pub unmarked-long : (k : ℕ) (m : List Bool) → m ≡ replicate k false → length m ≡ k
 unmarked-long k m e = ap length e ∙ length-replicate k false
 
-pub numbered : (s : List ℕ) (n : ℕ) (roots : Roots) (m reach : List Bool) (map after : List ℕ) (r : ℕ) → Markable s n roots mostMarks → Unmarked m → n ≤ length map
+pub numbered : (s : View) (n : ℕ) (roots : Roots) (m reach : List Bool) (map after : List ℕ) (r : ℕ) → Markable s n roots mostMarks → Unmarked m → n ≤ length map
     → reach ≡ sweep (nodes s n) n (marked m (rootsOf roots)) → length reach ≡ length m → r ≡ rank reach n → after ≡ ranks reach n ++ drop n map → length after ≡ length map
     → (r ≡ length (compacted s n (rootsOf roots) .list)) × Numbered s n roots reach after
 numbered s n roots m reach map after r g u fits er el ec ea es =
@@ -97,14 +91,14 @@ numbered s n roots m reach map after r g u fits er el ec ea es =
     )
 
 module _ (field : Field) where
-  module _ (s : List ℕ) (n root : ℕ) (result : List ℕ) where
+  module _ (s : View) (n root : ℕ) (result : List ℕ) where
     -- where Compact refuses
-    module _ (h : isRefused (compactCheck field s n root (length result)) ≡ true) where
-      reason : (r : Refusal) × (compactCheck field s n root (length result) ≡ Checked'.Refused r)
-      reason = refused-is (compactCheck field s n root (length result)) h
+    module _ (h : isRefused (compactCheck field s n root (interleaved result .room)) ≡ true) where
+      reason : (r : Refusal) × (compactCheck field s n root (interleaved result .room) ≡ Checked'.Refused r)
+      reason = refused-is (compactCheck field s n root (interleaved result .room)) h
 
-      pub answer-refused : (c : Checked) (roots : Roots) → c ≡ compactCheck field s n root (length result) → roots ≡ rootsFrom []
-          → record { checked = c; count = 0; roots = roots } ≡ compactAnswer field s n root (length result)
+      pub answer-refused : (c : Checked) (roots : Roots) → c ≡ compactCheck field s n root (interleaved result .room) → roots ≡ rootsFrom []
+          → record { checked = c; count = 0; roots = roots } ≡ compactAnswer field s n root (interleaved result .room)
       unfolding compactAnswer
       answer-refused c roots q e = rw (q, e, reason .1)
 
@@ -113,20 +107,20 @@ module _ (field : Field) where
       result-refused = rw (reason .1)
 
     -- where Compact accepts
-    module _ (e : compactCheck field s n root (length result) ≡ Checked'.Good) where
-      pub tests : (listCheck (field .bounds) s n root ≡ Checked'.Good) × (compactStores n (length result) ≡ Checked'.Good)
+    module _ (e : compactCheck field s n root (interleaved result .room) ≡ Checked'.Good) where
+      pub tests : (listCheck (field .bounds) s n root ≡ Checked'.Good) × (compactStores n (interleaved result .room) ≡ Checked'.Good)
       unfolding compactCheck
-      tests = then-good (listCheck (field .bounds) s n root) (compactStores n (length result)) e
+      tests = then-good (listCheck (field .bounds) s n root) (compactStores n (interleaved result .room)) e
 
-      pub room : 3 * length (compacted s n (root ∷ []) .list) ≤ length result
+      pub room : length (compacted s n (root ∷ []) .list) ≤ interleaved result .room
       unfolding compacted
-      room = omega (arith, room-good (3 * n) (length result) (tests .1), compact-short (nodes s n) (root ∷ []), length-nodes s n)
+      room = omega (arith, room-enough n (interleaved result .room) (tests .1), compact-short (nodes s n) (root ∷ []), length-nodes s n)
 
       module _ (roots : Roots) (q : roots ≡ rootsFrom (root ∷ [])) where
         roots-are : rootsOf roots ≡ root ∷ []
         roots-are = rw (q, roots-from (root ∷ []))
 
-        pub may-compact : Markable s n roots mostRecords × (3 * length (compacted s n (rootsOf roots) .list) ≤ length result)
+        pub may-compact : Markable s n roots mostRecords × (length (compacted s n (rootsOf roots) .list) ≤ interleaved result .room)
         may-compact =
             let h = rooted (field .bounds) s n root (tests .0) in
             (record { sound = (field .bounds, h .list .sound); inside = rw q (inside-one n root (h .inside)); fits = h .list .most }, rw roots-are room)
@@ -135,8 +129,8 @@ module _ (field : Field) where
           kept-is : k ≡ keptOf (compacted s n (root ∷ []))
           kept-is = rw (f, roots-are)
 
-          pub answer-done : (c : Checked) → c ≡ compactCheck field s n root (length result)
-              → record { checked = c; count = k .count; roots = k .roots } ≡ compactAnswer field s n root (length result)
+          pub answer-done : (c : Checked) → c ≡ compactCheck field s n root (interleaved result .room)
+              → record { checked = c; count = k .count; roots = k .roots } ≡ compactAnswer field s n root (interleaved result .room)
           unfolding compactAnswer
           answer-done c g = rw (g, e, kept-is)
 
@@ -145,9 +139,11 @@ module _ (field : Field) where
           count-is = ap (λ k. k .count) kept-is
 
           module _ (mid : List ℕ) (w : mid ≡ written result (compacted s n (rootsOf roots) .list)) where
-            pub may-blank : 3 * k .count ≤ length mid
-            may-blank = rw (w, roots-are, count-is, length-written result (compacted s n (root ∷ []) .list) room) room
+            pub may-blank : k .count ≤ interleaved mid .room
+            may-blank =
+                rw (count-is, same-room mid result (ap length (w ∙ ap (λ is. written result (compacted s n is .list)) roots-are) ∙ length-written result (compacted s n (root ∷ []) .list) room))
+                room
 
-            pub result-done : (after : List ℕ) → after ≡ take (3 * k .count) mid ++ replicate (length mid - 3 * k .count) blank → after ≡ compactResult field s n root result
+            pub result-done : (after : List ℕ) → after ≡ blankedBehind mid (k .count) → after ≡ compactResult field s n root result
             unfolding compactResult
-            result-done after g = g ∙ rw (e, w, roots-are, count-is) (written-filled result (compacted s n (root ∷ []) .list) room)
+            result-done after g = g ∙ rw (e, w, roots-are, count-is) (written-stored result (compacted s n (root ∷ []) .list) room)

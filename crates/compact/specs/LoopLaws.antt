@@ -1,5 +1,5 @@
 -- The turns of each loop of the code.
-use Prim.Native.Nat.{ℕ, zero, suc, _+_, _*_, _-_, _≤_, _<_}
+use Prim.Native.Nat.{ℕ, zero, suc, _+_, _-_, _≤_, _<_}
 use mathlib.Core.Bool.{Bool, true, false, cond}
 use mathlib.Core.List.{List, [], _∷_, _++_}
 use mathlib.Core.Path.{_≡_, refl, sym, _∙_}
@@ -8,6 +8,7 @@ use native.Mathlib.Omega.{arith}
 use lib.ListN.{getD, length, set, take}
 use lib.Seq.{take-suc}
 use Rattle.field.specs.Fields.{Within}
+use Rattle.dag.specs.View.{View, interleaved}
 use Rattle.dag.specs.Nodes.{nodes, at, operands, rename, recordAt}
 use Rattle.dag.specs.NodeLaws.{at-nodes}
 use Rattle.dag.specs.Store.{Records, put, written}
@@ -29,14 +30,14 @@ marked-snoc m [] i = refl
 marked-snoc m (k ∷ is) i = marked-snoc (set m k true) is i
 
 -- the operands of a record that passes are inside a longer array
-pub operands-inside : (s : List ℕ) (n i k : ℕ) (x : NodeKind) → Records s n → i < n → n ≤ k → x ≡ recordAt s i → AllBelow k (operands x)
+pub operands-inside : (s : View) (n i k : ℕ) (x : NodeKind) → Records s n → i < n → n ≤ k → x ≡ recordAt s i → AllBelow k (operands x)
 unfolding WellFormed
 operands-inside s n i k x sound h long e =
     rw (e, ← at-nodes s n i h)
     λ j q. let b = operands-below (Within (sound .0)) i (at (nodes s n) i) (sound-well-formed (sound .0) s n (sound .1) i) j q in omega arith
 
 -- so may the record stand behind them
-pub record-fine : (s : List ℕ) (n i k : ℕ) (x : NodeKind) → Records s n → i < n → n ≤ k → x ≡ recordAt s i → Fine Any k x
+pub record-fine : (s : View) (n i k : ℕ) (x : NodeKind) → Records s n → i < n → n ≤ k → x ≡ recordAt s i → Fine Any k x
 unfolding WellFormed
 record-fine s n i k x sound h long e =
     rw (e, ← at-nodes s n i h)
@@ -66,8 +67,8 @@ sweep-none l zero m h = refl
 sweep-none l (suc i) m h = absurd (omega arith)
 
 -- one record of the write
-module _ (s : List ℕ) (n : ℕ) (m : List Bool) (map d : List ℕ) (w : Writing s n m map (length d)) (i : ℕ) (h : i < n) where
-  pub place-room : Marked m i → 3 * getD map i 0 + 2 < length d
+module _ (s : View) (n : ℕ) (m : List Bool) (map d : List ℕ) (w : Writing s n m map (interleaved d .room)) (i : ℕ) (h : i < n) where
+  pub place-room : Marked m i → getD map i 0 < interleaved d .room
   place-room q = let r = rank-lt m i n q h in rw (w .remaps .places i h) (omega (arith, w .room))
 
   renamed : (x y : NodeKind) → x ≡ recordAt s i → y ≡ rename (λ j. getD map j 0) x → y ≡ rename (rank m) (at (nodes s n) i)

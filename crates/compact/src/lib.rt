@@ -4,9 +4,10 @@ use dag::NodeKind;
 use dag::Roots;
 ghost use mathlib.Core.Path.{_≡_};
 ghost use mathlib.Core.List.{_++_};
-ghost use Prim.Native.Nat.{_*_, _≤_};
+ghost use Prim.Native.Nat.{_≤_};
 ghost use lib.ListN.{length, drop};
 ghost use Rattle.field.specs.Fields.{goldilocks};
+ghost use Rattle.dag.specs.View.{interleaved};
 ghost use Rattle.dag.specs.Nodes as Nodes;
 ghost use Rattle.dag.specs.Roots.{rootsOf, Inside};
 ghost use Rattle.compact.specs.Reach as Reach;
@@ -60,8 +61,8 @@ fn mark_roots(reachable: &mut [bool], roots: Roots)
 
 // Marks what the roots reach: the roots, then from the last place down the operands of each marked record.
 pub fn mark_reachable(list: &[u64], n: usize, roots: Roots, reachable: &mut [bool])
-    requires { ⌜ Markable (now list) n roots (length (now reachable)) ⌝ }
-    ensures { λ _. ⌜ now (reachable .exit) ≡ Reach.sweep (Nodes.nodes (now (list .entry)) n) n (Reach.marked (now (reachable .entry)) (rootsOf roots)) ⌝ }
+    requires { ⌜ Markable (interleaved (now list)) n roots (length (now reachable)) ⌝ }
+    ensures { λ _. ⌜ now (reachable .exit) ≡ Reach.sweep (Nodes.nodes (interleaved (now (list .entry))) n) n (Reach.marked (now (reachable .entry)) (rootsOf roots)) ⌝ }
 {
     mark_roots(reachable, roots);
     let mut i = n;
@@ -94,8 +95,8 @@ pub fn number_marked(reachable: &[bool], n: usize, remap: &mut [u64]) -> usize
 
 // Writes the marked ones of the first n records, renamed, to the start of the result store.
 pub fn write_marked(list: &[u64], n: usize, reachable: &[bool], remap: &[u64], result: &mut [u64])
-    requires { ⌜ Writing (now list) n (now reachable) (now remap) (length (now result)) ⌝ }
-    ensures { λ _. ⌜ now (result .exit) ≡ written (now (result .entry)) (Places.kept (Nodes.nodes (now (list .entry)) n) (now (reachable .entry)) n) ⌝ }
+    requires { ⌜ Writing (interleaved (now list)) n (now reachable) (now remap) (interleaved (now result) .room) ⌝ }
+    ensures { λ _. ⌜ now (result .exit) ≡ written (now (result .entry)) (Places.kept (Nodes.nodes (interleaved (now (list .entry))) n) (now (reachable .entry)) n) ⌝ }
 {
     let mut next = 0;
     while next < n {
@@ -119,8 +120,8 @@ pub fn number_reachable(
     reachable: &mut [bool],
     remap: &mut [u64],
 ) -> usize
-    requires { ⌜ Markable (now list) n roots mostMarks × Unmarked (now reachable) × (n ≤ length (now remap)) ⌝ }
-    ensures { λ r. ⌜ (r ≡ length (Calls.compacted (now (list .entry)) n (rootsOf roots) .list)) × Numbered (now (list .entry)) n roots (now (reachable .exit)) (now (remap .exit)) ⌝ }
+    requires { ⌜ Markable (interleaved (now list)) n roots mostMarks × Unmarked (now reachable) × (n ≤ length (now remap)) ⌝ }
+    ensures { λ r. ⌜ (r ≡ length (Calls.compacted (interleaved (now (list .entry))) n (rootsOf roots) .list)) × Numbered (interleaved (now (list .entry))) n roots (now (reachable .exit)) (now (remap .exit)) ⌝ }
 {
     mark_reachable(list, n, roots, reachable);
     number_marked(reachable, n, remap)
@@ -135,8 +136,8 @@ pub fn write_numbered(
     remap: &[u64],
     result: &mut [u64],
 ) -> Roots
-    requires { ⌜ Numbered (now list) n roots (now reachable) (now remap) × (3 * length (Calls.compacted (now list) n (rootsOf roots) .list) ≤ length (now result)) ⌝ }
-    ensures { λ r. ⌜ (r ≡ Calls.keptOf (Calls.compacted (now (list .entry)) n (rootsOf roots)) .roots) × (now (result .exit) ≡ written (now (result .entry)) (Calls.compacted (now (list .entry)) n (rootsOf roots) .list)) ⌝ }
+    requires { ⌜ Numbered (interleaved (now list)) n roots (now reachable) (now remap) × (length (Calls.compacted (interleaved (now list)) n (rootsOf roots) .list) ≤ interleaved (now result) .room) ⌝ }
+    ensures { λ r. ⌜ (r ≡ Calls.keptOf (Calls.compacted (interleaved (now (list .entry))) n (rootsOf roots)) .roots) × (now (result .exit) ≡ written (now (result .entry)) (Calls.compacted (interleaved (now (list .entry))) n (rootsOf roots) .list)) ⌝ }
 {
     write_marked(list, n, reachable, remap, result);
     dag::renamed_roots(remap, roots)
@@ -144,9 +145,9 @@ pub fn write_numbered(
 
 // Writes what the roots reach, renamed, to the start of the result store, with a store for the new places lent.
 fn compact_in(list: &[u64], n: usize, roots: Roots, remap: &mut [u64], result: &mut [u64]) -> Kept
-    requires { ⌜ Markable (now list) n roots mostMarks × (n ≤ length (now remap)) × (3 * length (Calls.compacted (now list) n (rootsOf roots) .list) ≤ length (now result)) ⌝ }
-    ensures { λ r. ⌜ r ≡ Calls.keptOf (Calls.compacted (now (list .entry)) n (rootsOf roots)) ⌝ }
-    ensures { λ _. ⌜ now (result .exit) ≡ written (now (result .entry)) (Calls.compacted (now (list .entry)) n (rootsOf roots) .list) ⌝ }
+    requires { ⌜ Markable (interleaved (now list)) n roots mostMarks × (n ≤ length (now remap)) × (length (Calls.compacted (interleaved (now list)) n (rootsOf roots) .list) ≤ interleaved (now result) .room) ⌝ }
+    ensures { λ r. ⌜ r ≡ Calls.keptOf (Calls.compacted (interleaved (now (list .entry))) n (rootsOf roots)) ⌝ }
+    ensures { λ _. ⌜ now (result .exit) ≡ written (now (result .entry)) (Calls.compacted (interleaved (now (list .entry))) n (rootsOf roots) .list) ⌝ }
 {
     let mut reachable = [false; MOST_MARKS];
     let count = number_reachable(list, n, roots, &mut reachable, remap);
@@ -158,10 +159,10 @@ fn compact_in(list: &[u64], n: usize, roots: Roots, remap: &mut [u64], result: &
 
 // The same, with a store for the new places of the list's length.
 fn compact_sized(list: &[u64], n: usize, roots: Roots, result: &mut [u64]) -> Kept
-    requires { ⌜ Markable (now list) n roots Nodes.mostRecords ⌝ }
-    requires { ⌜ 3 * length (Calls.compacted (now list) n (rootsOf roots) .list) ≤ length (now result) ⌝ }
-    ensures { λ r. ⌜ r ≡ Calls.keptOf (Calls.compacted (now (list .entry)) n (rootsOf roots)) ⌝ }
-    ensures { λ _. ⌜ now (result .exit) ≡ written (now (result .entry)) (Calls.compacted (now (list .entry)) n (rootsOf roots) .list) ⌝ }
+    requires { ⌜ Markable (interleaved (now list)) n roots Nodes.mostRecords ⌝ }
+    requires { ⌜ length (Calls.compacted (interleaved (now list)) n (rootsOf roots) .list) ≤ interleaved (now result) .room ⌝ }
+    ensures { λ r. ⌜ r ≡ Calls.keptOf (Calls.compacted (interleaved (now (list .entry))) n (rootsOf roots)) ⌝ }
+    ensures { λ _. ⌜ now (result .exit) ≡ written (now (result .entry)) (Calls.compacted (interleaved (now (list .entry))) n (rootsOf roots) .list) ⌝ }
 {
     if n <= dag::FEW_RECORDS {
         let mut few = [0u64; dag::FEW_RECORDS];
@@ -171,31 +172,23 @@ fn compact_sized(list: &[u64], n: usize, roots: Roots, result: &mut [u64]) -> Ke
     compact_in(list, n, roots, &mut remap, result)
 }
 
-// The test of Compact's result store.
-fn compact_stores(n: usize, result_words: usize) -> Checked
-    requires { ⌜ n ≤ Nodes.mostRecords ⌝ }
-    ensures { λ r. ⌜ r ≡ Calls.compactStores n «result_words» ⌝ }
-{
-    dag::room_check(3 * n, result_words)
-}
-
 // Compact's tests.
-fn compact_check(list: &[u64], n: usize, root: usize, result_words: usize) -> Checked
-    ensures { λ r. ⌜ r ≡ Calls.compactCheck goldilocks (now (list .entry)) n root «result_words» ⌝ }
+fn compact_check(list: &[u64], n: usize, root: usize, result_room: usize) -> Checked
+    ensures { λ r. ⌜ r ≡ Calls.compactCheck goldilocks (interleaved (now (list .entry))) n root «result_room» ⌝ }
 {
     let checked = dag::list_check(list, n, root);
     if dag::is_refused(checked) {
         return checked;
     }
-    compact_stores(n, result_words)
+    dag::room_check(n, result_room)
 }
 
 // Compact: the records that the root reaches, in order, into the result store.
 pub fn compact(list: &[u64], n: usize, root: usize, result: &mut [u64]) -> CompactAnswer
-    ensures answer { λ r. ⌜ r ≡ Calls.compactAnswer goldilocks (now (list .entry)) n root (length (now (result .entry))) ⌝ }
-    ensures store { λ _. ⌜ now (result .exit) ≡ Calls.compactResult goldilocks (now (list .entry)) n root (now (result .entry)) ⌝ }
+    ensures answer { λ r. ⌜ r ≡ Calls.compactAnswer goldilocks (interleaved (now (list .entry))) n root (interleaved (now (result .entry)) .room) ⌝ }
+    ensures store { λ _. ⌜ now (result .exit) ≡ Calls.compactResult goldilocks (interleaved (now (list .entry))) n root (now (result .entry)) ⌝ }
 {
-    let checked = compact_check(list, n, root, result.len());
+    let checked = compact_check(list, n, root, dag::room(result));
     if dag::is_refused(checked) {
         return CompactAnswer {
             checked,
@@ -204,7 +197,7 @@ pub fn compact(list: &[u64], n: usize, root: usize, result: &mut [u64]) -> Compa
         };
     }
     let kept = compact_sized(list, n, dag::one_root(root), result);
-    dag::blank_from(result, 3 * kept.count);
+    dag::blank_records(result, kept.count);
     let roots = kept.roots;
     CompactAnswer {
         checked,

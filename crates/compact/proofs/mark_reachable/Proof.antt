@@ -1,4 +1,5 @@
 use Rattle.compact.specs.LoopLaws.{sweep-none}
+use Rattle.dag.specs.View.{interleaved}
 use Rattle.dag.specs.NodeLaws.{at-nodes}
 use Rattle.compact.specs.LoopLaws.{operands-inside, sweep-marked, sweep-unmarked}
 use Rattle.compact.specs.Reach.{sweep}
@@ -12,7 +13,7 @@ use Rattle.compact.proofs.mark_reachable.Statement.{statement}
 use Rattle.compact.proofs.mark_reachable.Tie as tie
 
 abbrev Inv-loop : tie.InvT-loop
-Inv-loop list n reachable₀ i₀ reachable i = (i ≤ n) × (length reachable ≡ length reachable₀) × (sweep (nodes list n) n reachable₀ ≡ sweep (nodes list n) i reachable)
+Inv-loop list n reachable₀ i₀ reachable i = (i ≤ n) × (length reachable ≡ length reachable₀) × (sweep (nodes (interleaved list) n) n reachable₀ ≡ sweep (nodes (interleaved list) n) i reachable)
 
 abbrev μ-loop : tie.MeasureT-loop
 μ-loop list n reachable₀ i₀ reachable i = i

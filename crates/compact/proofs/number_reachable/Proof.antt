@@ -1,4 +1,5 @@
 use native.Mathlib.Omega.{arith}
+use Rattle.dag.specs.View.{interleaved}
 use Rattle.compact.specs.Contracts.{mostMarks}
 use Rattle.compact.specs.CallLaws.{unmarked-long, numbered}
 use borrow.Author.Needs.{needs}
@@ -26,7 +27,7 @@ returns c =
     let at-number-marked = c .before .before in
     let at-mark-reachable = at-number-marked .before .before .before .before .before in
     let start = at-mark-reachable .before .before .before .before .before in
-    numbered (start .args .list .now) (start .args .n) (start .args .roots) (start .args .reachable .now) _ (start .args .remap .now) _ _ (start .pre .0)
+    numbered (interleaved (start .args .list .now)) (start .args .n) (start .args .roots) (start .args .reachable .now) _ (start .args .remap .now) _ _ (start .pre .0)
     (start .pre .1) (start .pre .2) (at-mark-reachable .mark-reachable .ensures) (at-mark-reachable .mark-reachable .kept .1 .1 .1 .0)
     (at-number-marked .number-marked .ensures .0) (at-number-marked .number-marked .ensures .1) (at-number-marked .number-marked .kept .1 .1 .0)
 

@@ -4,6 +4,8 @@ use native.Mathlib.Nat.{le-antisymm}
 use native.Mathlib.Omega.{arith}
 use lib.ListN.{length}
 use Rattle.field.specs.Fields.{goldilocks}
+use Rattle.dag.specs.View.{interleaved}
+use Rattle.dag.specs.ViewLaws.{same-room}
 use Rattle.dag.specs.Nodes.{nodes}
 use Rattle.compact.specs.Compact.{kept}
 use Rattle.compact.specs.LoopLaws.{record-fine, place-room, write-kept, write-skipped}
@@ -13,7 +15,7 @@ use Rattle.compact.proofs.write_marked.Statement.{statement}
 use Rattle.compact.proofs.write_marked.Tie as tie
 
 abbrev Inv-loop : tie.InvT-loop
-Inv-loop list n reachable remap result₀ next₀ result next = (next ≤ n) × (length result ≡ length result₀) × (result ≡ written result₀ (kept (nodes list n) reachable next))
+Inv-loop list n reachable remap result₀ next₀ result next = (next ≤ n) × (length result ≡ length result₀) × (result ≡ written result₀ (kept (nodes (interleaved list) n) reachable next))
 
 abbrev μ-loop : tie.MeasureT-loop
 μ-loop list n reachable remap result₀ next₀ result next = n - next
@@ -58,8 +60,8 @@ put-node-requires c κs =
     let at-if1 = at-mapped .before .before in
     let at-loop = at-if1 .before .before .before in
     let start = at-loop .before .before .before .before .before in
-    rw ((at-loop .loop .inv .1), (at-mapped .mapped .ensures)) (place-room _ _ _ _ (start .args .result .now) (start .pre) _ (omega arith)
-    (at-if1 .if1 .taken))
+    rw (same-room (at-loop .loop .result) (start .args .result .now) (at-loop .loop .inv .1), (at-mapped .mapped .ensures))
+    (place-room _ _ _ _ (start .args .result .now) (start .pre) _ (omega arith) (at-if1 .if1 .taken))
 
 loop-less : tie.Need-loop-less Inv-loop μ-loop
 loop-less c = omega arith
