@@ -58,8 +58,11 @@ blank-records-requires c κs =
     let start = at-check .before .before .before .before .before in
     let told = at-check .compact-check .ensures ∙ ap (compactCheck goldilocks _ _ _) (at-check .before .room .ensures) in
     let good = good-told told (at-is-refused .is-refused .ensures) (at-test .if1 .left) in
-    may-blank goldilocks (interleaved (start .args .list .now)) (start .args .n) (start .args .root) (start .args .result .now) good _ (at-one-root .one-root .ensures) _
-    (at-sized .compact-sized .ensures .0) _ (at-sized .compact-sized .ensures .1)
+    omega (
+      arith,
+      may-blank goldilocks (interleaved (start .args .list .now)) (start .args .n) (start .args .root) (start .args .result .now) good _ (at-one-root .one-root .ensures) _
+          (at-sized .compact-sized .ensures .0) _ (at-sized .compact-sized .ensures .1),
+    )
 
 same-length : tie.Need-same-length
 same-length c = search needs
