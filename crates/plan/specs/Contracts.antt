@@ -3,33 +3,35 @@ use Prim.Native.Nat.{ℕ, _+_, _*_, _<_, _≤_}
 use mathlib.Core.List.{List, [], _∷_}
 use mathlib.Core.Path.{_≡_}
 use lib.ListN.{getD, length, set}
+use Rattle.dag.specs.Roots.{mostRoots, Inside}
 use Rattle.dag.specs.Store.{Records}
 use Rattle.dag.specs.WellFormed.{Any, Fine}
 use Rattle.dag.specs.Nodes.{mostRecords}
 use Rattle.dag.specs.declared.NodeKind.{NodeKind}
+use Rattle.dag.specs.declared.Roots.{Roots}
 use Rattle.dag.specs.declared.NodeKind.the-variants.{Add, Mul}
 use Rattle.plan.specs.Plan.{sharedFactor}
 use Rattle.plan.specs.declared.AssociativeOp.{AssociativeOp}
 use Rattle.plan.specs.declared.Plan.{Plan}
 use Rattle.plan.specs.declared.Plan.the-variants.{Factored, Rotated, Plain}
 
--- a place is mentioned at most twice by each record, and by the root
+-- a place is mentioned at most twice by each record, and by each root
 abbrev pub mostMentions : ℕ
-mostMentions = 2 * mostRecords + 1
+mostMentions = 2 * mostRecords + mostRoots
 
--- each count has room for two mentions more
-abbrev pub Countable : List ℕ → Type 0
-Countable f = (j : ℕ) → getD f j 0 + 1 < mostMentions
+-- each count has room for k mentions more
+abbrev pub Countable : ℕ → List ℕ → Type 0
+Countable k f = (j : ℕ) → getD f j 0 + k ≤ mostMentions
 
 -- each mention adds one at its place
 unfoldable pub mentioned : List ℕ → List ℕ → List ℕ
 mentioned f [] = f
 mentioned f (i ∷ is) = mentioned (set f i (getD f i 0 + 1)) is
 
--- n records, a root among them, and a count of 0 for each
-pub record Counting (s : List ℕ) (n root : ℕ) (f : List ℕ) : Type 0 where
+-- n records, roots among them, and a count of 0 for each
+pub record Counting (s : List ℕ) (n : ℕ) (roots : Roots) (f : List ℕ) : Type 0 where
   pub sound : Records s n
-  pub inside : root < n
+  pub inside : Inside n roots
   pub few : n ≤ mostRecords
   pub fits : n ≤ length f
   pub zeros : (j : ℕ) → getD f j 0 ≡ 0

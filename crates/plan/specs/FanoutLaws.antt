@@ -1,25 +1,28 @@
 -- The fanout counted in a store, mention by mention.
 use Prim.Native.Nat.{ℕ, zero, suc, _+_, _*_, _<_, _≤_}
 use mathlib.Core.Bool.{Bool, true, false, cond}
-use mathlib.Core.List.{List, [], _∷_}
-use mathlib.Core.Path.{_≡_, refl, _∙_, ap, fun-ext}
+use mathlib.Core.List.{List, [], _∷_, _++_}
+use mathlib.Core.Path.{_≡_, refl, sym, _∙_, ap, fun-ext}
 use native.Mathlib.Numerals.{add-one}
 use native.Mathlib.Omega.{arith}
 use borrow.Author.Tests.{eqb-true, eqb-false}
 use lib.Dec.{eqb}
-use lib.ListN.{length, getD, set, length-set}
-use lib.Seq.{getD-set-same, getD-set-other}
+use lib.ListN.{length, getD, set, take, length-set}
+use lib.Seq.{getD-set-same, getD-set-other, take-suc}
 use Rattle.field.specs.Fields.{Within}
 use Rattle.dag.specs.Nodes.{nodes, at, operands}
 use Rattle.dag.specs.NodeLaws.{length-nodes}
+use Rattle.dag.specs.Roots.{mostRoots, rootsOf}
+use Rattle.dag.specs.RootLaws.{inside-mono}
 use Rattle.dag.specs.WellFormed.{WellFormed}
 use Rattle.dag.specs.WellFormedLaws.{fine-mono}
 use Rattle.dag.specs.declared.NodeKind.{NodeKind}
 use Rattle.dag.specs.declared.NodeKind.the-variants.{Input, Constant, Add, Sub, Mul, Neg}
+use Rattle.dag.specs.declared.Roots.{Roots}
 use Rattle.dag.specs.StoreLaws.{sound-well-formed}
 use Rattle.builder.specs.Contracts.{read}
 use Rattle.compact.specs.Reach.{here, there}
-use Rattle.compact.specs.OperandLaws.{operands-below}
+use Rattle.compact.specs.OperandLaws.{operands-below, inside-below}
 use Rattle.compact.specs.Contracts.{AllBelow}
 use Rattle.plan.specs.Plan.{count, mentions, fanout}
 use Rattle.plan.specs.Contracts.{mentioned, mostMentions, Countable, Counting}
@@ -52,6 +55,24 @@ mentioned-at f (i ∷ is) h j =
     mentioned-at (set f i (getD f i 0 + 1)) is (rw (length-set f i (getD f i 0 + 1)) (λ k p. h k (there p))) j
     ∙ (rw (bump-at f i (h i here) j) (omega arith))
 
+mentioned-snoc : (f is : List ℕ) (i : ℕ) → mentioned f (is ++ (i ∷ [])) ≡ mentioned (mentioned f is) (i ∷ [])
+unfolding mentioned
+mentioned-snoc f [] i = refl
+mentioned-snoc f (k ∷ is) i = mentioned-snoc (set f k (getD f k 0 + 1)) is i
+
+-- with j roots mentioned there is room for one more
+pub root-fits : (f₀ f : List ℕ) (j : ℕ) → Countable mostRoots f₀ → ((i : ℕ) → getD f i 0 ≤ getD f₀ i 0 + j) → j < mostRoots → (i : ℕ) → getD f i 0 < mostMentions
+root-fits f₀ f j room few h i = let a = few i in let b = room i in omega arith
+
+-- one root more is mentioned
+module _ (f₀ f after is : List ℕ) (j v : ℕ) (e : after ≡ mentioned f (v ∷ [])) where
+  pub mentioned-turn : j < length is → f ≡ mentioned f₀ (take j is) → v ≡ getD is j 0 → after ≡ mentioned f₀ (take (j + 1) is)
+  mentioned-turn h g q = rw (e, g, q, add-one j, take-suc is j 0 h) (sym (mentioned-snoc f₀ (take j is) (getD is j 0)))
+
+  pub few-turn : v < length f → ((i : ℕ) → getD f i 0 ≤ getD f₀ i 0 + j) → (i : ℕ) → getD after i 0 ≤ getD f₀ i 0 + (j + 1)
+  unfolding mentioned
+  few-turn h few i = rw e (let a = bump-by-one f v h i in let b = few i in omega arith)
+
 one : (t : Bool) → cond t 1 0 + 0 ≤ 2
 one true = omega arith
 one false = omega arith
@@ -78,7 +99,7 @@ mentions-few l j (suc n) = let a = mentions-few l j n in let b = operands-few j 
 
 -- two mentions, one after the other
 module _ (f after : List ℕ) (a b : ℕ) (ha : a < length f) (hb : b < length f) (e : after ≡ mentioned f (a ∷ [])) where
-  pub second-fits : Countable f → (b < length after) × (getD after b 0 < mostMentions)
+  pub second-fits : Countable 2 f → (b < length after) × (getD after b 0 < mostMentions)
   unfolding mentioned
   second-fits few = (rw (e, length-mentioned f (a ∷ [])) hb, rw e (let k = bump-by-one f a ha b in let m = few b in omega arith))
 
@@ -101,11 +122,11 @@ pub counted-none : (l : List NodeKind) (f : List ℕ) → ((j : ℕ) → getD f 
 unfolding mentions
 counted-none l f h j = h j
 
-module _ (s : List ℕ) (n root : ℕ) (f₀ : List ℕ) (c : Counting s n root f₀) (i : ℕ) (f : List ℕ) (e : length f ≡ length f₀) (h : Counted (nodes s n) i f) where
-  pub counted-few : i ≤ n → (j : ℕ) → getD f j 0 < mostMentions
+module _ (s : List ℕ) (n : ℕ) (roots : Roots) (f₀ : List ℕ) (c : Counting s n roots f₀) (i : ℕ) (f : List ℕ) (e : length f ≡ length f₀) (h : Counted (nodes s n) i f) where
+  pub counted-few : i ≤ n → Countable mostRoots f
   counted-few k j = let a = mentions-few (nodes s n) j i in let b = h j in let d = c .few in omega arith
 
-  pub counted-countable : i < n → Countable f
+  pub counted-countable : i < n → Countable 2 f
   counted-countable k j = let a = mentions-few (nodes s n) j i in let b = h j in let d = c .few in omega arith
 
   module _ (k : i < n) (x : NodeKind) (ex : x ≡ at (nodes s n) i) where
@@ -120,11 +141,11 @@ module _ (s : List ℕ) (n root : ℕ) (f₀ : List ℕ) (c : Counting s n root 
     unfolding mentions
     counted-more j = rw (add-one i) (mentioned-at f (operands x) operands-inside j ∙ rw (h j, ex))
 
--- the root's mention
-pub counted-root : (s : List ℕ) (n root : ℕ) (f₀ : List ℕ) → Counting s n root f₀ → (f : List ℕ) → length f ≡ length f₀ → Counted (nodes s n) n f
-    → read (mentioned f (root ∷ [])) ≡ fanout (nodes s n) (root ∷ [])
-unfolding fanout count mentioned
-counted-root s n root f₀ c f e h =
+-- the roots' mentions
+pub counted-roots : (s : List ℕ) (n : ℕ) (roots : Roots) (f₀ : List ℕ) → Counting s n roots f₀ → (f : List ℕ) → length f ≡ length f₀ → Counted (nodes s n) n f
+    → read (mentioned f (rootsOf roots)) ≡ fanout (nodes s n) (rootsOf roots)
+unfolding fanout
+counted-roots s n roots f₀ c f e h =
     fun-ext λ j.
-    bump-at f root (let a = c .fits in let b = c .inside in omega arith) j
-    ∙ rw (h j, length-nodes s n) (omega arith)
+    mentioned-at f (rootsOf roots) (inside-below (length f) roots (inside-mono n roots (c .inside) (length f) (rw e (c .fits)))) j
+    ∙ rw (h j, length-nodes s n)

@@ -1,6 +1,7 @@
 // normalize.rs: what a round does with one record, by fanout, common_factor and existing_rotation.
 use dag::Found;
 use dag::NodeKind;
+use dag::Roots;
 ghost use mathlib.Core.Path.{_≡_};
 ghost use mathlib.Core.Bool.{_&&_};
 ghost use mathlib.Core.List.{[], _∷_};
@@ -9,6 +10,7 @@ ghost use lib.Dec.{eqb};
 ghost use lib.ListN.{length, getD};
 ghost use Rattle.dag.specs.Nodes as Nodes;
 ghost use Rattle.dag.specs.Lookup as Lookup;
+ghost use Rattle.dag.specs.Roots.{mostRoots, rootsOf, Inside};
 ghost use Rattle.dag.specs.Store as Store;
 ghost use Rattle.index.specs.Index.{NodeIndex};
 ghost use Rattle.builder.specs.Steps as Steps;
@@ -47,7 +49,7 @@ fn mention(fan: &mut [u64], i: usize)
 
 // Counts one mention each of places a and b.
 fn mention_pair(fan: &mut [u64], a: usize, b: usize)
-    requires { ⌜ (a < length (now fan)) × (b < length (now fan)) × Contracts.Countable (now fan) ⌝ }
+    requires { ⌜ (a < length (now fan)) × (b < length (now fan)) × Contracts.Countable 2 (now fan) ⌝ }
     ensures { λ _. ⌜ now (fan .exit) ≡ Contracts.mentioned (now (fan .entry)) (a ∷ b ∷ []) ⌝ }
 {
     mention(fan, a);
@@ -56,7 +58,7 @@ fn mention_pair(fan: &mut [u64], a: usize, b: usize)
 
 // Counts the mentions that a record makes.
 fn mention_operands(fan: &mut [u64], x: NodeKind)
-    requires { ⌜ AllBelow (length (now fan)) (Nodes.operands x) × Contracts.Countable (now fan) ⌝ }
+    requires { ⌜ AllBelow (length (now fan)) (Nodes.operands x) × Contracts.Countable 2 (now fan) ⌝ }
     ensures { λ _. ⌜ now (fan .exit) ≡ Contracts.mentioned (now (fan .entry)) (Nodes.operands x) ⌝ }
 {
     match x {
@@ -69,17 +71,29 @@ fn mention_operands(fan: &mut [u64], x: NodeKind)
     }
 }
 
-// The fanout of each place: each mention as an operand, and one for the root.
-pub fn fanout(list: &[u64], n: usize, root: usize, fan: &mut [u64])
-    requires { ⌜ Contracts.Counting (now list) n root (now fan) ⌝ }
-    ensures { λ _. ⌜ read (now (fan .exit)) ≡ Plans.fanout (Nodes.nodes (now (list .entry)) n) (root ∷ []) ⌝ }
+// Counts one mention of each root.
+fn mention_roots(fan: &mut [u64], roots: Roots)
+    requires { ⌜ Inside (length (now fan)) roots × Contracts.Countable mostRoots (now fan) ⌝ }
+    ensures { λ _. ⌜ now (fan .exit) ≡ Contracts.mentioned (now (fan .entry)) (rootsOf roots) ⌝ }
+{
+    let mut j = 0;
+    while j < roots.count {
+        mention(fan, dag::root_at(roots, j));
+        j += 1;
+    }
+}
+
+// The fanout of each place: each mention as an operand, and one for each root.
+pub fn fanout(list: &[u64], n: usize, roots: Roots, fan: &mut [u64])
+    requires { ⌜ Contracts.Counting (now list) n roots (now fan) ⌝ }
+    ensures { λ _. ⌜ read (now (fan .exit)) ≡ Plans.fanout (Nodes.nodes (now (list .entry)) n) (rootsOf roots) ⌝ }
 {
     let mut i = 0;
     while i < n {
         mention_operands(fan, dag::node_at(list, i));
         i += 1;
     }
-    mention(fan, root);
+    mention_roots(fan, roots);
 }
 
 // Whether a rewrite fires.

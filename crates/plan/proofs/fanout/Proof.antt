@@ -3,6 +3,7 @@ use mathlib.Core.Path.{ap}
 use Rattle.plan.specs.FanoutLaws as Fanouts
 use Rattle.dag.specs.NodeLaws.{at-nodes}
 use Rattle.dag.specs.Nodes as Nodes
+use Rattle.dag.specs.RootLaws.{inside-mono}
 use lib.ListN.{length}
 use native.Mathlib.Omega.{arith}
 use mathlib.Core.Path.{_≡_, refl, sym, _∙_}
@@ -12,10 +13,10 @@ use Rattle.plan.proofs.fanout.Tie as tie
 use Rattle.builder.specs.Contracts.{read}
 
 abbrev Inv-loop : tie.InvT-loop
-Inv-loop list n root fan₀ i₀ fan i = (i ≤ n) × (length fan ≡ length fan₀) × Fanouts.Counted (Nodes.nodes list n) i fan
+Inv-loop list n roots fan₀ i₀ fan i = (i ≤ n) × (length fan ≡ length fan₀) × Fanouts.Counted (Nodes.nodes list n) i fan
 
 abbrev μ-loop : tie.MeasureT-loop
-μ-loop list n root fan₀ i₀ fan i = n - i
+μ-loop list n roots fan₀ i₀ fan i = n - i
 
 loop-holds : tie.Need-loop-holds Inv-loop μ-loop
 loop-holds c =
@@ -30,10 +31,10 @@ mention-operands-requires c κs =
     let at-loop-test = c .before .before in
     let at-loop = at-loop-test .before in
     let start = at-loop .before .before .before in (
-      Fanouts.operands-inside (start .args .list .now) (start .args .n) (start .args .root) (start .args .fan .now) (start .pre) (at-loop .loop .i)
+      Fanouts.operands-inside (start .args .list .now) (start .args .n) (start .args .roots) (start .args .fan .now) (start .pre) (at-loop .loop .i)
           (at-loop .loop .fan) (at-loop .loop .inv .1) (at-loop .loop .inv .2) (at-loop-test .loop-test .taken) _
           (c .node-at .ensures ∙ sym (at-nodes _ _ _ (at-loop-test .loop-test .taken))),
-      Fanouts.counted-countable (start .args .list .now) (start .args .n) (start .args .root) (start .args .fan .now) (start .pre) (at-loop .loop .i)
+      Fanouts.counted-countable (start .args .list .now) (start .args .n) (start .args .roots) (start .args .fan .now) (start .pre) (at-loop .loop .i)
           (at-loop .loop .fan) (at-loop .loop .inv .1) (at-loop .loop .inv .2) (at-loop-test .loop-test .taken),
     )
 
@@ -56,30 +57,30 @@ loop-again c =
       omega (arith, at-loop-test .loop-test .taken),
       at-mention-operands .mention-operands .kept .0 ∙ at-loop .loop .inv .1,
       rw
-          (at-mention-operands .mention-operands .ensures) (Fanouts.counted-more (start .args .list .now) (start .args .n) (start .args .root)
+          (at-mention-operands .mention-operands .ensures) (Fanouts.counted-more (start .args .list .now) (start .args .n) (start .args .roots)
           (start .args .fan .now) (start .pre) (at-loop .loop .i) (at-loop .loop .fan) (at-loop .loop .inv .1) (at-loop .loop .inv .2)
           (at-loop-test .loop-test .taken) _ (at-node-at .node-at .ensures ∙ sym (at-nodes _ _ _ (at-loop-test .loop-test .taken)))),
     )
 
-mention-requires : tie.Need-mention-requires Inv-loop μ-loop
-mention-requires c κs =
+mention-roots-requires : tie.Need-mention-roots-requires Inv-loop μ-loop
+mention-roots-requires c κs =
     let at-loop = c .before .before in
     let start = at-loop .before .before .before in (
-      omega (arith, start .pre .fits, start .pre .inside, at-loop .loop .inv .1),
-      Fanouts.counted-few (start .args .list .now) (start .args .n) (start .args .root) (start .args .fan .now) (start .pre) (at-loop .loop .i)
-          (at-loop .loop .fan) (at-loop .loop .inv .1) (at-loop .loop .inv .2) (at-loop .loop .inv .0) _,
+      inside-mono _ _ (start .pre .inside) _ (rw (at-loop .loop .inv .1) (start .pre .fits)),
+      Fanouts.counted-few (start .args .list .now) (start .args .n) (start .args .roots) (start .args .fan .now) (start .pre) (at-loop .loop .i)
+          (at-loop .loop .fan) (at-loop .loop .inv .1) (at-loop .loop .inv .2) (at-loop .loop .inv .0),
     )
 
 same-length : tie.Need-same-length Inv-loop μ-loop
-same-length c = c .before .before .mention .kept .0 ∙ c .before .before .before .before .before .loop .inv .1
+same-length c = c .before .before .mention-roots .kept .0 ∙ c .before .before .before .before .before .loop .inv .1
 
 returns : tie.Need-returns Inv-loop μ-loop
 returns c =
-    let at-mention = c .before .before in
-    let at-loop-test = at-mention .before .before in
+    let at-mention-roots = c .before .before in
+    let at-loop-test = at-mention-roots .before .before in
     let at-loop = at-loop-test .before in
     let start = at-loop .before .before .before in
-    ap read (at-mention .mention .ensures) ∙ Fanouts.counted-root (start .args .list .now) (start .args .n) (start .args .root) (start .args .fan .now)
+    ap read (at-mention-roots .mention-roots .ensures) ∙ Fanouts.counted-roots (start .args .list .now) (start .args .n) (start .args .roots) (start .args .fan .now)
     (start .pre) (at-loop .loop .fan) (at-loop .loop .inv .1)
     (rw (le-antisymm (at-loop .loop .inv .0) (at-loop-test .loop-test .left)) at (at-loop .loop .inv .2))
 
@@ -95,6 +96,6 @@ fanout-spec =
     add-i
     loop-less
     loop-again
-    mention-requires
+    mention-roots-requires
     same-length
     returns)
