@@ -21,10 +21,9 @@ use Rattle.dag.specs.declared.NodeKind.{NodeKind}
 use Rattle.dag.specs.declared.Refusal.{Refusal}
 use Rattle.dag.specs.declared.Refusal.the-variants.{NoRoom}
 use Rattle.dag.specs.declared.Checked.the-variants.{Good, Refused}
-use Rattle.builder.specs.Steps.{Built, step}
+use Rattle.builder.specs.Steps.{Built, outcome, intern, enter, step}
 use Rattle.builder.specs.Calls.{stepCheck, hasRoom, stepped, stepRoomCheck, stepWholeCheck, stepAnswer, stepStore}
-use Rattle.builder.specs.Contracts.{Request, resolved, appended, Stepped}
-use Rattle.builder.specs.RequestLaws.{step-appended}
+use Rattle.builder.specs.Contracts.{Request, appended, Stepped}
 use Rattle.builder.specs.declared.Outcome.{Outcome}
 use Rattle.builder.specs.declared.Outcome.the-variants.{Place, Node}
 use Rattle.builder.specs.declared.StepAnswer.{StepAnswer}
@@ -80,9 +79,15 @@ pub stepped-as : (s : List ℕ) (n : ℕ) (b d : Built) (r : StepAnswer) (after 
 stepped-as s n b d r after e h = rw e h
 
 module _ (field : Field) where
-  -- the step, by what was resolved
-  pub step-resolved : (s : List ℕ) (n : ℕ) (x : NodeKind) (o q : Outcome) → o ≡ resolved field (nodes s n) n x → o ≡ q → step (field .elements) (nodes s n) x ≡ appended (nodes s n) q
-  step-resolved s n x o q e h = step-appended field s n x ∙ ap (appended (nodes s n)) (sym e ∙ h)
+  -- the step, by what its request comes to
+  module _ (l : List NodeKind) (x : NodeKind) (o : Outcome) (e : o ≡ outcome (field .elements) l x) where
+    pub step-placed : (i : ℕ) → o ≡ Place i → step (field .elements) l x ≡ appended l (Place i)
+    unfolding step enter
+    step-placed i h = ap (enter l) (sym e ∙ h)
+
+    pub step-interned : (y : NodeKind) → o ≡ Node y → step (field .elements) l x ≡ intern l y
+    unfolding step enter
+    step-interned y h = ap (enter l) (sym e ∙ h)
 
   -- the answer and the store of Step
   pub record Called (s : List ℕ) (n t a b : ℕ) (r : StepAnswer) (after : List ℕ) : Type 0 where

@@ -1,21 +1,22 @@
 -- Step and Build (document 01, 'Each call and when it says no'): the answer, and every word of every lent store, on all inputs.
 use Prim.Native.Nat.{ℕ, _+_, _*_}
 use mathlib.Core.Bool.{Bool, _&&_, _||_}
-use mathlib.Core.List.{List}
+use mathlib.Core.List.{List, [], _∷_}
 use lib.Dec.{leb, ltb}
 use lib.ListN.{length}
 use Rattle.field.specs.Fields.{Field}
 use Rattle.dag.specs.Nodes.{mostRecords, decode, nodes, wordsOf, filled}
 use Rattle.dag.specs.Refusals.{need, _then_, unlessRefused}
-use Rattle.dag.specs.Check.{recordCheck, rootlessCheck, listCheck}
+use Rattle.dag.specs.Check.{recordCheck, roomCheck, rootlessCheck, listCheck}
 use Rattle.dag.specs.Store.{written}
-use Rattle.dag.specs.declared.Refusal.the-variants.{StoreTooShort, NoRoom}
+use Rattle.dag.specs.declared.Refusal.the-variants.{NoRoom}
+use Rattle.dag.specs.Roots.{rootsFrom}
 use Rattle.dag.specs.declared.Checked.{Checked}
+use Rattle.dag.specs.declared.Checked.the-variants.{Good, Refused}
 use Rattle.builder.specs.Steps.{Built, step, replay, placeOf}
 use Rattle.builder.specs.declared.StepAnswer.{StepAnswer}
 use Rattle.builder.specs.declared.StepAnswer.the-variants as StepAnswer'
 use Rattle.builder.specs.declared.BuildAnswer.{BuildAnswer}
-use Rattle.builder.specs.declared.BuildAnswer.the-variants as BuildAnswer'
 
 module _ (field : Field) where
   -- Step's tests: the list, n may be 0, then the request as record n
@@ -50,16 +51,22 @@ module _ (field : Field) where
   stepStore s n t a b =
       unlessRefused (stepWholeCheck s n t a b) (λ r. s) (written s (stepped field s n t a b .list))
 
-  -- Build's tests: the list check, then the result and map stores
+-- the tests of Build's stores: the result's, then the map's
+unfoldable pub buildStores : ℕ → ℕ → ℕ → Checked
+buildStores n resultWords mapWords = roomCheck (3 * n) resultWords then roomCheck n mapWords
+
+module _ (field : Field) where
+  -- Build's tests: the list check, then the stores
   unfoldable pub buildCheck : List ℕ → ℕ → ℕ → ℕ → ℕ → Checked
-  buildCheck s n root resultWords mapWords =
-      listCheck (field .bounds) s n root then need (leb (3 * n) resultWords && leb n mapWords) StoreTooShort
+  buildCheck s n root resultWords mapWords = listCheck (field .bounds) s n root then buildStores n resultWords mapWords
 
   -- the count, and the place that the root's request got
   unfoldable pub buildAnswer : List ℕ → ℕ → ℕ → ℕ → ℕ → BuildAnswer
   buildAnswer s n root resultWords mapWords =
       let r = replay (field .elements) (nodes s n) n in
-      unlessRefused (buildCheck s n root resultWords mapWords) BuildAnswer'.Refused (BuildAnswer'.Done (length (r .list)) (placeOf r root))
+      unlessRefused (buildCheck s n root resultWords mapWords)
+      (λ c. record { checked = Refused c; count = 0; roots = rootsFrom [] })
+      (record { checked = Good; count = length (r .list); roots = rootsFrom (placeOf r root ∷ []) })
 
   -- the list built, blanks behind it
   unfoldable pub buildResult : List ℕ → ℕ → ℕ → List ℕ → ℕ → List ℕ

@@ -2,6 +2,7 @@
 use Prim.Native.Nat.{ℕ, _+_, _*_, _<_, _≤_, _-_}
 use mathlib.Core.Bool.{true}
 use mathlib.Core.List.{List, [], _∷_, _++_}
+use mathlib.Core.List as Lists
 use mathlib.Core.Path.{_≡_}
 use lib.ListN.{length, getD, take}
 use Rattle.field.specs.Fields.{Field, Low}
@@ -9,9 +10,12 @@ use Rattle.dag.specs.Store.{Sound, written}
 use Rattle.dag.specs.Refusals.{unlessRefused}
 use Rattle.dag.specs.Nodes.{nodes, mostRecords, wordsOf, filled}
 use Rattle.dag.specs.Lookup.{lookup}
+use Rattle.dag.specs.Roots.{rootsOf, rootsFrom, Inside}
 use Rattle.dag.specs.WellFormed.{Fine}
 use Rattle.index.specs.Index.{half, NodeIndex}
 use Rattle.dag.specs.declared.NodeKind.{NodeKind}
+use Rattle.dag.specs.declared.Roots.{Roots}
+use Rattle.dag.specs.declared.Checked.the-variants.{Good}
 use Rattle.dag.specs.declared.Found.{Found}
 use Rattle.dag.specs.declared.Found.the-variants.{At, Missing}
 use Rattle.builder.specs.Steps.{isConstant, element, outcome, Built, step, Replay, placeOf}
@@ -22,7 +26,6 @@ use Rattle.builder.specs.declared.Entered.{Entered}
 use Rattle.builder.specs.declared.StepAnswer.{StepAnswer}
 use Rattle.builder.specs.declared.StepAnswer.the-variants as StepAnswer'
 use Rattle.builder.specs.declared.BuildAnswer.{BuildAnswer}
-use Rattle.builder.specs.declared.BuildAnswer.the-variants.{Done}
 
 module _ (field : Field) where
   -- a constant is in lowest form
@@ -107,15 +110,15 @@ module _ (field : Field) where
     pub map-is : take i map ≡ r .map
 
   -- what Build asks once its tests have passed
-  pub record Ready (s : List ℕ) (n root resultWords mapWords : ℕ) : Type 0 where
+  pub record Ready (s : List ℕ) (n : ℕ) (roots : Roots) (resultWords mapWords : ℕ) : Type 0 where
     pub sound : Sound (field .bounds) s n
     pub result-room : 3 * n ≤ resultWords
     pub map-room : n ≤ mapWords
-    pub inside : root < n
+    pub inside : Inside n roots
     pub most : n ≤ mostRecords
 
 -- the answer and the stores of a replay r
-pub record Finished (r : Replay) (root : ℕ) (result map : List ℕ) (a : BuildAnswer) (after places : List ℕ) : Type 0 where
-  pub answer : a ≡ Done (length (r .list)) (placeOf r root)
+pub record Finished (r : Replay) (roots : Roots) (result map : List ℕ) (a : BuildAnswer) (after places : List ℕ) : Type 0 where
+  pub answer : a ≡ record { checked = Good; count = length (r .list); roots = rootsFrom (Lists.map (placeOf r) (rootsOf roots)) }
   pub list-is : after ≡ filled (length result) (wordsOf (r .list))
   pub places-are : places ≡ filled (length map) (r .map)

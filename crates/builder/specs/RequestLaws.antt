@@ -99,6 +99,11 @@ unfolding interned
 interned-appended l y (At i) = refl
 interned-appended l y Missing = refl
 
+-- what a search says of a record that is interned
+pub intern-found : (s : List ℕ) (n : ℕ) (y : NodeKind) (f q : Found) → f ≡ lookup (nodes s n) y n → f ≡ q → intern (nodes s n) y ≡ appended (nodes s n) (newUnless y q)
+unfolding intern
+intern-found s n y f q e h = rw (length-nodes s n, ← e, h) (interned-appended (nodes s n) y q)
+
 entered-appended : (l : List NodeKind) (n : ℕ) → n ≡ length l → (o : Outcome) → enter l o ≡ appended l (searched l n o)
 unfolding enter intern foundOrNew
 entered-appended l n e (Place i) = refl

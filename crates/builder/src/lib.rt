@@ -3,6 +3,7 @@ use dag::Checked;
 use dag::Found;
 use dag::NodeKind;
 use dag::Refusal;
+use dag::Roots;
 use field::QuadFelt;
 ghost use mathlib.Core.Path.{_≡_};
 ghost use mathlib.Core.Bool.{_&&_, not};
@@ -56,9 +57,10 @@ pub enum StepAnswer {
 }
 
 // Build's answer.
-pub enum BuildAnswer {
-    Done { count: usize, root: usize },
-    Refused(Refusal),
+pub struct BuildAnswer {
+    pub checked: Checked,
+    pub count: usize,
+    pub roots: Roots,
 }
 
 // A constant's element.
@@ -298,19 +300,7 @@ fn found_or_new(found: Found, x: NodeKind) -> Outcome
     }
 }
 
-// The place of a request's result among the first n records, or the new record that it needs, by the plain search.
-fn resolve_searching(list: &[u64], n: usize, x: NodeKind) -> Outcome
-    requires { ⌜ Contracts.Request goldilocks (now list) n x ⌝ }
-    ensures { λ r. ⌜ r ≡ Contracts.resolved goldilocks (Nodes.nodes (now (list .entry)) n) n x ⌝ }
-{
-    let first = request_outcome(list, n, x);
-    match first {
-        Outcome::Place(i) => Outcome::Place(i),
-        Outcome::Node(y) => found_or_new(dag::lookup(list, n, y), y),
-    }
-}
-
-// The same by the list's index.
+// The place of a request's result among the first n records, or the new record that it needs, by the list's index.
 pub fn resolve(list: &[u64], n: usize, links: &[u64], x: NodeKind) -> Outcome
     requires { ⌜ Contracts.Request goldilocks (now list) n x × NodeIndex (Nodes.nodes (now list) n) (now links) ⌝ }
     ensures { λ r. ⌜ r ≡ Contracts.resolved goldilocks (Nodes.nodes (now (list .entry)) n) n x ⌝ }
@@ -376,15 +366,27 @@ fn append(list: &mut [u64], n: usize, y: NodeKind) -> StepAnswer
     }
 }
 
+// Interns a record by the plain search.
+fn intern(list: &mut [u64], n: usize, y: NodeKind) -> StepAnswer
+    requires { ⌜ Store.Sound (goldilocks .bounds) (now list) n × (n ≤ Nodes.mostRecords) ⌝ }
+    ensures { λ r. ⌜ Contracts.Stepped (now (list .entry)) n (Steps.intern (Nodes.nodes (now (list .entry)) n) y) r (now (list .exit)) ⌝ }
+{
+    let found = dag::lookup(list, n, y);
+    match found {
+        Found::At(i) => StepAnswer::Done { place: i, count: n },
+        Found::Missing => append(list, n, y),
+    }
+}
+
 // Step past its tests.
 fn enter(list: &mut [u64], n: usize, x: NodeKind) -> StepAnswer
     requires { ⌜ Contracts.Request goldilocks (now list) n x × (n ≤ Nodes.mostRecords) ⌝ }
     ensures { λ r. ⌜ Contracts.Stepped (now (list .entry)) n (Steps.step quad (Nodes.nodes (now (list .entry)) n) x) r (now (list .exit)) ⌝ }
 {
-    let result = resolve_searching(list, n, x);
+    let result = request_outcome(list, n, x);
     match result {
         Outcome::Place(i) => StepAnswer::Done { place: i, count: n },
-        Outcome::Node(y) => append(list, n, y),
+        Outcome::Node(y) => intern(list, n, y),
     }
 }
 
@@ -418,6 +420,18 @@ fn replay(list: &[u64], n: usize, result: &mut [u64], map: &mut [u64], links: &m
     count
 }
 
+// The tests of Build's stores.
+fn build_stores(n: usize, result_words: usize, map_words: usize) -> Checked
+    requires { ⌜ n ≤ Nodes.mostRecords ⌝ }
+    ensures { λ r. ⌜ r ≡ Calls.buildStores n «result_words» «map_words» ⌝ }
+{
+    let checked = dag::room_check(3 * n, result_words);
+    if dag::is_refused(checked) {
+        return checked;
+    }
+    dag::room_check(n, map_words)
+}
+
 // Build's tests.
 fn build_check(
     list: &[u64],
@@ -432,33 +446,28 @@ fn build_check(
     if dag::is_refused(checked) {
         return checked;
     }
-    if result_words < 3 * n {
-        return Checked::Refused(Refusal::StoreTooShort);
-    }
-    if map_words < n {
-        return Checked::Refused(Refusal::StoreTooShort);
-    }
-    Checked::Good
+    build_stores(n, result_words, map_words)
 }
 
 // Build past its tests, with the links of an index lent.
 fn build_in(
     list: &[u64],
     n: usize,
-    root: usize,
+    roots: Roots,
     result: &mut [u64],
     map: &mut [u64],
     links: &mut [u64],
 ) -> BuildAnswer
-    requires { ⌜ Contracts.Ready goldilocks (now list) n root (length (now result)) (length (now map)) × Usable (now links) × (n ≤ half (now links)) ⌝ }
-    ensures { λ r. ⌜ Contracts.Finished (Steps.replay quad (Nodes.nodes (now (list .entry)) n) n) root (now (result .entry)) (now (map .entry)) r (now (result .exit)) (now (map .exit)) ⌝ }
+    requires { ⌜ Contracts.Ready goldilocks (now list) n roots (length (now result)) (length (now map)) × Usable (now links) × (n ≤ half (now links)) ⌝ }
+    ensures { λ r. ⌜ Contracts.Finished (Steps.replay quad (Nodes.nodes (now (list .entry)) n) n) roots (now (result .entry)) (now (map .entry)) r (now (result .exit)) (now (map .exit)) ⌝ }
 {
     let count = replay(list, n, result, map, links);
     dag::blank_from(result, 3 * count);
     dag::blank_from(map, n);
-    BuildAnswer::Done {
+    BuildAnswer {
+        checked: Checked::Good,
         count,
-        root: dag::mapped(map, root),
+        roots: dag::renamed_roots(map, roots),
     }
 }
 
@@ -466,19 +475,19 @@ fn build_in(
 fn build_sized(
     list: &[u64],
     n: usize,
-    root: usize,
+    roots: Roots,
     result: &mut [u64],
     map: &mut [u64],
 ) -> BuildAnswer
-    requires { ⌜ Contracts.Ready goldilocks (now list) n root (length (now result)) (length (now map)) ⌝ }
-    ensures { λ r. ⌜ Contracts.Finished (Steps.replay quad (Nodes.nodes (now (list .entry)) n) n) root (now (result .entry)) (now (map .entry)) r (now (result .exit)) (now (map .exit)) ⌝ }
+    requires { ⌜ Contracts.Ready goldilocks (now list) n roots (length (now result)) (length (now map)) ⌝ }
+    ensures { λ r. ⌜ Contracts.Finished (Steps.replay quad (Nodes.nodes (now (list .entry)) n) n) roots (now (result .entry)) (now (map .entry)) r (now (result .exit)) (now (map .exit)) ⌝ }
 {
     if n <= dag::FEW_RECORDS {
         let mut few = [0u64; 2 * dag::FEW_RECORDS];
-        return build_in(list, n, root, result, map, &mut few);
+        return build_in(list, n, roots, result, map, &mut few);
     }
     let mut links = [0u64; 2 * dag::MOST_RECORDS];
-    build_in(list, n, root, result, map, &mut links)
+    build_in(list, n, roots, result, map, &mut links)
 }
 
 // Build: a list of requests with a root, one after the other into an empty list.
@@ -494,8 +503,12 @@ pub fn build(
     ensures map { λ _. ⌜ now (map .exit) ≡ Calls.buildMap goldilocks (now (list .entry)) n root (length (now (result .entry))) (now (map .entry)) ⌝ }
 {
     let checked = build_check(list, n, root, result.len(), map.len());
-    match checked {
-        Checked::Refused(r) => BuildAnswer::Refused(r),
-        Checked::Good => build_sized(list, n, root, result, map),
+    if dag::is_refused(checked) {
+        return BuildAnswer {
+            checked,
+            count: 0,
+            roots: dag::no_roots(),
+        };
     }
+    build_sized(list, n, dag::one_root(root), result, map)
 }

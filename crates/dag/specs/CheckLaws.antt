@@ -14,7 +14,7 @@ use Rattle.dag.specs.Keys.{isKey}
 use Rattle.dag.specs.Nodes.{tag, first, second, decode, recordAt, nodes, at}
 use Rattle.dag.specs.NodeLaws.{length-nodes, at-nodes}
 use Rattle.dag.specs.CaseLaws.{and-true, below-suc, below-suc-elim, cond-elim}
-use Rattle.dag.specs.Refusals.{need, _then_, isRefused, firstRefused}
+use Rattle.dag.specs.Refusals.{need, _then_, isRefused, unlessRefused, firstRefused}
 use Rattle.dag.specs.Check.{formed, earlier, recordCheck, checkAt, recordsCheck}
 use Rattle.dag.specs.WellFormed.{Fine, WellFormed}
 use Rattle.dag.specs.WellFormedLaws.{well-formed-below}
@@ -40,6 +40,11 @@ not-refused (Refused r) e = absurd (true≢false e)
 pub refused-then : (c d : Checked) → isRefused c ≡ true → c ≡ c then d
 refused-then Good d e = absurd (true≢false (sym e))
 refused-then (Refused r) d e = refl
+
+-- what a call gives where its tests refuse
+pub refused-gives : {A : Type 0} (f : Checked → A) (c : Checked) (given : A) → isRefused c ≡ true → f c ≡ unlessRefused c (λ r. f (Refused r)) given
+refused-gives f Good given e = absurd (true≢false (sym e))
+refused-gives f (Refused r) given e = refl
 
 -- what a call of `is_refused` tells of a definition
 pub good-told : {r d : Checked} {b : Bool} → r ≡ d → b ≡ isRefused r → b ≡ false → d ≡ Good

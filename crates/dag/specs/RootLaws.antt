@@ -1,7 +1,7 @@
 -- Roots one by one, and their new places.
 use Prim.Native.Nat.{ℕ, zero, suc, _+_, _-_, _<_, _≤_}
 use mathlib.Core.List.{List, [], _∷_, _++_, map}
-use mathlib.Core.Path.{_≡_, refl, sym, _∙_, ap}
+use mathlib.Core.Path.{_≡_, refl, sym, _∙_, ap, ap₂}
 use native.Mathlib.Omega.{arith}
 use native.Mathlib.Numerals.{add-one}
 use lib.ListN.{getD, length, set, take, replicate, List·getD-append}
@@ -32,6 +32,11 @@ module _ (f : ℕ → ℕ) where
       rw (e, q, add-one j, take-suc old j 0 k, map-snoc (take j old) (getD old j 0))
       (ap (λ i. set (padded 0 mostRoots (map f (take j old))) i (f (getD old j 0))) (sym long) ∙ padded-set 0 mostRoots (map f (take j old)) (f (getD old j 0)) (rw long h))
 
+module _ (f g : ℕ → ℕ) where
+  map-agree : (l : List ℕ) → ((j : ℕ) → j < length l → f (getD l j 0) ≡ g (getD l j 0)) → map f l ≡ map g l
+  map-agree [] h = refl
+  map-agree (x ∷ l) h = ap₂ (λ y t. y ∷ t) (h 0 (omega arith)) (map-agree l (λ j k. h (suc j) (omega arith)))
+
 -- the roots that were put in
 pub roots-from : (is : List ℕ) → rootsOf (rootsFrom is) ≡ is
 unfolding rootsOf rootsFrom padded
@@ -45,6 +50,11 @@ module _ (n : ℕ) (r : Roots) (inside : Inside n r) where
   pub length-roots : length (rootsOf r) ≡ r .count
   unfolding rootsOf
   length-roots = length-take-le (r .count) (r .places) (rw (inside .long) (inside .few))
+
+  -- new places that agree below n
+  pub roots-agree : (f g : ℕ → ℕ) → ((i : ℕ) → i < n → f i ≡ g i) → map f (rootsOf r) ≡ map g (rootsOf r)
+  roots-agree f g h =
+      map-agree f g (rootsOf r) (λ j k. let q : j < r .count = rw length-roots at k in rw (root-is j q) (h (getD (r .places) j 0) (inside .below j q)))
 
   pub inside-mono : (m : ℕ) → n ≤ m → Inside m r
   inside-mono m h = record { long = inside .long; few = inside .few; below = λ j k. omega (arith, inside .below j k) }

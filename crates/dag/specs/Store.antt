@@ -14,9 +14,13 @@ use Rattle.dag.specs.declared.NodeKind.{NodeKind}
 use Rattle.dag.specs.declared.Found.{Found}
 use Rattle.dag.specs.declared.Checked.the-variants.{Good}
 
+-- a store with the words t, a, b at place i
+abbrev pub putWords : List ℕ → ℕ → ℕ → ℕ → ℕ → List ℕ
+putWords s i t a b = set (set (set s (3 * i) t) (3 * i + 1) a) (3 * i + 2) b
+
 -- a store with the record x at place i
 unfoldable pub put : List ℕ → ℕ → NodeKind → List ℕ
-put s i x = set (set (set s (3 * i) (tag x)) (3 * i + 1) (first x)) (3 * i + 2) (second x)
+put s i x = putWords s i (tag x) (first x) (second x)
 
 -- the words of a store's first n records
 unfoldable pub front : ℕ → List ℕ → List ℕ

@@ -364,14 +364,22 @@ pub fn second_of(x: NodeKind) -> u64
     }
 }
 
+// Writes three words at place i.
+pub fn put_words(list: &mut [u64], i: usize, t: u64, a: u64, b: u64)
+    requires { ⌜ i < interleaved (now list) .room ⌝ }
+    ensures { λ _. ⌜ now (list .exit) ≡ Store.putWords (now (list .entry)) i t a b ⌝ }
+{
+    list[3 * i] = t;
+    list[3 * i + 1] = a;
+    list[3 * i + 2] = b;
+}
+
 // Writes the record x at place i.
 pub fn put_node(list: &mut [u64], i: usize, x: NodeKind)
     requires { ⌜ i < interleaved (now list) .room ⌝ }
     ensures { λ _. ⌜ now (list .exit) ≡ Store.put (now (list .entry)) i x ⌝ }
 {
-    list[3 * i] = tag_of(x);
-    list[3 * i + 1] = first_of(x);
-    list[3 * i + 2] = second_of(x);
+    put_words(list, i, tag_of(x), first_of(x), second_of(x));
 }
 
 // The new place of place i.

@@ -1,9 +1,7 @@
 use Rattle.field.specs.Fields.{goldilocks}
 use Rattle.dag.specs.PassLaws.{rooted}
-use native.Mathlib.Omega.{arith}
 use Rattle.builder.specs.Calls as Calls
 use Rattle.dag.specs.CheckLaws.{refused-then, good-told, bad-told}
-use borrow.Author.Tests.{le-leb, lt-leb}
 use mathlib.Core.Path.{_∙_}
 use borrow.Author.Needs.{needs}
 use Rattle.builder.proofs.build_check.Statement.{statement}
@@ -19,41 +17,16 @@ returns : tie.Need-returns
 unfolding Calls.buildCheck
 returns c = c .before .before .list-check .ensures ∙ refused-then _ _ (bad-told (c .before .before .list-check .ensures) (c .before .is-refused .ensures) (c .if1 .taken))
 
-mul-if2 : tie.Need-mul-if2
-mul-if2 c = let h = rooted (goldilocks .bounds) _ _ _ (good-told (c .before .before .list-check .ensures) (c .before .is-refused .ensures) (c .if1 .left)) in omega (arith, h .list .most)
+build-stores-requires : tie.Need-build-stores-requires
+build-stores-requires c κs = rooted (goldilocks .bounds) _ _ _ (good-told (c .before .before .list-check .ensures) (c .before .is-refused .ensures) (c .if1 .left)) .list .most
 
 returns-2 : tie.Need-returns-2
 unfolding Calls.buildCheck
-returns-2 c = rw (good-told (c .before .before .before .list-check .ensures) (c .before .before .is-refused .ensures) (c .before .if1 .left), lt-leb _ _ (c .if2 .taken))
-
-returns-3 : tie.Need-returns-3
-unfolding Calls.buildCheck
-returns-3 c =
-    let at-if2 = c .before in
-    let at-if1 = at-if2 .before in
-    let at-is-refused = at-if1 .before in
-    let at-list-check = at-is-refused .before in
-    rw (good-told (at-list-check .list-check .ensures) (at-is-refused .is-refused .ensures) (at-if1 .if1 .left), le-leb _ _ (at-if2 .if2 .left))
-    (rw (lt-leb _ _ (c .if3 .taken)))
-
-returns-4 : tie.Need-returns-4
-unfolding Calls.buildCheck
-returns-4 c =
-    let at-if2 = c .before in
-    let at-if1 = at-if2 .before in
-    let at-is-refused = at-if1 .before in
-    let at-list-check = at-is-refused .before in
-    rw (good-told (at-list-check .list-check .ensures) (at-is-refused .is-refused .ensures) (at-if1 .if1 .left), le-leb _ _ (at-if2 .if2 .left))
-    (rw (le-leb _ _ (c .if3 .left)))
+returns-2 c =
+    let at-is-refused = c .before .before in
+    rw (good-told (at-is-refused .before .list-check .ensures) (at-is-refused .is-refused .ensures) (c .before .if1 .left)) (c .build-stores .ensures)
 
 pub build-check-spec : {M : Type 1} → statement M
 build-check-spec =
     tie.close
-    (tie.spec
-    list-check-requires
-    is-refused-requires
-    returns
-    mul-if2
-    returns-2
-    returns-3
-    returns-4)
+    (tie.spec list-check-requires is-refused-requires returns build-stores-requires returns-2)

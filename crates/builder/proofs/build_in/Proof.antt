@@ -1,5 +1,6 @@
 use Rattle.field.specs.Fields.{goldilocks}
 use Rattle.builder.specs.BuildLaws.{finished}
+use Rattle.dag.specs.RootLaws.{inside-mono}
 use borrow.Author.Needs.{needs}
 use Rattle.builder.proofs.build_in.Statement.{statement}
 use Rattle.builder.proofs.build_in.Tie as tie
@@ -16,8 +17,13 @@ blank-from-requires c κs = search needs
 blank-from-requires-2 : tie.Need-blank-from-requires-2
 blank-from-requires-2 c κs = search needs
 
-mapped-requires : tie.Need-mapped-requires
-mapped-requires c κs = search needs
+renamed-roots-requires : tie.Need-renamed-roots-requires
+renamed-roots-requires c κs =
+    let at-blank-from2 = c .before .before .before in
+    let at-blank-from = at-blank-from2 .before .before .before .before in
+    let at-replay = at-blank-from .before .before .before .before .before .before .before .before in
+    let start = at-replay .before .before .before .before .before .before .before .before in
+    inside-mono (start .args .n) (start .args .roots) (start .pre .0 .inside) _ (search needs)
 
 same-length : tie.Need-same-length
 same-length c = search needs
@@ -34,9 +40,9 @@ returns c =
     let at-blank-from = at-blank-from2 .before .before .before .before in
     let at-replay = at-blank-from .before .before .before .before .before .before .before .before in
     let start = at-replay .before .before .before .before .before .before .before .before in
-    finished goldilocks (start .args .list .now) (start .args .n) (start .args .root) (start .args .result .now) (start .args .map .now) (start .pre .0 .sound)
+    finished goldilocks (start .args .list .now) (start .args .n) (start .args .roots) (start .args .result .now) (start .args .map .now) (start .pre .0 .sound)
     (start .pre .0 .inside) _ _ _ (at-replay .replay .ensures) (at-replay .replay .kept .1 .1 .0) (at-replay .replay .kept .1 .1 .1 .0)
-    (start .pre .0 .map-room) _ _ _ (at-blank-from .blank-from .ensures) (at-blank-from2 .blank-from2 .ensures) (c .mapped .ensures)
+    (start .pre .0 .map-room) _ _ _ (at-blank-from .blank-from .ensures) (at-blank-from2 .blank-from2 .ensures) (c .renamed-roots .ensures)
 
 pub build-in-spec : {M : Type 1} → statement M
 build-in-spec =
@@ -46,7 +52,7 @@ build-in-spec =
     mul-blank-from
     blank-from-requires
     blank-from-requires-2
-    mapped-requires
+    renamed-roots-requires
     same-length
     same-length-2
     same-length-3

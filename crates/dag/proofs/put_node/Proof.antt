@@ -1,88 +1,32 @@
-use native.Mathlib.Omega.{arith}
-use lib.ListN.{length-set}
-use borrow.Author.Needs.{needs}
 use Rattle.dag.specs.Store as Store
-use Rattle.dag.specs.View.{interleaved}
+use mathlib.Core.Path.{_∙_}
+use borrow.Author.Needs.{needs}
 use Rattle.dag.proofs.put_node.Statement.{statement}
 use Rattle.dag.proofs.put_node.Tie as tie
 
 tag-of-requires : tie.Need-tag-of-requires
 tag-of-requires c κs = search needs
 
-mul-list : tie.Need-mul-list
-unfolding interleaved
-mul-list c = search needs
-
-mul-list-2 : tie.Need-mul-list-2
-unfolding interleaved
-mul-list-2 c = search needs
-
-slice-write-list : tie.Need-slice-write-list
-unfolding interleaved
-slice-write-list c = search needs
-
 first-of-requires : tie.Need-first-of-requires
 first-of-requires c κs = search needs
-
-mul-list-3 : tie.Need-mul-list-3
-unfolding interleaved
-mul-list-3 c = search needs
-
-add-list : tie.Need-add-list
-unfolding interleaved
-add-list c = search needs
-
-mul-list-4 : tie.Need-mul-list-4
-unfolding interleaved
-mul-list-4 c = search needs
-
-slice-write-list-2 : tie.Need-slice-write-list-2
-unfolding interleaved
-slice-write-list-2 c = simp length-set (omega arith)
 
 second-of-requires : tie.Need-second-of-requires
 second-of-requires c κs = search needs
 
-mul-list-5 : tie.Need-mul-list-5
-unfolding interleaved
-mul-list-5 c = search needs
-
-add-list-2 : tie.Need-add-list-2
-unfolding interleaved
-add-list-2 c = search needs
-
-mul-list-6 : tie.Need-mul-list-6
-unfolding interleaved
-mul-list-6 c = search needs
-
-slice-write-list-3 : tie.Need-slice-write-list-3
-unfolding interleaved
-slice-write-list-3 c = simp length-set (omega arith)
+put-words-requires : tie.Need-put-words-requires
+put-words-requires c κs = search needs
 
 same-length : tie.Need-same-length
 same-length c = search needs
 
 returns : tie.Need-returns
 unfolding Store.put
-returns c = rw (c .before .before .tag-of .ensures, c .before .first-of .ensures, c .second-of .ensures)
+returns c =
+    let at-put-words = c .before .before in
+    let at-second-of = at-put-words .before in
+    at-put-words .put-words .ensures ∙ rw (at-second-of .before .before .tag-of .ensures, at-second-of .before .first-of .ensures, at-second-of .second-of .ensures)
 
 pub put-node-spec : {M : Type 1} → statement M
 put-node-spec =
     tie.close
-    (tie.spec
-    tag-of-requires
-    mul-list
-    mul-list-2
-    slice-write-list
-    first-of-requires
-    mul-list-3
-    add-list
-    mul-list-4
-    slice-write-list-2
-    second-of-requires
-    mul-list-5
-    add-list-2
-    mul-list-6
-    slice-write-list-3
-    same-length
-    returns)
+    (tie.spec tag-of-requires first-of-requires second-of-requires put-words-requires same-length returns)
