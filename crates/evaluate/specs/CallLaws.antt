@@ -1,7 +1,7 @@
 -- What lists and entries that pass Evaluate's tests are known to be, and what Evaluate then answers.
 use Prim.Native.Nat.{ℕ, _*_, _≤_, _<_}
 use mathlib.Core.List.{List}
-use mathlib.Core.Path.{_≡_, sym, _∙_, ap}
+use mathlib.Core.Path.{_≡_, _∙_, ap}
 use native.Mathlib.Omega.{arith}
 use borrow.Author.Tests.{leb-true}
 use lib.Dec.{leb}
@@ -23,9 +23,8 @@ use Rattle.dag.specs.declared.Checked.the-variants as Checked'
 use Rattle.meaning.specs.Values.{value}
 use Rattle.evaluate.specs.Entries.{Lent, mostEntries, entryCheck, entriesCheck, entryOf, hasEntry, inputsCheck}
 use Rattle.evaluate.specs.EntryLaws.{Last, found-last}
-use Rattle.evaluate.specs.Calls.{entryWords, elementOf, given, evaluateCheck, evaluateAnswer}
+use Rattle.evaluate.specs.Calls.{entryWords, elementOf, given, evaluateCheck, refused, evaluateAnswer}
 use Rattle.evaluate.specs.Contracts.{Ready, Tested, Stores}
-use Rattle.evaluate.specs.declared.EvaluateAnswer.the-variants.{Value, Refused}
 
 -- new stores of k places for up to q records and entries
 pub stores-new : (n m q k : ℕ) → n ≤ q → m ≤ q → q ≤ k → 0 < k → k ≤ mostEntries → Stores n m (replicate k 0) (replicate k 0) (replicate (2 * k) 0)
@@ -45,12 +44,12 @@ entries-pass m width e n h q =
 module _ (field : Field) where
   module _ (s : List ℕ) (n root : ℕ) (a : List ℕ) (m : ℕ) where
     -- where Evaluate refuses
-    pub answer-refused : (r : Refusal) → evaluateCheck field s n root a m ≡ Checked'.Refused r → Refused r ≡ evaluateAnswer field s n root a m
+    pub answer-refused : (r : Refusal) → evaluateCheck field s n root a m ≡ Checked'.Refused r → refused r ≡ evaluateAnswer field s n root a m
     unfolding evaluateAnswer
     answer-refused r e = rw e
 
     -- where the list or the entries refuse
-    pub words-refused : (r : Refusal) → (listCheck (field .bounds) s n root then entriesCheck (field .bounds) entryWords a m) ≡ Checked'.Refused r → Refused r ≡ evaluateAnswer field s n root a m
+    pub words-refused : (r : Refusal) → (listCheck (field .bounds) s n root then entriesCheck (field .bounds) entryWords a m) ≡ Checked'.Refused r → refused r ≡ evaluateAnswer field s n root a m
     unfolding evaluateCheck
     words-refused r e = answer-refused r (go (listCheck (field .bounds) s n root) (entriesCheck (field .bounds) entryWords a m) e)
       where
@@ -86,12 +85,12 @@ module _ (field : Field) where
           let q = entries-pass (field .bounds) entryWords a m (omega arith) (t .entries) in
           record { sound = rooted (field .bounds) s n root (t .list) .list .sound; lent = q .0; good = q .1; fits = h }
 
-      pub inputs-refused : (r : Refusal) → inputsCheck (entryOf entryWords a m) (nodes s n) n ≡ Checked'.Refused r → Refused r ≡ evaluateAnswer field s n root a m
+      pub inputs-refused : (r : Refusal) → inputsCheck (entryOf entryWords a m) (nodes s n) n ≡ Checked'.Refused r → refused r ≡ evaluateAnswer field s n root a m
       inputs-refused r e = answer-refused r (inputs-left ∙ e)
 
-      pub inputs-value : inputsCheck (entryOf entryWords a m) (nodes s n) n ≡ Checked'.Good → (v : QuadFelt) → v ≡ value (field .elements) (given a m) (nodes s n) root → Value v ≡ evaluateAnswer field s n root a m
+      pub inputs-value : inputsCheck (entryOf entryWords a m) (nodes s n) n ≡ Checked'.Good → (v : QuadFelt) → v ≡ value (field .elements) (given a m) (nodes s n) root → record { checked = Checked'.Good; value = v } ≡ evaluateAnswer field s n root a m
       unfolding evaluateAnswer
-      inputs-value e v q = ap Value q ∙ rw (inputs-left ∙ e)
+      inputs-value e v q = ap (λ w. record { checked = Checked'.Good; value = w }) q ∙ rw (inputs-left ∙ e)
 
     -- where Evaluate accepts
     module _ (e : evaluateCheck field s n root a m ≡ Checked'.Good) where
@@ -103,7 +102,7 @@ module _ (field : Field) where
           (one .0, two .0, two .1)
 
       -- it answers the root's value under its assignment
-      pub accepted-value : evaluateAnswer field s n root a m ≡ Value (value (field .elements) (given a m) (nodes s n) root)
+      pub accepted-value : evaluateAnswer field s n root a m ≡ record { checked = Checked'.Good; value = value (field .elements) (given a m) (nodes s n) root }
       unfolding evaluateAnswer
       accepted-value = rw e
 

@@ -10,11 +10,12 @@ use Rattle.dag.specs.Refusals.{_then_, unlessRefused}
 use Rattle.dag.specs.Check.{listCheck}
 use Rattle.dag.specs.declared.Found.{Found}
 use Rattle.dag.specs.declared.Found.the-variants.{At, Missing}
+use Rattle.dag.specs.declared.Refusal.{Refusal}
 use Rattle.dag.specs.declared.Checked.{Checked}
+use Rattle.dag.specs.declared.Checked.the-variants.{Good, Refused}
 use Rattle.meaning.specs.Values.{value}
 use Rattle.evaluate.specs.Entries.{entriesCheck, entryOf, inputsCheck}
 use Rattle.evaluate.specs.declared.EvaluateAnswer.{EvaluateAnswer}
-use Rattle.evaluate.specs.declared.EvaluateAnswer.the-variants.{Value, Refused}
 
 -- the words of an assignment's entry: key number, c0, c1
 abbrev pub entryWords : ℕ
@@ -37,7 +38,12 @@ module _ (field : Field) where
       then entriesCheck (field .bounds) entryWords a m
       then inputsCheck (entryOf entryWords a m) (nodes s n) n
 
+-- a refusal, without a value
+abbrev pub refused : Refusal → EvaluateAnswer
+refused r = record { checked = Refused r; value = new 0 0 }
+
+module _ (field : Field) where
   -- the root's value
   unfoldable pub evaluateAnswer : List ℕ → ℕ → ℕ → List ℕ → ℕ → EvaluateAnswer
   evaluateAnswer s n root a m =
-      unlessRefused (evaluateCheck s n root a m) Refused (Value (value (field .elements) (given a m) (nodes s n) root))
+      unlessRefused (evaluateCheck field s n root a m) refused (record { checked = Good; value = value (field .elements) (given a m) (nodes s n) root })

@@ -27,9 +27,9 @@ pub const MOST_ENTRIES: usize = 4096;
 pub const ENTRY_WORDS: usize = 3;
 
 // Evaluate's answer.
-pub enum EvaluateAnswer {
-    Value(QuadFelt),
-    Refused(Refusal),
+pub struct EvaluateAnswer {
+    pub checked: Checked,
+    pub value: QuadFelt,
 }
 
 // The records and entries that the smallest stores hold.
@@ -278,6 +278,16 @@ fn fill_values(
     Checked::Good
 }
 
+// Evaluate's answer where a test refuses.
+fn refused(r: Refusal) -> EvaluateAnswer
+    ensures { λ a. ⌜ a ≡ Calls.refused r ⌝ }
+{
+    EvaluateAnswer {
+        checked: Checked::Refused(r),
+        value: QuadFelt::ZERO,
+    }
+}
+
 // Evaluate behind the tests of its words, with stores for the values and the index lent.
 fn evaluate_in(
     list: &[u64],
@@ -296,8 +306,11 @@ fn evaluate_in(
     index_keys(assignment, ENTRY_WORDS, m, links);
     let filled = fill_values(list, n, assignment, m, links, c0, c1);
     match filled {
-        Checked::Refused(r) => EvaluateAnswer::Refused(r),
-        Checked::Good => EvaluateAnswer::Value(element_at(c0, c1, root)),
+        Checked::Refused(r) => refused(r),
+        Checked::Good => EvaluateAnswer {
+            checked: Checked::Good,
+            value: element_at(c0, c1, root),
+        },
     }
 }
 
@@ -348,7 +361,7 @@ pub fn evaluate(list: &[u64], n: usize, root: usize, assignment: &[u64], m: usiz
 {
     let checked = words_check(list, n, root, assignment, m);
     match checked {
-        Checked::Refused(r) => EvaluateAnswer::Refused(r),
+        Checked::Refused(r) => refused(r),
         Checked::Good => evaluate_sized(list, n, root, assignment, m),
     }
 }

@@ -1,4 +1,5 @@
 -- `evaluate::evaluate` meets its contract.
+use mathlib.Core.Path.{_∙_}
 use Rattle.field.specs.Fields.{goldilocks}
 use Rattle.dag.specs.BranchLaws.{told}
 use Rattle.evaluate.specs.CallLaws.{words-refused, words-tested}
@@ -12,6 +13,9 @@ words-check-requires c κs = search needs
 enum-known-checked : tie.Need-enum-known-checked
 enum-known-checked c = search needs
 
+refused-requires : tie.Need-refused-requires
+refused-requires c κs = search needs
+
 enum-told : tie.Need-enum-told
 enum-told c = search needs
 
@@ -19,7 +23,9 @@ evaluate-sized-requires : tie.Need-evaluate-sized-requires
 evaluate-sized-requires c κs = words-tested goldilocks _ _ _ _ _ (told (c .before .before .words-check .ensures) (c .enum-told .given .1))
 
 returns : tie.Need-returns
-returns c = words-refused goldilocks _ _ _ _ _ _ (told (c .before .before .before .words-check .ensures) (c .before .checked .given .1))
+returns c =
+    let at-checked = c .before .before in
+    c .refused .ensures ∙ words-refused goldilocks _ _ _ _ _ _ (told (at-checked .before .before .words-check .ensures) (at-checked .checked .given .1))
 
 returns-2 : tie.Need-returns-2
 returns-2 c = search needs
@@ -30,6 +36,7 @@ evaluate-spec =
     (tie.spec
     words-check-requires
     enum-known-checked
+    refused-requires
     enum-told
     evaluate-sized-requires
     returns

@@ -28,6 +28,9 @@ fill-values-requires c κs =
 enum-known-filled : tie.Need-enum-known-filled
 enum-known-filled c = search needs
 
+refused-requires : tie.Need-refused-requires
+refused-requires c κs = search needs
+
 enum-told : tie.Need-enum-told
 enum-told c = search needs
 
@@ -52,10 +55,10 @@ same-length-3 c = search needs
 
 returns : tie.Need-returns
 returns c =
-    let at-filled = c .before in
+    let at-filled = c .before .before in
     let at-fill-values = at-filled .before .before .before .before .before .before in
     let start = at-fill-values .before .before .before .before .before .before .before .before .before .before .before .before .before in
-    inputs-refused goldilocks _ _ _ _ _ (start .pre .0) _ (told (at-fill-values .fill-values .ensures .0) (at-filled .filled .given .1))
+    c .refused .ensures ∙ inputs-refused goldilocks _ _ _ _ _ (start .pre .0) _ (told (at-fill-values .fill-values .ensures .0) (at-filled .filled .given .1))
 
 same-length-4 : tie.Need-same-length-4
 same-length-4 c = search needs
@@ -81,6 +84,7 @@ evaluate-in-spec =
     index-keys-requires
     fill-values-requires
     enum-known-filled
+    refused-requires
     enum-told
     element-at-requires
     same-length
