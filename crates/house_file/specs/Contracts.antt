@@ -3,13 +3,12 @@ use Prim.Native.Nat.{ℕ, _*_, _≤_}
 use mathlib.Core.List.{List}
 use mathlib.Core.Path.{_≡_}
 use lib.ListN.{length}
-use Rattle.field.specs.Fields.{goldilocks}
-use Rattle.dag.specs.Nodes.{nodes, filled}
-use Rattle.dag.specs.Store.{Sound}
+use Rattle.dag.specs.Nodes.{filled}
+use Rattle.dag.specs.Refusals.{unlessRefused}
 use Rattle.dag.specs.declared.Checked.the-variants.{Good}
 use Rattle.house_file.specs.declared.FileAnswer.{FileAnswer}
 use Rattle.house_file.specs.declared.FileAnswer.the-variants as FileAnswer'
-use Rattle.house_file.specs.File.{fileCount, fileRoot, mostFiled, recordPlace, wordsOfFirst, fileWords, heldCheck}
+use Rattle.house_file.specs.File.{fileCount, fileRoot, mostFiled, recordPlace, fileWords, heldCheck}
 
 -- a file with a good head
 pub record Headed (file : List ℕ) : Type 0 where
@@ -25,22 +24,10 @@ pub record Formed (file : List ℕ) : Type 0 where
 -- what a file that has passed its tests is known to be
 pub record Passed (file : List ℕ) (room : ℕ) : Type 0 where
   pub form : Formed file
-  pub sound : Sound (goldilocks .bounds) (wordsOfFirst file (fileCount file)) (fileCount file)
   pub fits : 3 * fileCount file ≤ room
   pub held-is : heldCheck file ≡ Good
 
--- what writing n records asks
-pub record Ready (file : List ℕ) (n : ℕ) (list : List ℕ) : Type 0 where
-  pub whole : recordPlace n ≤ length file
-  pub sound : Sound (goldilocks .bounds) (wordsOfFirst file n) n
-  pub fits : 3 * n ≤ length list
-
--- the first i of n records written
-pub record Put (file : List ℕ) (n i : ℕ) (list : List ℕ) : Type 0 where
-  pub sound : Sound (goldilocks .bounds) list i
-  pub nodes-are : nodes list i ≡ nodes (wordsOfFirst file n) i
-
--- a file read
+-- a file of good form read into a store that it fits
 pub record Done (file list : List ℕ) (a : FileAnswer) (after : List ℕ) : Type 0 where
-  pub answer : a ≡ FileAnswer'.Read (fileCount file) (fileRoot file)
-  pub list-is : after ≡ filled (length list) (fileWords file)
+  pub answer : a ≡ unlessRefused (heldCheck file) FileAnswer'.Refused (FileAnswer'.Read (fileCount file) (fileRoot file))
+  pub list-is : after ≡ unlessRefused (heldCheck file) (λ _. list) (filled (length list) (fileWords file))

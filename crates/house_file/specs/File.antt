@@ -7,8 +7,8 @@ use lib.ListN.{getD, length}
 use Rattle.field.specs.Fields.{goldilocks}
 use Rattle.dag.specs.Nodes.{filled}
 use Rattle.dag.specs.Refusals.{need, _then_, unlessRefused}
-use Rattle.dag.specs.Check.{listCheck}
-use Rattle.dag.specs.declared.Refusal.the-variants.{StoreTooShort, FileTooShort, FileVersion, FileCount, FileLength}
+use Rattle.dag.specs.Check.{roomCheck, listCheck}
+use Rattle.dag.specs.declared.Refusal.the-variants.{FileTooShort, FileVersion, FileCount, FileLength}
 use Rattle.dag.specs.declared.Checked.{Checked}
 use Rattle.house_file.specs.declared.Words.{Words}
 use Rattle.house_file.specs.declared.FileAnswer.{FileAnswer}
@@ -73,9 +73,13 @@ heldCheck file = listCheck (goldilocks .bounds) (fileWords file) (fileCount file
 unfoldable pub fileCheck : List ℕ → Checked
 fileCheck file = formCheck file then heldCheck file
 
--- reading into a store of `room` words: the store is tested before the records, as in the list check
+-- the tests before a file's records: its form, then a store of `room` words, 2
+unfoldable pub storeCheck : List ℕ → ℕ → Checked
+storeCheck file room = formCheck file then roomCheck (3 * fileCount file) room
+
+-- reading into a store: the store is tested before the records, as in the list check
 unfoldable pub readCheck : List ℕ → ℕ → Checked
-readCheck file room = formCheck file then need (leb (3 * fileCount file) room) StoreTooShort then heldCheck file
+readCheck file room = storeCheck file room then heldCheck file
 
 -- count and root
 unfoldable pub readAnswer : List ℕ → ℕ → FileAnswer

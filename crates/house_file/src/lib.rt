@@ -3,14 +3,15 @@ use dag::Checked;
 use dag::Refusal;
 ghost use mathlib.Core.Path.{_≡_};
 ghost use Prim.Native.Nat.{_+_, _*_, _<_, _≤_};
-ghost use lib.ListN.{length};
-ghost use Rattle.field.specs.Fields.{goldilocks};
-ghost use Rattle.dag.specs.Check as Check;
+ghost use lib.ListN.{length, take};
 ghost use Rattle.house_file.specs.File as File;
 ghost use Rattle.house_file.specs.Contracts as Contracts;
 
 // The most records that a file has.
 pub const MOST_FILED: u64 = 1024;
+
+// The words of as many records.
+const FILED_WORDS: usize = 3072;
 
 // The three words of a record.
 pub struct Words {
@@ -115,77 +116,47 @@ fn form_check(file: &[u8]) -> Checked
     Checked::Good
 }
 
-// The first bad record of a file.
-fn records_check(file: &[u8], n: usize) -> Checked
-    requires { ⌜ File.recordPlace n ≤ length (now file) ⌝ }
-    ensures { λ r. ⌜ r ≡ Check.recordsCheck (goldilocks .bounds) (File.wordsOfFirst (now (file .entry)) n) n ⌝ }
-{
-    let mut i = 0;
-    while i < n {
-        let w = words_at(file, i);
-        let checked = dag::record_check(w.tag, w.first, w.second, i);
-        if dag::is_refused(checked) {
-            return checked;
-        }
-        i += 1;
-    }
-    Checked::Good
-}
-
-// The tests of the list that a file of good form holds.
-fn held_check(file: &[u8]) -> Checked
-    requires { ⌜ Contracts.Formed (now file) ⌝ }
-    ensures { λ r. ⌜ r ≡ File.heldCheck (now (file .entry)) ⌝ }
-{
-    let n = file_count(file);
-    let checked = records_check(file, n);
-    if dag::is_refused(checked) {
-        return checked;
-    }
-    if file_root(file) < n {
-        return Checked::Good;
-    }
-    Checked::Refused(Refusal::RootOutside)
-}
-
-// The tests of reading into a store of this many words.
-fn read_check(file: &[u8], room: usize) -> Checked
-    ensures { λ r. ⌜ r ≡ File.readCheck (now (file .entry)) room ⌝ }
+// The tests of the file's form, then of a store of this many words.
+fn store_check(file: &[u8], room: usize) -> Checked
+    ensures { λ r. ⌜ r ≡ File.storeCheck (now (file .entry)) room ⌝ }
 {
     let formed = form_check(file);
     if dag::is_refused(formed) {
         return formed;
     }
-    if room < 3 * file_count(file) {
-        return Checked::Refused(Refusal::StoreTooShort);
-    }
-    held_check(file)
+    dag::room_check(3 * file_count(file), room)
 }
 
-// Writes the records of a file at the start of a store.
+// Writes the words of a file's first n records at the start of a store.
 fn put_records(file: &[u8], n: usize, list: &mut [u64])
-    requires { ⌜ Contracts.Ready (now file) n (now list) ⌝ }
-    ensures { λ _. ⌜ Contracts.Put (now (file .entry)) n n (now (list .exit)) ⌝ }
+    requires { ⌜ (File.recordPlace n ≤ length (now file)) × (3 * n ≤ length (now list)) ⌝ }
+    ensures { λ _. ⌜ take (3 * n) (now (list .exit)) ≡ File.wordsOfFirst (now (file .entry)) n ⌝ }
 {
     let mut i = 0;
     while i < n {
         let w = words_at(file, i);
-        dag::put_node(list, i, dag::decode(w.tag, w.first, w.second));
+        dag::put_words(list, i, w.tag, w.first, w.second);
         i += 1;
     }
 }
 
-// Reads a file that has passed its tests.
-fn read_good(file: &[u8], list: &mut [u64]) -> FileAnswer
-    requires { ⌜ Contracts.Passed (now file) (length (now list)) ⌝ }
+// Reads a file that has passed those tests: its words are tested before they are copied to the store.
+fn read_held(file: &[u8], list: &mut [u64]) -> FileAnswer
+    requires { ⌜ Contracts.Formed (now file) × (3 * File.fileCount (now file) ≤ length (now list)) ⌝ }
     ensures { λ r. ⌜ Contracts.Done (now (file .entry)) (now (list .entry)) r (now (list .exit)) ⌝ }
 {
     let n = file_count(file);
-    put_records(file, n, list);
-    dag::blank_from(list, 3 * n);
-    FileAnswer::Read {
-        count: n,
-        root: file_root(file),
+    let root = file_root(file);
+    let mut words = [0u64; FILED_WORDS];
+    put_records(file, n, &mut words);
+    let checked = dag::list_check(&words[..3 * n], n, root);
+    match checked {
+        Checked::Refused(r) => FileAnswer::Refused(r),
+        Checked::Good => {
+            dag::copy_words(&words, 3 * n, list);
+            dag::blank_from(list, 3 * n);
+            FileAnswer::Read { count: n, root }
+        }
     }
 }
 
@@ -194,9 +165,9 @@ pub fn read_file(file: &[u8], list: &mut [u64]) -> FileAnswer
     ensures answer { λ r. ⌜ r ≡ File.readAnswer (now (file .entry)) (length (now (list .entry))) ⌝ }
     ensures list { λ _. ⌜ now (list .exit) ≡ File.readList (now (file .entry)) (now (list .entry)) ⌝ }
 {
-    let checked = read_check(file, list.len());
+    let checked = store_check(file, list.len());
     match checked {
         Checked::Refused(r) => FileAnswer::Refused(r),
-        Checked::Good => read_good(file, list),
+        Checked::Good => read_held(file, list),
     }
 }
