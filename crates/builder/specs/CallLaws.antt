@@ -1,13 +1,14 @@
 -- Step: its tests, and its answer and store by what was resolved.
-use Prim.Native.Nat.{ℕ, suc, _+_, _*_, _<_, _≤_}
+use Prim.Native.Nat.{ℕ, suc, _+_, _<_, _≤_}
 use mathlib.Core.Bool.{true, false}
 use mathlib.Core.List.{List, [], _∷_, _++_}
 use mathlib.Core.Path.{_≡_, sym, _∙_, ap}
 use native.Mathlib.Numerals.{add-one}
 use native.Mathlib.Omega.{arith}
 use borrow.Author.Tests.{lt-ltb, le-ltb, le-leb, lt-leb}
-use lib.ListN.{length, take-append-drop}
+use lib.ListN.{length}
 use Rattle.field.specs.Fields.{Field}
+use Rattle.dag.specs.View.{interleaved}
 use Rattle.dag.specs.Nodes.{mostRecords, decode, nodes}
 use Rattle.dag.specs.NodeLaws.{length-nodes, length-snoc}
 use Rattle.dag.specs.Refusals.{need, _then_}
@@ -15,8 +16,7 @@ use Rattle.dag.specs.Check.{recordCheck, rootlessCheck}
 use Rattle.dag.specs.CheckLaws.{then-good, passed, faithful}
 use Rattle.dag.specs.PassLaws.{listed}
 use Rattle.dag.specs.Store.{Sound, put, written}
-use Rattle.dag.specs.StoreLaws.{take-words}
-use Rattle.dag.specs.WordLaws.{written-put}
+use Rattle.dag.specs.WordLaws.{written-put, written-own}
 use Rattle.dag.specs.declared.NodeKind.{NodeKind}
 use Rattle.dag.specs.declared.Refusal.{Refusal}
 use Rattle.dag.specs.declared.Refusal.the-variants.{NoRoom}
@@ -30,48 +30,43 @@ use Rattle.builder.specs.declared.StepAnswer.{StepAnswer}
 use Rattle.builder.specs.declared.StepAnswer.the-variants as StepAnswer'
 
 module _ (field : Field) where
-  -- a store that passes begins with its list's words
-  written-own : (s : List ℕ) (n : ℕ) → Sound (field .bounds) s n → written s (nodes s n) ≡ s
-  unfolding written
-  written-own s n sound = rw (length-nodes s n, ← take-words (field .bounds) s n sound) (take-append-drop (3 * n) s)
-
-  module _ (s : List ℕ) (n : ℕ) (sound : Sound (field .bounds) s n) where
-    room-there : (i : ℕ) → stepRoomCheck s n (appended (nodes s n) (Place i)) ≡ Good
+  module _ (s : List ℕ) (n : ℕ) (sound : Sound (field .bounds) (interleaved s) n) where
+    room-there : (i : ℕ) → stepRoomCheck (interleaved s) n (appended (nodes (interleaved s) n) (Place i)) ≡ Good
     unfolding stepRoomCheck
-    room-there i = rw (length-nodes s n, le-leb n n (omega arith))
+    room-there i = rw (length-nodes (interleaved s) n, le-leb n n (omega arith))
 
     -- a place that is there
-    pub stays : (i : ℕ) (b : Built) → b ≡ appended (nodes s n) (Place i) → Stepped s n b (StepAnswer'.Done i n) s
-    stays i b e = record { answer = rw (e, room-there i, length-nodes s n); store = rw (e, room-there i) (sym (written-own s n sound)) }
+    pub stays : (i : ℕ) (b : Built) → b ≡ appended (nodes (interleaved s) n) (Place i) → Stepped s n b (StepAnswer'.Done i n) s
+    stays i b e = record { answer = rw (e, room-there i, length-nodes (interleaved s) n); store = rw (e, room-there i) (sym (written-own (field .bounds) s n sound)) }
 
     module _ (y : NodeKind) where
       abbrev longer : Built
-      longer = appended (nodes s n) (Node y)
+      longer = appended (nodes (interleaved s) n) (Node y)
 
-      room-new : stepRoomCheck s n longer ≡ need (hasRoom s n) NoRoom
+      room-new : stepRoomCheck (interleaved s) n longer ≡ need (hasRoom (interleaved s) n) NoRoom
       unfolding stepRoomCheck
-      room-new = rw (length-snoc (nodes s n) y, length-nodes s n, lt-leb (suc n) n (omega arith))
+      room-new = rw (length-snoc (nodes (interleaved s) n) y, length-nodes (interleaved s) n, lt-leb (suc n) n (omega arith))
 
-      refuses : hasRoom s n ≡ false → Stepped s n longer (StepAnswer'.Refused NoRoom) s
+      refuses : hasRoom (interleaved s) n ≡ false → Stepped s n longer (StepAnswer'.Refused NoRoom) s
       refuses e = record { answer = rw (room-new, e); store = rw (room-new, e) }
 
       pub list-full : mostRecords ≤ n → Stepped s n longer (StepAnswer'.Refused NoRoom) s
       unfolding hasRoom
       list-full h = refuses (rw (le-ltb n mostRecords h))
 
-      pub store-short : n < mostRecords → length s < 3 * (n + 1) → Stepped s n longer (StepAnswer'.Refused NoRoom) s
+      pub store-short : n < mostRecords → interleaved s .room ≤ n → Stepped s n longer (StepAnswer'.Refused NoRoom) s
       unfolding hasRoom
-      store-short h k = refuses (rw (lt-ltb n mostRecords h) (lt-leb (3 * (n + 1)) (length s) k))
+      store-short h k = refuses (rw (lt-ltb n mostRecords h) (le-ltb n (interleaved s .room) k))
 
-      put-written : 3 * (n + 1) ≤ length s → put s n y ≡ written s (nodes s n ++ (y ∷ []))
-      put-written k = rw (written-own s n sound, length-nodes s n) at (written-put s (nodes s n) y (omega (arith, length-nodes s n)))
+      put-written : n < interleaved s .room → put s n y ≡ written s (nodes (interleaved s) n ++ (y ∷ []))
+      put-written k = rw (written-own (field .bounds) s n sound, length-nodes (interleaved s) n) at (written-put s (nodes (interleaved s) n) y (rw (length-nodes (interleaved s) n) k))
 
-      pub appends : (after : List ℕ) → n < mostRecords → 3 * (n + 1) ≤ length s → after ≡ put s n y → Stepped s n longer (StepAnswer'.Done n (n + 1)) after
+      pub appends : (after : List ℕ) → n < mostRecords → n < interleaved s .room → after ≡ put s n y → Stepped s n longer (StepAnswer'.Done n (n + 1)) after
       unfolding hasRoom
       appends after h k e =
-          let room : hasRoom s n ≡ true = rw (lt-ltb n mostRecords h) (le-leb (3 * (n + 1)) (length s) k) in
+          let room : hasRoom (interleaved s) n ≡ true = rw (lt-ltb n mostRecords h) (lt-ltb n (interleaved s .room) k) in
           record {
-            answer = rw (room-new, room, length-snoc (nodes s n) y, length-nodes s n, add-one n);
+            answer = rw (room-new, room, length-snoc (nodes (interleaved s) n) y, length-nodes (interleaved s) n, add-one n);
             store = rw (room-new, room) (e ∙ put-written k);
           }
 
@@ -91,22 +86,22 @@ module _ (field : Field) where
 
   -- the answer and the store of Step
   pub record Called (s : List ℕ) (n t a b : ℕ) (r : StepAnswer) (after : List ℕ) : Type 0 where
-    pub answer : r ≡ stepAnswer field s n t a b
+    pub answer : r ≡ stepAnswer field (interleaved s) n t a b
     pub store : after ≡ stepStore field s n t a b
 
   module _ (s : List ℕ) (n t a b : ℕ) where
     -- a request that passes
-    pub step-request : stepCheck field s n t a b ≡ Good → Request field s n (decode t a b) × (n ≤ mostRecords)
+    pub step-request : stepCheck field (interleaved s) n t a b ≡ Good → Request field (interleaved s) n (decode t a b) × (n ≤ mostRecords)
     unfolding stepCheck
     step-request e =
-        let both = then-good (rootlessCheck (field .bounds) 0 s n) (recordCheck (field .bounds) t a b n) e in
-        let list = listed (field .bounds) 0 s n (both .0) in
+        let both = then-good (rootlessCheck (field .bounds) 0 (interleaved s) n) (recordCheck (field .bounds) t a b n) e in
+        let list = listed (field .bounds) 0 (interleaved s) n (both .0) in
         (record { sound = list .sound; fine = faithful (field .bounds) t a b n (passed (field .bounds) t a b n (both .1)) .fine }, list .most)
 
-    pub step-refused : (r : Refusal) → stepCheck field s n t a b ≡ Refused r → Called s n t a b (StepAnswer'.Refused r) s
+    pub step-refused : (r : Refusal) → stepCheck field (interleaved s) n t a b ≡ Refused r → Called s n t a b (StepAnswer'.Refused r) s
     unfolding stepAnswer stepStore stepWholeCheck
     step-refused r e = record { answer = rw e; store = rw e }
 
-    pub step-done : (r : StepAnswer) (after : List ℕ) → stepCheck field s n t a b ≡ Good → Stepped s n (step (field .elements) (nodes s n) (decode t a b)) r after → Called s n t a b r after
+    pub step-done : (r : StepAnswer) (after : List ℕ) → stepCheck field (interleaved s) n t a b ≡ Good → Stepped s n (step (field .elements) (nodes (interleaved s) n) (decode t a b)) r after → Called s n t a b r after
     unfolding stepAnswer stepStore stepWholeCheck stepped
     step-done r after e h = record { answer = rw e (h .answer); store = rw e (h .store) }

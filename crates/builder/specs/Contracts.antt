@@ -1,14 +1,15 @@
 -- What the builder's functions ask and say of their stores.
-use Prim.Native.Nat.{ℕ, _+_, _*_, _<_, _≤_, _-_}
+use Prim.Native.Nat.{ℕ, _+_, _<_, _≤_}
 use mathlib.Core.Bool.{true}
 use mathlib.Core.List.{List, [], _∷_, _++_}
 use mathlib.Core.List as Lists
 use mathlib.Core.Path.{_≡_}
 use lib.ListN.{length, getD, take}
 use Rattle.field.specs.Fields.{Field, Low}
-use Rattle.dag.specs.Store.{Sound, written}
+use Rattle.dag.specs.Store.{Sound, written, stored}
 use Rattle.dag.specs.Refusals.{unlessRefused}
-use Rattle.dag.specs.Nodes.{nodes, mostRecords, wordsOf, filled}
+use Rattle.dag.specs.View.{View, interleaved}
+use Rattle.dag.specs.Nodes.{nodes, mostRecords, filled}
 use Rattle.dag.specs.Lookup.{lookup}
 use Rattle.dag.specs.Roots.{rootsOf, rootsFrom, Inside}
 use Rattle.dag.specs.WellFormed.{Fine}
@@ -37,13 +38,13 @@ module _ (field : Field) where
     pub right : ConstantBelow y
 
   -- two operands on the first n records of a store that passes the list check
-  pub record Operands (s : List ℕ) (n a b : ℕ) : Type 0 where
+  pub record Operands (s : View) (n a b : ℕ) : Type 0 where
     pub sound : Sound (field .bounds) s n
     pub left-inside : a < n
     pub right-inside : b < n
 
   -- a request on the first n records of a store that passes the list check
-  pub record Request (s : List ℕ) (n : ℕ) (x : NodeKind) : Type 0 where
+  pub record Request (s : View) (n : ℕ) (x : NodeKind) : Type 0 where
     pub sound : Sound (field .bounds) s n
     pub fine : Fine (Low field) n x
 
@@ -73,31 +74,31 @@ appended l (Node y) = record { list = l ++ (y ∷ []); place = length l }
 
 -- an answer and a store, by the list and the place that a request comes to
 pub record Stepped (s : List ℕ) (n : ℕ) (b : Built) (r : StepAnswer) (after : List ℕ) : Type 0 where
-  pub answer : r ≡ unlessRefused (stepRoomCheck s n b) StepAnswer'.Refused (StepAnswer'.Done (b .place) (length (b .list)))
-  pub store : after ≡ unlessRefused (stepRoomCheck s n b) (λ _. s) (written s (b .list))
+  pub answer : r ≡ unlessRefused (stepRoomCheck (interleaved s) n b) StepAnswer'.Refused (StepAnswer'.Done (b .place) (length (b .list)))
+  pub store : after ≡ unlessRefused (stepRoomCheck (interleaved s) n b) (λ _. s) (written s (b .list))
 
 module _ (field : Field) where
   -- a store with one request entered: its list is the step's
   pub record Pushed (s : List ℕ) (n : ℕ) (x : NodeKind) (after : List ℕ) (r : Entered) : Type 0 where
     pub kept : length after ≡ length s
-    pub sound : Sound (field .bounds) after (r .count)
-    pub list-is : nodes after (r .count) ≡ step (field .elements) (nodes s n) x .list
-    pub place-is : r .place ≡ step (field .elements) (nodes s n) x .place
+    pub sound : Sound (field .bounds) (interleaved after) (r .count)
+    pub list-is : nodes (interleaved after) (r .count) ≡ step (field .elements) (nodes (interleaved s) n) x .list
+    pub place-is : r .place ≡ step (field .elements) (nodes (interleaved s) n) x .place
     pub inside : r .place < r .count
     pub longer : n ≤ r .count
     pub by-one : r .count ≤ n + 1
 
 -- a store of n records and its index, with room for one record more
 pub record Room (s : List ℕ) (n : ℕ) (links : List ℕ) : Type 0 where
-  pub room : 3 * n + 2 < length s
-  pub index : NodeIndex (nodes s n) links
+  pub room : n < interleaved s .room
+  pub index : NodeIndex (nodes (interleaved s) n) links
   pub link-room : n < half links
 
 module _ (field : Field) where
   -- a store with one request entered, and its index
   pub record Noted (s : List ℕ) (n : ℕ) (x : NodeKind) (after links : List ℕ) (r : Entered) : Type 0 where
     pub pushed : Pushed field s n x after r
-    pub index : NodeIndex (nodes after (r .count)) links
+    pub index : NodeIndex (nodes (interleaved after) (r .count)) links
 
 -- the places that a map store holds
 abbrev pub read : List ℕ → ℕ → ℕ
@@ -105,14 +106,14 @@ read map j = getD map j 0
 
 module _ (field : Field) where
   pub record Holds (r : Replay) (i : ℕ) (result map : List ℕ) (count : ℕ) : Type 0 where
-    pub sound : Sound (field .bounds) result count
-    pub list-is : nodes result count ≡ r .list
+    pub sound : Sound (field .bounds) (interleaved result) count
+    pub list-is : nodes (interleaved result) count ≡ r .list
     pub map-is : take i map ≡ r .map
 
   -- what Build asks once its tests have passed
-  pub record Ready (s : List ℕ) (n : ℕ) (roots : Roots) (resultWords mapWords : ℕ) : Type 0 where
+  pub record Ready (s : View) (n : ℕ) (roots : Roots) (resultRoom mapWords : ℕ) : Type 0 where
     pub sound : Sound (field .bounds) s n
-    pub result-room : 3 * n ≤ resultWords
+    pub result-room : n ≤ resultRoom
     pub map-room : n ≤ mapWords
     pub inside : Inside n roots
     pub most : n ≤ mostRecords
@@ -120,5 +121,5 @@ module _ (field : Field) where
 -- the answer and the stores of a replay r
 pub record Finished (r : Replay) (roots : Roots) (result map : List ℕ) (a : BuildAnswer) (after places : List ℕ) : Type 0 where
   pub answer : a ≡ record { checked = Good; count = length (r .list); roots = rootsFrom (Lists.map (placeOf r) (rootsOf roots)) }
-  pub list-is : after ≡ filled (length result) (wordsOf (r .list))
+  pub list-is : after ≡ stored result (r .list)
   pub places-are : places ≡ filled (length map) (r .map)

@@ -7,13 +7,12 @@ use native.Mathlib.Omega.{arith}
 use lib.ListN.{length, getD, take, set, replicate}
 use lib.Seq.{getD-take, take-suc-set}
 use Rattle.dag.specs.Refusals.{firstRefused}
-use Rattle.field.specs.Fields.{Field, Bounds, Low, elementLaws}
+use Rattle.field.specs.Fields.{Field, Low, elementLaws}
 use Rattle.field.specs.declared.QuadFelt.{QuadFelt}
-use Rattle.dag.specs.Nodes.{blank, nodes, at, rename, wordsOf, filled}
+use Rattle.dag.specs.View.{interleaved}
+use Rattle.dag.specs.Nodes.{blank, nodes, at, rename, filled}
 use Rattle.dag.specs.NodeLaws.{length-nodes}
-use Rattle.dag.specs.Check.{recordsCheck}
 use Rattle.dag.specs.Store.{Sound}
-use Rattle.dag.specs.StoreLaws.{take-words, length-words}
 use Rattle.dag.specs.WellFormed.{Fine, WellFormed}
 use Rattle.dag.specs.WellFormedLaws.{fine-mono}
 use Rattle.dag.specs.declared.NodeKind.{NodeKind}
@@ -41,14 +40,14 @@ module _ (field : Field) where
 
   module _ (r : Replay) (i : ℕ) (result map : List ℕ) (count : ℕ) (h : Holds field r i result map count) where
     pub count-is : count ≡ length (r .list)
-    count-is = sym (length-nodes result count) ∙ ap length (h .list-is)
+    count-is = sym (length-nodes (interleaved result) count) ∙ ap length (h .list-is)
 
     pub place-read : (j : ℕ) → j < i → read map j ≡ placeOf r j
     unfolding placeOf
     place-read j k = sym (getD-take i map j 0 k) ∙ ap (λ l. getD l j 0) (h .map-is)
 
     -- a request on earlier results is a request on the store
-    pub renamed-request : Replayed (Low field) i r → (x : NodeKind) → Fine (Low field) i x → Request field result count (rename (read map) x)
+    pub renamed-request : Replayed (Low field) i r → (x : NodeKind) → Fine (Low field) i x → Request field (interleaved result) count (rename (read map) x)
     renamed-request d x f =
         record {
           sound = h .sound;
@@ -56,7 +55,7 @@ module _ (field : Field) where
         }
 
     -- one more result
-    pub holds-more : (b : Built) (after : List ℕ) (place k : ℕ) → Sound (field .bounds) after k → nodes after k ≡ b .list → place ≡ b .place → i < length map
+    pub holds-more : (b : Built) (after : List ℕ) (place k : ℕ) → Sound (field .bounds) (interleaved after) k → nodes (interleaved after) k ≡ b .list → place ≡ b .place → i < length map
         → Holds field (recorded r b) (suc i) after (set map i place) k
     unfolding recorded
     holds-more b after place k s l e f =
@@ -73,7 +72,7 @@ module _ (field : Field) where
 
   -- Build's turn: the record at place i of l, renamed and entered
   module _ (l : List NodeKind) (w : WellFormed (Low field) l) (i : ℕ) (result map : List ℕ) (count : ℕ) (h : Holds field (replay (field .elements) l i) i result map count) where
-    pub turn-request : (x : NodeKind) → x ≡ at l i → Request field result count (rename (read map) x)
+    pub turn-request : (x : NodeKind) → x ≡ at l i → Request field (interleaved result) count (rename (read map) x)
     unfolding WellFormed
     turn-request x e = rw e (renamed-request (replay (field .elements) l i) i result map count h (replay-replayed (field .elements) (elementLaws field) l w i) (at l i) (w i))
 
@@ -86,16 +85,12 @@ module _ (field : Field) where
     turn-holds x after e ex push f =
         let r = replay (field .elements) l i in
         let same = ap (rename (read map)) ex ∙ rename-agree (Low field) (read map) (placeOf r) i (at l i) (w i) (place-read r i result map count h) in
-        let b : step (field .elements) (nodes result count) (rename (read map) x) ≡ step (field .elements) (r .list) (rename (placeOf r) (at l i)) = ap₂ (step (field .elements)) (h .list-is) same in
+        let b : step (field .elements) (nodes (interleaved result) count) (rename (read map) x) ≡ step (field .elements) (r .list) (rename (placeOf r) (at l i)) = ap₂ (step (field .elements)) (h .list-is) same in
         rw (add-one i)
         (holds-more r i result map count h (step (field .elements) (r .list) (rename (placeOf r) (at l i))) after (e .place) (e .count) (push .sound)
         (push .list-is ∙ ap (λ q. q .list) b) (push .place-is ∙ ap (λ q. q .place) b) f)
 
--- the words that a store begins with, and blanks behind them
-pub filled-list : (m : Bounds) (s : List ℕ) (n words : ℕ) → Sound m s n → length s ≡ words → take (3 * n) s ++ replicate (length s - 3 * n) blank ≡ filled words (wordsOf (nodes s n))
-unfolding filled
-filled-list m s n words sound e = rw (← e, take-words m s n sound, length-words (nodes s n), length-nodes s n)
-
+-- places, and blanks behind them
 pub filled-map : (map : List ℕ) (i words : ℕ) (places : List ℕ) → take i map ≡ places → length places ≡ i → length map ≡ words → take i map ++ replicate (length map - i) blank ≡ filled words places
 unfolding filled
 filled-map map i words places e k f = rw (e, ← f, k)

@@ -5,6 +5,7 @@ use mathlib.Core.Path.{_≡_, sym, _∙_, ap}
 use native.Mathlib.Omega.{arith}
 use lib.ListN.{length}
 use Rattle.field.specs.Fields.{Field, Low, elementLaws}
+use Rattle.dag.specs.View.{View}
 use Rattle.dag.specs.Nodes.{recordAt, nodes, at}
 use Rattle.dag.specs.NodeLaws.{at-nodes, length-nodes}
 use Rattle.dag.specs.Store.{Sound}
@@ -31,7 +32,7 @@ module _ (field : Field) where
   constant-below i (Mul a b) f e = let z : _≡_ {A = ℕ} 0 1 = cc in absurd (omega arith)
   constant-below i (Neg a) f e = let z : _≡_ {A = ℕ} 0 1 = cc in absurd (omega arith)
 
-  module _ (s : List ℕ) (n : ℕ) (sound : Sound (field .bounds) s n) where
+  module _ (s : View) (n : ℕ) (sound : Sound (field .bounds) s n) where
     l : List NodeKind
     l = nodes s n
 
@@ -61,7 +62,7 @@ module _ (field : Field) where
     handed c d o e h = h ∙ sym (told-rule (HandOver c d) e)
 
   -- the same for operands a, b of a store, whose records the code has read
-  module _ (s : List ℕ) (n a b : ℕ) (ops : Operands field s n a b) (x y : NodeKind) (ex : x ≡ recordAt s a) (ey : y ≡ recordAt s b) (r : Rule) where
+  module _ (s : View) (n a b : ℕ) (ops : Operands field s n a b) (x y : NodeKind) (ex : x ≡ recordAt s a) (ey : y ≡ recordAt s b) (r : Rule) where
     fine : WellFormed (Low field) (nodes s n)
     fine = list-fine s n (ops .sound)
 

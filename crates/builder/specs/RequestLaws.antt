@@ -7,6 +7,7 @@ use native.Mathlib.Omega.{arith}
 use lib.ListN.{length}
 use Rattle.field.specs.Fields.{Field, Low, elementLaws}
 use Rattle.field.specs.declared.QuadFelt.{QuadFelt}
+use Rattle.dag.specs.View.{View, interleaved}
 use Rattle.dag.specs.Nodes.{tag, first, second, recordAt, nodes}
 use Rattle.dag.specs.NodeLaws.{at-nodes, length-nodes}
 use Rattle.dag.specs.Lookup.{lookup}
@@ -27,7 +28,7 @@ use Rattle.builder.specs.declared.Outcome.{Outcome}
 use Rattle.builder.specs.declared.Outcome.the-variants.{Place, Node}
 
 module _ (field : Field) where
-  module _ (s : List ℕ) (n : ℕ) (x : NodeKind) (req : Request field s n x) where
+  module _ (s : View) (n : ℕ) (x : NodeKind) (req : Request field s n x) where
     asks : (y : NodeKind) → x ≡ y → Fine (Low field) n y
     asks y e = subst (λ (z : NodeKind). Fine (Low field) n z) e (req .fine)
 
@@ -100,7 +101,7 @@ interned-appended l y (At i) = refl
 interned-appended l y Missing = refl
 
 -- what a search says of a record that is interned
-pub intern-found : (s : List ℕ) (n : ℕ) (y : NodeKind) (f q : Found) → f ≡ lookup (nodes s n) y n → f ≡ q → intern (nodes s n) y ≡ appended (nodes s n) (newUnless y q)
+pub intern-found : (s : View) (n : ℕ) (y : NodeKind) (f q : Found) → f ≡ lookup (nodes s n) y n → f ≡ q → intern (nodes s n) y ≡ appended (nodes s n) (newUnless y q)
 unfolding intern
 intern-found s n y f q e h = rw (length-nodes s n, ← e, h) (interned-appended (nodes s n) y q)
 
@@ -110,7 +111,7 @@ entered-appended l n e (Place i) = refl
 entered-appended l n e (Node y) = rw e (interned-appended l y (lookup l y (length l)))
 
 module _ (field : Field) where
-  pub step-appended : (s : List ℕ) (n : ℕ) (x : NodeKind) → step (field .elements) (nodes s n) x ≡ appended (nodes s n) (resolved field (nodes s n) n x)
+  pub step-appended : (s : View) (n : ℕ) (x : NodeKind) → step (field .elements) (nodes s n) x ≡ appended (nodes s n) (resolved field (nodes s n) n x)
   unfolding step resolved
   step-appended s n x = entered-appended (nodes s n) n (sym (length-nodes s n)) (outcome (field .elements) (nodes s n) x)
 
@@ -125,59 +126,59 @@ searched-node l n (Place i) z e = let q : _≡_ {A = ℕ} 0 1 = cc in absurd (om
 searched-node l n (Node y) z e = ap Node (newUnless-fine n y (lookup l y n) z e)
 
 module _ (field : Field) where
-  module _ (s : List ℕ) (n : ℕ) (x : NodeKind) (req : Request field s n x) where
-    grown : Grown (Low field) (nodes s n) (step (field .elements) (nodes s n) x)
-    grown = step-grown (field .elements) (elementLaws field) (nodes s n) (list-fine field s n (req .sound)) x (rw (length-nodes s n) (req .fine))
+  module _ (s : List ℕ) (n : ℕ) (x : NodeKind) (req : Request field (interleaved s) n x) where
+    grown : Grown (Low field) (nodes (interleaved s) n) (step (field .elements) (nodes (interleaved s) n) x)
+    grown = step-grown (field .elements) (elementLaws field) (nodes (interleaved s) n) (list-fine field (interleaved s) n (req .sound)) x (rw (length-nodes (interleaved s) n) (req .fine))
 
-    pub new-fine : (z : NodeKind) → resolved field (nodes s n) n x ≡ Node z → Fine (Low field) n z
+    pub new-fine : (z : NodeKind) → resolved field (nodes (interleaved s) n) n x ≡ Node z → Fine (Low field) n z
     unfolding resolved
     new-fine z e =
-        rw (← length-nodes s n)
-        (subst (OutcomeFine (Low field) (length (nodes s n))) (searched-node (nodes s n) n (outcome (field .elements) (nodes s n) x) z e)
-        (outcome-fine (field .elements) (elementLaws field) (nodes s n) (list-fine field s n (req .sound)) x (rw (length-nodes s n) (req .fine))))
+        rw (← length-nodes (interleaved s) n)
+        (subst (OutcomeFine (Low field) (length (nodes (interleaved s) n))) (searched-node (nodes (interleaved s) n) n (outcome (field .elements) (nodes (interleaved s) n) x) z e)
+        (outcome-fine (field .elements) (elementLaws field) (nodes (interleaved s) n) (list-fine field (interleaved s) n (req .sound)) x (rw (length-nodes (interleaved s) n) (req .fine))))
 
     -- a place that is there
-    pub pushed-place : (o : Outcome) (i : ℕ) → o ≡ resolved field (nodes s n) n x → o ≡ Place i → Pushed field s n x s (record { place = i; count = n })
+    pub pushed-place : (o : Outcome) (i : ℕ) → o ≡ resolved field (nodes (interleaved s) n) n x → o ≡ Place i → Pushed field s n x s (record { place = i; count = n })
     pushed-place o i e h =
-        let b : step (field .elements) (nodes s n) x ≡ record { list = nodes s n; place = i } = step-appended field s n x ∙ ap (appended (nodes s n)) (sym e ∙ h) in
+        let b : step (field .elements) (nodes (interleaved s) n) x ≡ record { list = nodes (interleaved s) n; place = i } = step-appended field (interleaved s) n x ∙ ap (appended (nodes (interleaved s) n)) (sym e ∙ h) in
         record {
           kept = refl;
           sound = req .sound;
           list-is = sym (ap (λ q. q .list) b);
           place-is = sym (ap (λ q. q .place) b);
-          inside = rw (← length-nodes s n) (subst (λ q. q .place < length (q .list)) b (grown .inside));
+          inside = rw (← length-nodes (interleaved s) n) (subst (λ q. q .place < length (q .list)) b (grown .inside));
           longer = omega arith;
           by-one = omega arith;
         }
 
     -- a record appended
-    pub pushed-node : (o : Outcome) (z : NodeKind) (after : List ℕ) → o ≡ resolved field (nodes s n) n x → o ≡ Node z → after ≡ put s n z → 3 * n + 2 < length s
+    pub pushed-node : (o : Outcome) (z : NodeKind) (after : List ℕ) → o ≡ resolved field (nodes (interleaved s) n) n x → o ≡ Node z → after ≡ put s n z → n < interleaved s .room
         → Pushed field s n x after (record { place = n; count = n + 1 })
     pushed-node o z after e h k fits =
-        let b : step (field .elements) (nodes s n) x ≡ record { list = nodes s n ++ (z ∷ []); place = length (nodes s n) } = step-appended field s n x ∙ ap (appended (nodes s n)) (sym e ∙ h) in
+        let b : step (field .elements) (nodes (interleaved s) n) x ≡ record { list = nodes (interleaved s) n ++ (z ∷ []); place = length (nodes (interleaved s) n) } = step-appended field (interleaved s) n x ∙ ap (appended (nodes (interleaved s) n)) (sym e ∙ h) in
         record {
           kept = ap length k ∙ length-put s n z;
           sound = rw (k, add-one n) (sound-put s n z fits (field .bounds) (req .sound) (new-fine z (sym e ∙ h)));
           list-is = rw (k, add-one n) (nodes-put s n z fits ∙ sym (ap (λ q. q .list) b));
-          place-is = sym (length-nodes s n) ∙ sym (ap (λ q. q .place) b);
+          place-is = sym (length-nodes (interleaved s) n) ∙ sym (ap (λ q. q .place) b);
           inside = omega arith;
           longer = omega arith;
           by-one = omega arith;
         }
 
     -- a place that is there, with the index as it was
-    pub noted-place : (o : Outcome) (i : ℕ) (links : List ℕ) → o ≡ resolved field (nodes s n) n x → o ≡ Place i → Room s n links → Noted field s n x s links (record { place = i; count = n })
+    pub noted-place : (o : Outcome) (i : ℕ) (links : List ℕ) → o ≡ resolved field (nodes (interleaved s) n) n x → o ≡ Place i → Room s n links → Noted field s n x s links (record { place = i; count = n })
     noted-place o i links e h room = record { pushed = pushed-place o i e h; index = room .index }
 
     -- a record appended and noted
-    pub noted-node : (o : Outcome) (z : NodeKind) (after links later : List ℕ) (t a b : ℕ) → o ≡ resolved field (nodes s n) n x → o ≡ Node z → after ≡ put s n z → Room s n links
+    pub noted-node : (o : Outcome) (z : NodeKind) (after links later : List ℕ) (t a b : ℕ) → o ≡ resolved field (nodes (interleaved s) n) n x → o ≡ Node z → after ≡ put s n z → Room s n links
         → t ≡ tag z → a ≡ first z → b ≡ second z → later ≡ noted links n (bucketOf (half links) (hash t a b))
         → Noted field s n x after later (record { place = n; count = n + 1 })
     noted-node o z after links later t a b e h k room et ea eb el =
         record {
           pushed = pushed-node o z after e h k (room .room);
-          index = rw (k, add-one n, nodes-put s n z (room .room), is) (index-more (nodes s n) links z (room .index) (rw (length-nodes s n) (room .link-room)));
+          index = rw (k, add-one n, nodes-put s n z (room .room), is) (index-more (nodes (interleaved s) n) links z (room .index) (rw (length-nodes (interleaved s) n) (room .link-room)));
         }
       where
-        is : later ≡ noted links (length (nodes s n)) (nodeBucket (half links) z)
-        is = el ∙ ap₂ (noted links) (sym (length-nodes s n)) (same-bucket (half links) et ea eb)
+        is : later ≡ noted links (length (nodes (interleaved s) n)) (nodeBucket (half links) z)
+        is = el ∙ ap₂ (noted links) (sym (length-nodes (interleaved s) n)) (same-bucket (half links) et ea eb)

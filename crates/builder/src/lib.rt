@@ -7,11 +7,12 @@ use dag::Roots;
 use field::QuadFelt;
 ghost use mathlib.Core.Path.{_≡_};
 ghost use mathlib.Core.Bool.{_&&_, not};
-ghost use Prim.Native.Nat.{_+_, _*_, _<_, _≤_};
+ghost use Prim.Native.Nat.{_≤_};
 ghost use lib.Dec.{eqb};
 ghost use lib.ListN.{length};
 ghost use Rattle.field.specs.Fields.{goldilocks};
 ghost use Rattle.field.specs.Field.{quad};
+ghost use Rattle.dag.specs.View.{interleaved};
 ghost use Rattle.dag.specs.Nodes as Nodes;
 ghost use Rattle.dag.specs.Store as Store;
 ghost use Rattle.index.specs.Index.{half, Usable, NodeIndex};
@@ -251,8 +252,8 @@ fn neg_outcome(x: NodeKind, a: usize) -> Outcome
 
 // What add(a, b) on the first n records comes to.
 fn add_outcome(list: &[u64], n: usize, a: usize, b: usize) -> Outcome
-    requires { ⌜ Contracts.Operands goldilocks (now list) n a b ⌝ }
-    ensures { λ r. ⌜ r ≡ Steps.addOutcome quad (Nodes.nodes (now (list .entry)) n) a b ⌝ }
+    requires { ⌜ Contracts.Operands goldilocks (interleaved (now list)) n a b ⌝ }
+    ensures { λ r. ⌜ r ≡ Steps.addOutcome quad (Nodes.nodes (interleaved (now (list .entry))) n) a b ⌝ }
 {
     let rule = add_rule(dag::node_at(list, a), dag::node_at(list, b), a, b);
     match rule {
@@ -264,8 +265,8 @@ fn add_outcome(list: &[u64], n: usize, a: usize, b: usize) -> Outcome
 
 // What sub(a, b) on the first n records comes to.
 fn sub_outcome(list: &[u64], n: usize, a: usize, b: usize) -> Outcome
-    requires { ⌜ Contracts.Operands goldilocks (now list) n a b ⌝ }
-    ensures { λ r. ⌜ r ≡ Steps.subOutcome quad (Nodes.nodes (now (list .entry)) n) a b ⌝ }
+    requires { ⌜ Contracts.Operands goldilocks (interleaved (now list)) n a b ⌝ }
+    ensures { λ r. ⌜ r ≡ Steps.subOutcome quad (Nodes.nodes (interleaved (now (list .entry))) n) a b ⌝ }
 {
     let rule = sub_rule(dag::node_at(list, a), dag::node_at(list, b), a, b);
     match rule {
@@ -277,8 +278,8 @@ fn sub_outcome(list: &[u64], n: usize, a: usize, b: usize) -> Outcome
 
 // What a request on the first n records comes to.
 fn request_outcome(list: &[u64], n: usize, x: NodeKind) -> Outcome
-    requires { ⌜ Contracts.Request goldilocks (now list) n x ⌝ }
-    ensures { λ r. ⌜ r ≡ Steps.outcome quad (Nodes.nodes (now (list .entry)) n) x ⌝ }
+    requires { ⌜ Contracts.Request goldilocks (interleaved (now list)) n x ⌝ }
+    ensures { λ r. ⌜ r ≡ Steps.outcome quad (Nodes.nodes (interleaved (now (list .entry))) n) x ⌝ }
 {
     match x {
         NodeKind::Input(k) => Outcome::Node(NodeKind::Input(k)),
@@ -302,8 +303,8 @@ fn found_or_new(found: Found, x: NodeKind) -> Outcome
 
 // The place of a request's result among the first n records, or the new record that it needs, by the list's index.
 pub fn resolve(list: &[u64], n: usize, links: &[u64], x: NodeKind) -> Outcome
-    requires { ⌜ Contracts.Request goldilocks (now list) n x × NodeIndex (Nodes.nodes (now list) n) (now links) ⌝ }
-    ensures { λ r. ⌜ r ≡ Contracts.resolved goldilocks (Nodes.nodes (now (list .entry)) n) n x ⌝ }
+    requires { ⌜ Contracts.Request goldilocks (interleaved (now list)) n x × NodeIndex (Nodes.nodes (interleaved (now list)) n) (now links) ⌝ }
+    ensures { λ r. ⌜ r ≡ Contracts.resolved goldilocks (Nodes.nodes (interleaved (now (list .entry))) n) n x ⌝ }
 {
     let first = request_outcome(list, n, x);
     match first {
@@ -314,7 +315,7 @@ pub fn resolve(list: &[u64], n: usize, links: &[u64], x: NodeKind) -> Outcome
 
 // Enters one request into a list of n records and its index, which have room for one more.
 pub fn push(list: &mut [u64], n: usize, links: &mut [u64], x: NodeKind) -> Entered
-    requires { ⌜ Contracts.Request goldilocks (now list) n x × Contracts.Room (now list) n (now links) ⌝ }
+    requires { ⌜ Contracts.Request goldilocks (interleaved (now list)) n x × Contracts.Room (now list) n (now links) ⌝ }
     ensures { λ r. ⌜ Contracts.Noted goldilocks (now (list .entry)) n x (now (list .exit)) (now (links .exit)) r ⌝ }
 {
     let result = resolve(list, n, links, x);
@@ -339,7 +340,7 @@ pub fn push(list: &mut [u64], n: usize, links: &mut [u64], x: NodeKind) -> Enter
 
 // Step's tests.
 fn step_check(list: &[u64], n: usize, tag: u64, first: u64, second: u64) -> Checked
-    ensures { λ r. ⌜ r ≡ Calls.stepCheck goldilocks (now (list .entry)) n tag first second ⌝ }
+    ensures { λ r. ⌜ r ≡ Calls.stepCheck goldilocks (interleaved (now (list .entry))) n tag first second ⌝ }
 {
     let checked = dag::rootless_check(list, n, 0);
     if dag::is_refused(checked) {
@@ -350,13 +351,13 @@ fn step_check(list: &[u64], n: usize, tag: u64, first: u64, second: u64) -> Chec
 
 // Appends a new record where there is room.
 fn append(list: &mut [u64], n: usize, y: NodeKind) -> StepAnswer
-    requires { ⌜ Store.Sound (goldilocks .bounds) (now list) n × (n ≤ Nodes.mostRecords) ⌝ }
-    ensures { λ r. ⌜ Contracts.Stepped (now (list .entry)) n (Contracts.appended (Nodes.nodes (now (list .entry)) n) (Outcome.Node y)) r (now (list .exit)) ⌝ }
+    requires { ⌜ Store.Sound (goldilocks .bounds) (interleaved (now list)) n × (n ≤ Nodes.mostRecords) ⌝ }
+    ensures { λ r. ⌜ Contracts.Stepped (now (list .entry)) n (Contracts.appended (Nodes.nodes (interleaved (now (list .entry))) n) (Outcome.Node y)) r (now (list .exit)) ⌝ }
 {
     if dag::MOST_RECORDS <= n {
         return StepAnswer::Refused(Refusal::NoRoom);
     }
-    if list.len() < 3 * (n + 1) {
+    if dag::room(list) <= n {
         return StepAnswer::Refused(Refusal::NoRoom);
     }
     dag::put_node(list, n, y);
@@ -368,8 +369,8 @@ fn append(list: &mut [u64], n: usize, y: NodeKind) -> StepAnswer
 
 // Interns a record by the plain search.
 fn intern(list: &mut [u64], n: usize, y: NodeKind) -> StepAnswer
-    requires { ⌜ Store.Sound (goldilocks .bounds) (now list) n × (n ≤ Nodes.mostRecords) ⌝ }
-    ensures { λ r. ⌜ Contracts.Stepped (now (list .entry)) n (Steps.intern (Nodes.nodes (now (list .entry)) n) y) r (now (list .exit)) ⌝ }
+    requires { ⌜ Store.Sound (goldilocks .bounds) (interleaved (now list)) n × (n ≤ Nodes.mostRecords) ⌝ }
+    ensures { λ r. ⌜ Contracts.Stepped (now (list .entry)) n (Steps.intern (Nodes.nodes (interleaved (now (list .entry))) n) y) r (now (list .exit)) ⌝ }
 {
     let found = dag::lookup(list, n, y);
     match found {
@@ -380,8 +381,8 @@ fn intern(list: &mut [u64], n: usize, y: NodeKind) -> StepAnswer
 
 // Step past its tests.
 fn enter(list: &mut [u64], n: usize, x: NodeKind) -> StepAnswer
-    requires { ⌜ Contracts.Request goldilocks (now list) n x × (n ≤ Nodes.mostRecords) ⌝ }
-    ensures { λ r. ⌜ Contracts.Stepped (now (list .entry)) n (Steps.step quad (Nodes.nodes (now (list .entry)) n) x) r (now (list .exit)) ⌝ }
+    requires { ⌜ Contracts.Request goldilocks (interleaved (now list)) n x × (n ≤ Nodes.mostRecords) ⌝ }
+    ensures { λ r. ⌜ Contracts.Stepped (now (list .entry)) n (Steps.step quad (Nodes.nodes (interleaved (now (list .entry))) n) x) r (now (list .exit)) ⌝ }
 {
     let result = request_outcome(list, n, x);
     match result {
@@ -392,7 +393,7 @@ fn enter(list: &mut [u64], n: usize, x: NodeKind) -> StepAnswer
 
 // Step: one request on a list.
 pub fn step(list: &mut [u64], n: usize, tag: u64, first: u64, second: u64) -> StepAnswer
-    ensures answer { λ r. ⌜ r ≡ Calls.stepAnswer goldilocks (now (list .entry)) n tag first second ⌝ }
+    ensures answer { λ r. ⌜ r ≡ Calls.stepAnswer goldilocks (interleaved (now (list .entry))) n tag first second ⌝ }
     ensures store { λ _. ⌜ now (list .exit) ≡ Calls.stepStore goldilocks (now (list .entry)) n tag first second ⌝ }
 {
     let checked = step_check(list, n, tag, first, second);
@@ -404,8 +405,8 @@ pub fn step(list: &mut [u64], n: usize, tag: u64, first: u64, second: u64) -> St
 
 // Replays the requests one after the other into an empty list; answers its count.
 fn replay(list: &[u64], n: usize, result: &mut [u64], map: &mut [u64], links: &mut [u64]) -> usize
-    requires { ⌜ Store.Sound (goldilocks .bounds) (now list) n × (3 * n ≤ length (now result)) × (n ≤ length (now map)) × Usable (now links) × (n ≤ half (now links)) ⌝ }
-    ensures { λ r. ⌜ Contracts.Holds goldilocks (Steps.replay quad (Nodes.nodes (now (list .entry)) n) n) n (now (result .exit)) (now (map .exit)) r ⌝ }
+    requires { ⌜ Store.Sound (goldilocks .bounds) (interleaved (now list)) n × (n ≤ interleaved (now result) .room) × (n ≤ length (now map)) × Usable (now links) × (n ≤ half (now links)) ⌝ }
+    ensures { λ r. ⌜ Contracts.Holds goldilocks (Steps.replay quad (Nodes.nodes (interleaved (now (list .entry))) n) n) n (now (result .exit)) (now (map .exit)) r ⌝ }
 {
     index::clear(links);
     let mut count = 0;
@@ -421,11 +422,10 @@ fn replay(list: &[u64], n: usize, result: &mut [u64], map: &mut [u64], links: &m
 }
 
 // The tests of Build's stores.
-fn build_stores(n: usize, result_words: usize, map_words: usize) -> Checked
-    requires { ⌜ n ≤ Nodes.mostRecords ⌝ }
-    ensures { λ r. ⌜ r ≡ Calls.buildStores n «result_words» «map_words» ⌝ }
+fn build_stores(n: usize, result_room: usize, map_words: usize) -> Checked
+    ensures { λ r. ⌜ r ≡ Calls.buildStores n «result_room» «map_words» ⌝ }
 {
-    let checked = dag::room_check(3 * n, result_words);
+    let checked = dag::room_check(n, result_room);
     if dag::is_refused(checked) {
         return checked;
     }
@@ -433,20 +433,14 @@ fn build_stores(n: usize, result_words: usize, map_words: usize) -> Checked
 }
 
 // Build's tests.
-fn build_check(
-    list: &[u64],
-    n: usize,
-    root: usize,
-    result_words: usize,
-    map_words: usize,
-) -> Checked
-    ensures { λ r. ⌜ r ≡ Calls.buildCheck goldilocks (now (list .entry)) n root «result_words» «map_words» ⌝ }
+fn build_check(list: &[u64], n: usize, root: usize, result_room: usize, map_words: usize) -> Checked
+    ensures { λ r. ⌜ r ≡ Calls.buildCheck goldilocks (interleaved (now (list .entry))) n root «result_room» «map_words» ⌝ }
 {
     let checked = dag::list_check(list, n, root);
     if dag::is_refused(checked) {
         return checked;
     }
-    build_stores(n, result_words, map_words)
+    build_stores(n, result_room, map_words)
 }
 
 // Build past its tests, with the links of an index lent.
@@ -458,11 +452,11 @@ fn build_in(
     map: &mut [u64],
     links: &mut [u64],
 ) -> BuildAnswer
-    requires { ⌜ Contracts.Ready goldilocks (now list) n roots (length (now result)) (length (now map)) × Usable (now links) × (n ≤ half (now links)) ⌝ }
-    ensures { λ r. ⌜ Contracts.Finished (Steps.replay quad (Nodes.nodes (now (list .entry)) n) n) roots (now (result .entry)) (now (map .entry)) r (now (result .exit)) (now (map .exit)) ⌝ }
+    requires { ⌜ Contracts.Ready goldilocks (interleaved (now list)) n roots (interleaved (now result) .room) (length (now map)) × Usable (now links) × (n ≤ half (now links)) ⌝ }
+    ensures { λ r. ⌜ Contracts.Finished (Steps.replay quad (Nodes.nodes (interleaved (now (list .entry))) n) n) roots (now (result .entry)) (now (map .entry)) r (now (result .exit)) (now (map .exit)) ⌝ }
 {
     let count = replay(list, n, result, map, links);
-    dag::blank_from(result, 3 * count);
+    dag::blank_records(result, count);
     dag::blank_from(map, n);
     BuildAnswer {
         checked: Checked::Good,
@@ -479,8 +473,8 @@ fn build_sized(
     result: &mut [u64],
     map: &mut [u64],
 ) -> BuildAnswer
-    requires { ⌜ Contracts.Ready goldilocks (now list) n roots (length (now result)) (length (now map)) ⌝ }
-    ensures { λ r. ⌜ Contracts.Finished (Steps.replay quad (Nodes.nodes (now (list .entry)) n) n) roots (now (result .entry)) (now (map .entry)) r (now (result .exit)) (now (map .exit)) ⌝ }
+    requires { ⌜ Contracts.Ready goldilocks (interleaved (now list)) n roots (interleaved (now result) .room) (length (now map)) ⌝ }
+    ensures { λ r. ⌜ Contracts.Finished (Steps.replay quad (Nodes.nodes (interleaved (now (list .entry))) n) n) roots (now (result .entry)) (now (map .entry)) r (now (result .exit)) (now (map .exit)) ⌝ }
 {
     if n <= dag::FEW_RECORDS {
         let mut few = [0u64; 2 * dag::FEW_RECORDS];
@@ -498,11 +492,11 @@ pub fn build(
     result: &mut [u64],
     map: &mut [u64],
 ) -> BuildAnswer
-    ensures answer { λ r. ⌜ r ≡ Calls.buildAnswer goldilocks (now (list .entry)) n root (length (now (result .entry))) (length (now (map .entry))) ⌝ }
-    ensures result { λ _. ⌜ now (result .exit) ≡ Calls.buildResult goldilocks (now (list .entry)) n root (now (result .entry)) (length (now (map .entry))) ⌝ }
-    ensures map { λ _. ⌜ now (map .exit) ≡ Calls.buildMap goldilocks (now (list .entry)) n root (length (now (result .entry))) (now (map .entry)) ⌝ }
+    ensures answer { λ r. ⌜ r ≡ Calls.buildAnswer goldilocks (interleaved (now (list .entry))) n root (interleaved (now (result .entry)) .room) (length (now (map .entry))) ⌝ }
+    ensures result { λ _. ⌜ now (result .exit) ≡ Calls.buildResult goldilocks (interleaved (now (list .entry))) n root (now (result .entry)) (length (now (map .entry))) ⌝ }
+    ensures map { λ _. ⌜ now (map .exit) ≡ Calls.buildMap goldilocks (interleaved (now (list .entry))) n root (interleaved (now (result .entry)) .room) (now (map .entry)) ⌝ }
 {
-    let checked = build_check(list, n, root, result.len(), map.len());
+    let checked = build_check(list, n, root, dag::room(result), map.len());
     if dag::is_refused(checked) {
         return BuildAnswer {
             checked,

@@ -1,5 +1,3 @@
-use Rattle.field.specs.Fields.{goldilocks}
-use Rattle.dag.specs.PassLaws.{rooted}
 use Rattle.builder.specs.Calls as Calls
 use Rattle.dag.specs.CheckLaws.{refused-then, good-told, bad-told}
 use mathlib.Core.Path.{_∙_}
@@ -18,7 +16,7 @@ unfolding Calls.buildCheck
 returns c = c .before .before .list-check .ensures ∙ refused-then _ _ (bad-told (c .before .before .list-check .ensures) (c .before .is-refused .ensures) (c .if1 .taken))
 
 build-stores-requires : tie.Need-build-stores-requires
-build-stores-requires c κs = rooted (goldilocks .bounds) _ _ _ (good-told (c .before .before .list-check .ensures) (c .before .is-refused .ensures) (c .if1 .left)) .list .most
+build-stores-requires c κs = search needs
 
 returns-2 : tie.Need-returns-2
 unfolding Calls.buildCheck

@@ -1,3 +1,4 @@
+use Rattle.dag.specs.View.{interleaved}
 use Rattle.field.specs.Fields.{goldilocks}
 use Rattle.builder.specs.BuildLaws.{finished}
 use Rattle.dag.specs.RootLaws.{inside-mono}
@@ -8,20 +9,17 @@ use Rattle.builder.proofs.build_in.Tie as tie
 replay-requires : tie.Need-replay-requires
 replay-requires c κs = search needs
 
-mul-blank-from : tie.Need-mul-blank-from
-mul-blank-from c = search needs
+blank-records-requires : tie.Need-blank-records-requires
+blank-records-requires c κs = search needs
 
 blank-from-requires : tie.Need-blank-from-requires
 blank-from-requires c κs = search needs
 
-blank-from-requires-2 : tie.Need-blank-from-requires-2
-blank-from-requires-2 c κs = search needs
-
 renamed-roots-requires : tie.Need-renamed-roots-requires
 renamed-roots-requires c κs =
-    let at-blank-from2 = c .before .before .before in
-    let at-blank-from = at-blank-from2 .before .before .before .before in
-    let at-replay = at-blank-from .before .before .before .before .before .before .before .before in
+    let at-blank-from = c .before .before .before in
+    let at-blank-records = at-blank-from .before .before .before .before in
+    let at-replay = at-blank-records .before .before .before .before .before .before .before .before in
     let start = at-replay .before .before .before .before .before .before .before .before in
     inside-mono (start .args .n) (start .args .roots) (start .pre .0 .inside) _ (search needs)
 
@@ -36,22 +34,21 @@ same-length-3 c = search needs
 
 returns : tie.Need-returns
 returns c =
-    let at-blank-from2 = c .before .before .before .before in
-    let at-blank-from = at-blank-from2 .before .before .before .before in
-    let at-replay = at-blank-from .before .before .before .before .before .before .before .before in
+    let at-blank-from = c .before .before .before .before in
+    let at-blank-records = at-blank-from .before .before .before .before in
+    let at-replay = at-blank-records .before .before .before .before .before .before .before .before in
     let start = at-replay .before .before .before .before .before .before .before .before in
-    finished goldilocks (start .args .list .now) (start .args .n) (start .args .roots) (start .args .result .now) (start .args .map .now) (start .pre .0 .sound)
+    finished goldilocks (interleaved (start .args .list .now)) (start .args .n) (start .args .roots) (start .args .result .now) (start .args .map .now) (start .pre .0 .sound)
     (start .pre .0 .inside) _ _ _ (at-replay .replay .ensures) (at-replay .replay .kept .1 .1 .0) (at-replay .replay .kept .1 .1 .1 .0)
-    (start .pre .0 .map-room) _ _ _ (at-blank-from .blank-from .ensures) (at-blank-from2 .blank-from2 .ensures) (c .renamed-roots .ensures)
+    (start .pre .0 .map-room) _ _ _ (at-blank-records .blank-records .ensures) (at-blank-from .blank-from .ensures) (c .renamed-roots .ensures)
 
 pub build-in-spec : {M : Type 1} → statement M
 build-in-spec =
     tie.close
     (tie.spec
     replay-requires
-    mul-blank-from
+    blank-records-requires
     blank-from-requires
-    blank-from-requires-2
     renamed-roots-requires
     same-length
     same-length-2

@@ -5,9 +5,6 @@ use borrow.Author.Needs.{needs}
 use Rattle.builder.proofs.build_stores.Statement.{statement}
 use Rattle.builder.proofs.build_stores.Tie as tie
 
-mul-room-check : tie.Need-mul-room-check
-mul-room-check c = search needs
-
 room-check-requires : tie.Need-room-check-requires
 room-check-requires c κs = search needs
 
@@ -30,4 +27,4 @@ returns-2 c =
 pub build-stores-spec : {M : Type 1} → statement M
 build-stores-spec =
     tie.close
-    (tie.spec mul-room-check room-check-requires is-refused-requires returns room-check-requires-2 returns-2)
+    (tie.spec room-check-requires is-refused-requires returns room-check-requires-2 returns-2)

@@ -1,3 +1,4 @@
+use Rattle.dag.specs.View.{interleaved}
 use Rattle.field.specs.Fields.{goldilocks}
 use Rattle.builder.specs.CallLaws.{stays, stepped-as}
 use Rattle.builder.specs.RequestLaws.{intern-found}
@@ -25,7 +26,7 @@ returns c =
     let at-lookup = c .before .before .before in
     let start = at-lookup .before .before .before in
     stays goldilocks (start .args .list .now) (start .args .n) (start .pre .0) _ _
-    (intern-found (start .args .list .now) (start .args .n) (start .args .y) _ _ (at-lookup .lookup .ensures) (c .before .found .given .1))
+    (intern-found (interleaved (start .args .list .now)) (start .args .n) (start .args .y) _ _ (at-lookup .lookup .ensures) (c .before .found .given .1))
 
 same-length-2 : tie.Need-same-length-2
 same-length-2 c = search needs
@@ -36,7 +37,7 @@ returns-2 c =
     let at-lookup = at-enum-told .before .before in
     let start = at-lookup .before .before .before in
     stepped-as (start .args .list .now) (start .args .n) _ _ _ _
-    (intern-found (start .args .list .now) (start .args .n) (start .args .y) _ _ (at-lookup .lookup .ensures) (at-enum-told .enum-told .given .1))
+    (intern-found (interleaved (start .args .list .now)) (start .args .n) (start .args .y) _ _ (at-lookup .lookup .ensures) (at-enum-told .enum-told .given .1))
     (c .before .before .append .ensures)
 
 pub intern-spec : {M : Type 1} → statement M

@@ -1,3 +1,5 @@
+use Rattle.dag.specs.View.{interleaved}
+use Rattle.dag.specs.ViewLaws.{same-room}
 use Rattle.field.specs.Fields.{goldilocks}
 use Rattle.dag.specs.WellFormedLaws.{fine-any}
 use Prim.Native.Nat.{_≤_, _-_}
@@ -21,9 +23,9 @@ Inv-loop list n result₀ map₀ links₀ count₀ i₀ result map links count i
     (i ≤ n)
     × (length result ≡ length result₀)
     × (length map ≡ length map₀)
-    × Contracts.Holds goldilocks (Steps.replay quad (Nodes.nodes list n) i) i result map count
+    × Contracts.Holds goldilocks (Steps.replay quad (Nodes.nodes (interleaved list) n) i) i result map count
     × (length links ≡ length links₀)
-    × NodeIndex (Nodes.nodes result count) links
+    × NodeIndex (Nodes.nodes (interleaved result) count) links
 
 abbrev μ-loop : tie.MeasureT-loop
 μ-loop list n result₀ map₀ links₀ count₀ i₀ result map links count i = n - i
@@ -46,8 +48,8 @@ renamed-requires c κs =
     let at-loop-test = c .before .before in
     let at-loop = at-loop-test .before in
     let start = at-loop .before .before .before .before .before .before .before .before .before in
-    fine-any Below _ _ (turn-fine goldilocks (Nodes.nodes (start .args .list .now) (start .args .n))
-    (list-fine goldilocks (start .args .list .now) (start .args .n) (start .pre .0)) (at-loop .loop .i) _ _
+    fine-any Below _ _ (turn-fine goldilocks (Nodes.nodes (interleaved (start .args .list .now)) (start .args .n))
+    (list-fine goldilocks (interleaved (start .args .list .now)) (start .args .n) (start .pre .0)) (at-loop .loop .i) _ _
     (omega (arith, (start .pre .2), (at-loop .loop .inv .2), (at-loop-test .loop-test .taken)))
     ((c .node-at .ensures) ∙ sym (at-nodes _ _ _ (at-loop-test .loop-test .taken))))
 
@@ -59,13 +61,13 @@ push-requires c κs =
     let at-loop = at-loop-test .before in
     let at-clear = at-loop .before .before .before in
     let start = at-clear .before .before .before .before .before .before in
-    let h = turn-short goldilocks (Nodes.nodes (start .args .list .now) (start .args .n)) (list-fine goldilocks (start .args .list .now) (start .args .n) (start .pre .0))
+    let h = turn-short goldilocks (Nodes.nodes (interleaved (start .args .list .now)) (start .args .n)) (list-fine goldilocks (interleaved (start .args .list .now)) (start .args .n) (start .pre .0))
     (at-loop .loop .i) (at-loop .loop .result) (at-loop .loop .map) (at-loop .loop .count) (at-loop .loop .inv .3) in (
-      rw (at-renamed .renamed .ensures) (turn-request goldilocks (Nodes.nodes (start .args .list .now) (start .args .n))
-          (list-fine goldilocks (start .args .list .now) (start .args .n) (start .pre .0)) (at-loop .loop .i) (at-loop .loop .result) (at-loop .loop .map)
+      rw (at-renamed .renamed .ensures) (turn-request goldilocks (Nodes.nodes (interleaved (start .args .list .now)) (start .args .n))
+          (list-fine goldilocks (interleaved (start .args .list .now)) (start .args .n) (start .pre .0)) (at-loop .loop .i) (at-loop .loop .result) (at-loop .loop .map)
           (at-loop .loop .count) (at-loop .loop .inv .3) _ ((at-node-at .node-at .ensures) ∙ sym (at-nodes _ _ _ (at-loop-test .loop-test .taken)))),
       record {
-        room = omega (arith, h, (start .pre .1), (at-loop .loop .inv .1), (at-loop-test .loop-test .taken));
+        room = rw (same-room (at-loop .loop .result) (start .args .result .now) (at-loop .loop .inv .1)) (omega (arith, h, (start .pre .1), (at-loop-test .loop-test .taken)));
         index = (at-loop .loop .inv .5);
         link-room = rw ((at-loop .loop .inv .4), (at-clear .clear .kept .0)) (omega (arith, h, (start .pre .4), (at-loop-test .loop-test .taken)));
       },
@@ -111,8 +113,8 @@ loop-again c =
       (at-push .push .ensures .pushed .kept) ∙ (at-loop .loop .inv .1),
       simp length-set
           (at-loop .loop .inv .2),
-      turn-holds goldilocks (Nodes.nodes (start .args .list .now) (start .args .n))
-          (list-fine goldilocks (start .args .list .now) (start .args .n) (start .pre .0)) (at-loop .loop .i) (at-loop .loop .result) (at-loop .loop .map)
+      turn-holds goldilocks (Nodes.nodes (interleaved (start .args .list .now)) (start .args .n))
+          (list-fine goldilocks (interleaved (start .args .list .now)) (start .args .n) (start .pre .0)) (at-loop .loop .i) (at-loop .loop .result) (at-loop .loop .map)
           (at-loop .loop .count) (at-loop .loop .inv .3) _ _ _ ((at-node-at .node-at .ensures) ∙ sym (at-nodes _ _ _ (at-loop-test .loop-test .taken)))
           (rw (at-renamed .renamed .ensures) at (at-push .push .ensures .pushed))
           (omega (arith, (start .pre .2), (at-loop-test .loop-test .taken), (at-loop .loop .inv .2))),
