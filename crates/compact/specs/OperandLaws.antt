@@ -1,5 +1,5 @@
 -- A record's operands, and places that stand in a list.
-use Prim.Native.Nat.{ℕ, suc, _<_}
+use Prim.Native.Nat.{ℕ, zero, suc, _<_}
 use mathlib.Core.List.{List, [], _∷_, map}
 use mathlib.Core.Path.{_≡_, refl, ap, ap₂}
 use mathlib.Core.Logic.{_⊎_, inl, inr}
@@ -42,6 +42,11 @@ one-below n i h = below-cons n i [] h (below-nil n)
 below-each : (n : ℕ) (is : List ℕ) → ((j : ℕ) → j < length is → getD is j 0 < n) → AllBelow n is
 below-each n [] h = below-nil n
 below-each n (i ∷ is) h = below-cons n i is (h 0 (omega arith)) (below-each n is (λ j k. h (suc j) (omega arith)))
+
+pub below-at : (n : ℕ) (is : List ℕ) → AllBelow n is → (j : ℕ) → j < length is → getD is j 0 < n
+below-at n [] h j k = absurd (omega arith)
+below-at n (i ∷ is) h zero k = h i here
+below-at n (i ∷ is) h (suc j) k = below-at n is (λ m p. h m (there p)) j (omega arith)
 
 -- roots of a list of n records are below n
 pub inside-below : (n : ℕ) (r : Roots) → Inside n r → AllBelow n (rootsOf r)

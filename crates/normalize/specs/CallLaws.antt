@@ -1,42 +1,46 @@
 -- Normalise: the rounds in its stores, from the copied list to the answer.
 use Prim.Native.Nat.{ℕ, zero, suc, pred, _+_, _*_, _-_, _<_, _≤_}
-use mathlib.Core.Bool.{Bool, true, false, _&&_}
+use mathlib.Core.Bool.{Bool, true, false}
 use mathlib.Core.List.{List, [], _∷_, _++_}
 use mathlib.Core.Path.{_≡_, refl, sym, _∙_, ap, ap₂}
 use native.Mathlib.Nat.{sub-zero}
 use native.Mathlib.Numerals.{add-one}
 use native.Mathlib.Omega.{arith}
-use borrow.Author.Tests.{leb-true}
-use lib.Dec.{leb}
-use lib.ListN.{length, getD, take, replicate}
+use lib.ListN.{length, take, replicate}
 use Rattle.field.specs.Fields.{Field, elementLaws}
 use Rattle.dag.specs.Nodes.{mostRecords, blank, nodes, wordsOf, filled}
 use Rattle.dag.specs.NodeLaws.{length-nodes}
-use Rattle.dag.specs.CaseLaws.{and-true}
-use Rattle.dag.specs.Refusals.{need, _then_}
-use Rattle.dag.specs.Check.{listCheck}
-use Rattle.dag.specs.CheckLaws.{then-good, need-good}
+use Rattle.dag.specs.Refusals.{isRefused}
+use Rattle.dag.specs.Roots.{mostRoots, rootsOf, rootsFrom}
+use Rattle.dag.specs.RootLaws.{roots-from, length-roots, inside-from}
+use Rattle.dag.specs.Check.{roomCheck, listCheck}
+use Rattle.dag.specs.CheckLaws.{then-good}
 use Rattle.dag.specs.PassLaws.{rooted}
 use Rattle.dag.specs.Store.{Sound, copied, written}
 use Rattle.dag.specs.StoreLaws.{take-words}
 use Rattle.dag.specs.declared.NodeKind.{NodeKind}
-use Rattle.dag.specs.declared.Refusal.{Refusal}
-use Rattle.dag.specs.declared.Refusal.the-variants.{StoreTooShort}
-use Rattle.dag.specs.declared.Checked.the-variants.{Good, Refused}
+use Rattle.dag.specs.declared.Roots.{Roots}
+use Rattle.dag.specs.declared.Checked.{Checked}
+use Rattle.dag.specs.declared.Checked.the-variants.{Good}
 use Rattle.builder.specs.OutcomeLaws.{list-fine}
 use Rattle.builder.specs.HoldLaws.{filled-list}
-use Rattle.compact.specs.OperandLaws.{one-below}
-use Rattle.compact.specs.Reach.{here}
+use Rattle.compact.specs.OperandLaws.{one-below, below-at, inside-below}
+use Rattle.compact.specs.CallLaws.{refused-is, room-good}
+use Rattle.compact.specs.Contracts.{AllBelow}
 use Rattle.dag.specs.WordLaws.{nodes-written, sound-written}
 use Rattle.normalize.specs.Rounds.{rounded, isKept, roundsFrom, normalize}
-use Rattle.normalize.specs.RoundLaws.{rounded-inside}
+use Rattle.normalize.specs.RoundLaws.{rounded-inside, rounded-many}
 use Rattle.normalize.specs.RepeatLaws.{kept-shorter, given-back}
-use Rattle.normalize.specs.Calls.{normalizeCheck, normalized, normalizeAnswer, normalizeResult, normalizeWork}
-use Rattle.normalize.specs.Contracts.{Ready, Once, Running, Ended, Passed, Finished}
+use Rattle.normalize.specs.Calls.{normalizeStores, normalizeCheck, normalized, normalizeAnswer, normalizeResult, normalizeWork}
+use Rattle.normalize.specs.Contracts.{WellRooted, Ready, Once, Running, Ended, Passed, Finished}
 use Rattle.normalize.specs.declared.RoundKept.{RoundKept}
 use Rattle.normalize.specs.declared.NormalEnd.{NormalEnd}
 use Rattle.normalize.specs.declared.NormalizeAnswer.{NormalizeAnswer}
-use Rattle.normalize.specs.declared.NormalizeAnswer.the-variants as NormalizeAnswer'
+
+-- places below n, as roots
+well-rooted : (n : ℕ) (is : List ℕ) → AllBelow n is → 0 < length is → length is ≤ mostRoots → WellRooted n (rootsFrom is)
+unfolding rootsFrom
+well-rooted n is low some few = record { inside = inside-from n is few (below-at n is low); some = some; exact = ap rootsFrom (roots-from is) }
 
 module _ (field : Field) where
   -- a round that is kept
@@ -72,103 +76,110 @@ module _ (field : Field) where
           let s = kept-shorter (field .elements) l roots e in
           rounds-kept f l roots k e ∙ (again d (omega arith) (omega arith) ∙ sym (rounds-kept d l roots k e))
 
-  pub running-begins : {s : List ℕ} {n root k : ℕ} → Ready field s n root k → Running field s n root s n root 0
+  pub running-begins : {s : List ℕ} {n : ℕ} {roots : Roots} {k : ℕ} → Ready field s n roots k → Running field s n roots s n roots 0
   unfolding normalized normalize
-  running-begins {s} {n} {root} h =
+  running-begins {s} {n} {roots} h =
       record {
         sound = h .sound;
-        inside = h .inside;
+        rooted = h .rooted;
         lost = omega arith;
-        rounds = ap (λ f. roundsFrom (field .elements) f (nodes s n) (root ∷ []) 0) (length-nodes s n);
+        rounds = ap (λ f. roundsFrom (field .elements) f (nodes s n) (rootsOf roots) 0) (length-nodes s n);
       }
 
   -- the rounds so far, and one round more
-  module _ {s : List ℕ} {n root : ℕ} {result : List ℕ} {count r k : ℕ} (h : Running field s n root result count r k) where
-    pub running-ready : (words : ℕ) → n ≤ mostRecords → 6 * n ≤ words → Ready field result count r words
-    running-ready words few room = let a = h .lost in record { sound = h .sound; few = omega arith; inside = h .inside; room = omega arith }
+  module _ {s : List ℕ} {n : ℕ} {roots : Roots} {result : List ℕ} {count : ℕ} {rs : Roots} {k : ℕ} (h : Running field s n roots result count rs k) where
+    pub running-ready : (words : ℕ) → n ≤ mostRecords → 6 * n ≤ words → Ready field result count rs words
+    running-ready words few room = let a = h .lost in record { sound = h .sound; few = omega arith; rooted = h .rooted; room = omega arith }
 
-    module _ {after : List ℕ} {q : RoundKept} (o : Once field result count r after q) where
+    module _ {after : List ℕ} {q : RoundKept} (o : Once field result count rs after q) where
       module _ (e : q .kept ≡ true) where
-        kept : isKept (field .elements) (nodes result count) (r ∷ []) ≡ true
+        kept : isKept (field .elements) (nodes result count) (rootsOf rs) ≡ true
         kept = sym (o .kept-is) ∙ e
 
-        new-count : q .count ≡ length (rounded (field .elements) (nodes result count) (r ∷ []) .list)
+        new-count : q .count ≡ length (rounded (field .elements) (nodes result count) (rootsOf rs) .list)
         new-count = sym (length-nodes after (q .count)) ∙ ap length (o .list-is e)
 
         pub fewer : q .count < count
-        fewer = let a = kept-shorter (field .elements) (nodes result count) (r ∷ []) kept in let b = new-count in let d = length-nodes result count in omega arith
+        fewer = let a = kept-shorter (field .elements) (nodes result count) (rootsOf rs) kept in let b = new-count in let d = length-nodes result count in omega arith
 
-        pub running-on : Running field s n root after (q .count) (q .root) (k + 1)
+        still-rooted : WellRooted (q .count) (q .roots)
+        still-rooted =
+            let a = h .rooted in
+            let l = rounded (field .elements) (nodes result count) (rootsOf rs) in
+            let low = rounded-inside (field .elements) (elementLaws field) (nodes result count) (list-fine field result count (h .sound)) (rootsOf rs) (rw (length-nodes result count) (inside-below count rs (a .inside))) in
+            let many : length (l .roots) ≡ rs .count = rounded-many (field .elements) (nodes result count) (rootsOf rs) ∙ length-roots count rs (a .inside) in
+            rw (o .roots-are e, new-count) (well-rooted (length (l .list)) (l .roots) low (omega (arith, many, a .some)) (omega (arith, many, a .inside .few)))
+
+        pub running-on : Running field s n roots after (q .count) (q .roots) (k + 1)
         running-on =
             let b = new-count in
             let f = fewer in
             let a = h .lost in
-            let d = length-nodes result count in
-            let i = h .inside in
-            let l = rounded (field .elements) (nodes result count) (r ∷ []) in
-            let below = rounded-inside (field .elements) (elementLaws field) (nodes result count) (list-fine field result count (h .sound)) (r ∷ []) (one-below (length (nodes result count)) r (omega arith)) in
+            let l = rounded (field .elements) (nodes result count) (rootsOf rs) in
             record {
               sound = o .sound e;
-              inside = rw new-count (below (q .root) (rw (← o .roots-are e) here));
+              rooted = still-rooted;
               lost = omega arith;
               rounds =
                   h .rounds
-                  ∙ (first-kept count (nodes result count) (r ∷ []) k (omega arith) kept
+                  ∙ (first-kept count (nodes result count) (rootsOf rs) k (omega arith) kept
                   ∙ (fuel-enough (pred count) (q .count) (l .list) (l .roots) (suc k) (omega arith) (omega arith)
-                  ∙ rw (← o .list-is e, ← o .roots-are e, add-one k)));
+                  ∙ rw (← o .list-is e, o .roots-are e, roots-from (l .roots), add-one k)));
             }
 
       -- the rounds end
-      pub ended : q .kept ≡ false → Ended field s n root after (record { count = count; root = r; rounds = k })
+      pub ended : q .kept ≡ false → Ended field s n roots after (record { count = count; roots = rs; rounds = k })
       ended e =
-          let z = h .rounds ∙ given-back (field .elements) count (nodes result count) (r ∷ []) k (sym (o .kept-is) ∙ e) in
+          let z = h .rounds ∙ given-back (field .elements) count (nodes result count) (rootsOf rs) k (sym (o .kept-is) ∙ e) in
           let same = o .stays e in
           record {
             sound = rw same (h .sound);
             few = let a = h .lost in omega arith;
             list-is = ap (λ t. nodes t count) same ∙ sym (ap (λ m. m .list) z);
-            root-is = sym (ap (λ m. getD (m .roots) 0 0) z);
+            roots-are = sym (h .rooted .exact) ∙ sym (ap (λ m. rootsFrom (m .roots)) z);
             rounds-are = sym (ap (λ m. m .rounds) z);
           }
 
-  pub passed : (s : List ℕ) (n root resultWords workWords : ℕ) → normalizeCheck field s n root resultWords workWords ≡ Good → Passed field s n root resultWords workWords
+  pub passed : (s : List ℕ) (n root resultWords workWords : ℕ) → normalizeCheck field s n root resultWords workWords ≡ Good
+      → Passed field s n (rootsFrom (root ∷ [])) resultWords workWords
   unfolding normalizeCheck
   passed s n root resultWords workWords e =
-      let both = then-good (listCheck (field .bounds) s n root) (need (leb (3 * n) resultWords && leb (6 * n) workWords) StoreTooShort) e in
+      let both = then-good (listCheck (field .bounds) s n root) (normalizeStores n resultWords workWords) e in
       let list = rooted (field .bounds) s n root (both .0) in
-      let stores = and-true (leb (3 * n) resultWords) (leb (6 * n) workWords) (need-good (leb (3 * n) resultWords && leb (6 * n) workWords) StoreTooShort (both .1)) in
+      let stores = then-good (roomCheck (3 * n) resultWords) (roomCheck (6 * n) workWords) (both .1) in
       record {
         sound = list .list .sound;
         few = list .list .most;
-        inside = list .inside;
-        result-room = leb-true (3 * n) resultWords (stores .0);
-        work-room = leb-true (6 * n) workWords (stores .1);
+        rooted = well-rooted n (root ∷ []) (one-below n root (list .inside)) (omega arith) (omega arith);
+        result-room = room-good (3 * n) resultWords (stores .0);
+        work-room = room-good (6 * n) workWords (stores .1);
       }
 
   -- the whole list copied to the result store, which is then ready for the rounds
-  module _ {s : List ℕ} {n root resultWords workWords : ℕ} (h : Passed field s n root resultWords workWords) (d : List ℕ) {t : List ℕ} (e : t ≡ copied s d (3 * n)) where
+  module _ {s : List ℕ} {n : ℕ} {roots : Roots} {resultWords workWords : ℕ} (h : Passed field s n roots resultWords workWords) (d : List ℕ) {t : List ℕ} (e : t ≡ copied s d (3 * n)) where
     is-written : t ≡ written d (nodes s n)
     unfolding copied written
     is-written = e ∙ rw (take-words (field .bounds) s n (h .sound), length-nodes s n)
 
-    pub copied-ready : Ready field t n root workWords
+    pub copied-ready : Ready field t n roots workWords
     copied-ready =
         let sound : Sound (field .bounds) t n = rw is-written (rw (length-nodes s n) at (sound-written (field .bounds) d (nodes s n) (list-fine field s n (h .sound)))) in
-        record { sound = sound; few = h .few; inside = h .inside; room = h .work-room }
+        record { sound = sound; few = h .few; rooted = h .rooted; room = h .work-room }
 
-    copied-normalized : normalized field t n root ≡ normalized field s n root
+    copied-normalized : normalized field t n (rootsOf roots) ≡ normalized field s n (rootsOf roots)
     unfolding normalized
-    copied-normalized = ap (λ l. normalize (field .elements) l (root ∷ [])) (ap₂ nodes is-written (sym (length-nodes s n)) ∙ nodes-written d (nodes s n))
+    copied-normalized = ap (λ l. normalize (field .elements) l (rootsOf roots)) (ap₂ nodes is-written (sym (length-nodes s n)) ∙ nodes-written d (nodes s n))
 
-    pub finished : {result work mid : List ℕ} {r : NormalEnd} → Ended field t n root mid r → length mid ≡ length result
+    pub finished : {result work mid : List ℕ} {r : NormalEnd} → Ended field t n roots mid r → length mid ≡ length result
         → (last : List ℕ) {after blanked : List ℕ} → after ≡ take (3 * r .count) mid ++ replicate (length mid - 3 * r .count) blank → length last ≡ length work → blanked ≡ replicate (length last - 0) blank
-        → Finished field s n root result work (NormalizeAnswer'.Done (r .count) (r .root) (r .rounds)) after blanked
+        → Finished field s n roots result work (record { checked = Good; count = r .count; roots = r .roots; rounds = r .rounds }) after blanked
     finished {result} {work} {mid} {r} o k last ea ew eb =
         let g = copied-normalized in
         let list-is = o .list-is ∙ ap (λ a. a .list) g in
-        let c : r .count ≡ length (normalized field s n root .list) = sym (length-nodes mid (r .count)) ∙ ap length list-is in
+        let c : r .count ≡ length (normalized field s n (rootsOf roots) .list) = sym (length-nodes mid (r .count)) ∙ ap length list-is in
+        let rs = o .roots-are ∙ ap (λ a. rootsFrom (a .roots)) g in
         record {
-          answer = λ i. NormalizeAnswer'.Done (c i) ((o .root-is ∙ ap (λ a. getD (a .roots) 0 0) g) i) ((o .rounds-are ∙ ap (λ a. a .rounds) g) i);
+          answer = λ i. record { checked = Good; count = c i; roots = rs i; rounds = (o .rounds-are ∙ ap (λ a. a .rounds) g) i };
           list-is = ea ∙ (filled-list (field .bounds) mid (r .count) (length result) (o .sound) k ∙ ap (λ l. filled (length result) (wordsOf l)) list-is);
           work-is = eb ∙ rw (sub-zero (length last), ew);
         }
@@ -178,12 +189,17 @@ module _ (field : Field) where
     pub list-is : after ≡ normalizeResult field s n root result (length work)
     pub work-is : blanked ≡ normalizeWork field s n root (length result) work
 
-  pub normalize-refused : (s : List ℕ) (n root : ℕ) (result work : List ℕ) (r : Refusal) → normalizeCheck field s n root (length result) (length work) ≡ Refused r
-      → Called s n root result work (NormalizeAnswer'.Refused r) result work
+  pub normalize-refused : (s : List ℕ) (n root : ℕ) (result work : List ℕ) (c : Checked) (roots : Roots) → c ≡ normalizeCheck field s n root (length result) (length work)
+      → isRefused (normalizeCheck field s n root (length result) (length work)) ≡ true → roots ≡ rootsFrom []
+      → Called s n root result work (record { checked = c; count = 0; roots = roots; rounds = 0 }) result work
   unfolding normalizeAnswer normalizeResult normalizeWork
-  normalize-refused s n root result work r e = record { answer = rw e; list-is = rw e; work-is = rw e }
+  normalize-refused s n root result work c roots q h e =
+      let f = refused-is (normalizeCheck field s n root (length result) (length work)) h .1 in
+      record { answer = rw (q, e, f); list-is = rw f; work-is = rw f }
 
   pub normalize-done : (s : List ℕ) (n root : ℕ) (result work : List ℕ) (a : NormalizeAnswer) (after blanked : List ℕ) → normalizeCheck field s n root (length result) (length work) ≡ Good
-      → Finished field s n root result work a after blanked → Called s n root result work a after blanked
+      → Finished field s n (rootsFrom (root ∷ [])) result work a after blanked → Called s n root result work a after blanked
   unfolding normalizeAnswer normalizeResult normalizeWork
-  normalize-done s n root result work a after blanked e h = record { answer = rw e (h .answer); list-is = rw e (h .list-is); work-is = rw e (h .work-is) }
+  normalize-done s n root result work a after blanked e h =
+      let one = roots-from (root ∷ []) in
+      record { answer = rw e (rw one at (h .answer)); list-is = rw e (rw one at (h .list-is)); work-is = rw e (h .work-is) }

@@ -1,40 +1,45 @@
 -- Normalise (document 01, 'Each call and when it says no'): the answer, and every word of the result and work stores, on all inputs.
 use Prim.Native.Nat.{ℕ, _*_}
-use mathlib.Core.Bool.{_&&_}
 use mathlib.Core.List.{List, [], _∷_}
-use lib.Dec.{leb}
-use lib.ListN.{length, getD, replicate}
+use lib.ListN.{length, replicate}
 use Rattle.field.specs.Fields.{Field}
 use Rattle.dag.specs.Nodes.{blank, nodes, wordsOf, filled}
-use Rattle.dag.specs.Refusals.{need, _then_, unlessRefused}
-use Rattle.dag.specs.Check.{listCheck}
-use Rattle.dag.specs.declared.Refusal.the-variants.{StoreTooShort}
+use Rattle.dag.specs.Refusals.{_then_, unlessRefused}
+use Rattle.dag.specs.Roots.{rootsFrom}
+use Rattle.dag.specs.Check.{roomCheck, listCheck}
 use Rattle.dag.specs.declared.Checked.{Checked}
+use Rattle.dag.specs.declared.Checked.the-variants.{Good, Refused}
 use Rattle.normalize.specs.Rounds.{normalize, Normal}
 use Rattle.normalize.specs.declared.NormalizeAnswer.{NormalizeAnswer}
-use Rattle.normalize.specs.declared.NormalizeAnswer.the-variants as NormalizeAnswer'
+
+-- the tests of the result and work stores
+abbrev pub normalizeStores : ℕ → ℕ → ℕ → Checked
+normalizeStores n resultWords workWords = roomCheck (3 * n) resultWords then roomCheck (6 * n) workWords
+
+-- count, roots and rounds kept
+abbrev pub answerOf : Normal → NormalizeAnswer
+answerOf a = record { checked = Good; count = length (a .list); roots = rootsFrom (a .roots); rounds = a .rounds }
 
 module _ (field : Field) where
   -- the tests: the list check, then the result and work stores
   unfoldable pub normalizeCheck : List ℕ → ℕ → ℕ → ℕ → ℕ → Checked
-  normalizeCheck s n root resultWords workWords =
-      listCheck (field .bounds) s n root then need (leb (3 * n) resultWords && leb (6 * n) workWords) StoreTooShort
+  normalizeCheck s n root resultWords workWords = listCheck (field .bounds) s n root then normalizeStores n resultWords workWords
 
-  -- the rounds on the list that a store holds
-  unfoldable pub normalized : List ℕ → ℕ → ℕ → Normal
-  normalized s n root = normalize (field .elements) (nodes s n) (root ∷ [])
+  -- the rounds on the list that a store holds, with its roots
+  unfoldable pub normalized : List ℕ → ℕ → List ℕ → Normal
+  normalized s n roots = normalize (field .elements) (nodes s n) roots
 
   -- count, root and rounds kept
   unfoldable pub normalizeAnswer : List ℕ → ℕ → ℕ → ℕ → ℕ → NormalizeAnswer
   normalizeAnswer s n root resultWords workWords =
-      let a = normalized s n root in
-      unlessRefused (normalizeCheck s n root resultWords workWords) NormalizeAnswer'.Refused
-      (NormalizeAnswer'.Done (length (a .list)) (getD (a .roots) 0 0) (a .rounds))
+      unlessRefused (normalizeCheck s n root resultWords workWords)
+      (λ r. record { checked = Refused r; count = 0; roots = rootsFrom []; rounds = 0 })
+      (answerOf (normalized s n (root ∷ [])))
 
   -- the list answered, blanks behind it
   unfoldable pub normalizeResult : List ℕ → ℕ → ℕ → List ℕ → ℕ → List ℕ
   normalizeResult s n root result workWords =
-      unlessRefused (normalizeCheck s n root (length result) workWords) (λ r. result) (filled (length result) (wordsOf (normalized s n root .list)))
+      unlessRefused (normalizeCheck s n root (length result) workWords) (λ r. result) (filled (length result) (wordsOf (normalized s n (root ∷ []) .list)))
 
   -- blank throughout
   unfoldable pub normalizeWork : List ℕ → ℕ → ℕ → ℕ → List ℕ → List ℕ

@@ -1,14 +1,16 @@
 -- What the functions of a round ask of their stores, and say of them.
 use Prim.Native.Nat.{ℕ, _+_, _*_, _<_, _≤_, _^_}
 use mathlib.Core.Bool.{Bool, true, false}
-use mathlib.Core.List.{List, [], _∷_}
+use mathlib.Core.List.{List}
 use mathlib.Core.Path.{_≡_}
-use lib.ListN.{getD, length, replicate}
+use lib.ListN.{length, replicate}
 use Rattle.field.specs.Fields.{Field, Low}
+use Rattle.dag.specs.Roots.{rootsOf, rootsFrom, Inside}
 use Rattle.dag.specs.Store.{Sound}
 use Rattle.dag.specs.WellFormed.{Fine}
 use Rattle.dag.specs.Nodes.{mostRecords, nodes, blank, wordsOf, filled}
 use Rattle.dag.specs.declared.NodeKind.{NodeKind}
+use Rattle.dag.specs.declared.Roots.{Roots}
 use Rattle.index.specs.Index.{half, NodeIndex}
 use Rattle.builder.specs.Steps.{Built, Replay}
 use Rattle.builder.specs.Contracts.{read, Holds}
@@ -16,11 +18,10 @@ use Rattle.builder.specs.declared.Entered.{Entered}
 use Rattle.plan.specs.Contracts.{PlanFine}
 use Rattle.plan.specs.declared.Plan.{Plan}
 use Rattle.normalize.specs.Rounds.{round, fired, rounded, isKept, roundsFrom}
-use Rattle.normalize.specs.Calls.{normalized}
+use Rattle.normalize.specs.Calls.{answerOf, normalized}
 use Rattle.normalize.specs.declared.RoundKept.{RoundKept}
 use Rattle.normalize.specs.declared.NormalEnd.{NormalEnd}
 use Rattle.normalize.specs.declared.NormalizeAnswer.{NormalizeAnswer}
-use Rattle.normalize.specs.declared.NormalizeAnswer.the-variants as NormalizeAnswer'
 
 module _ (field : Field) where
   -- a record and its plan at place i, with earlier results inside a list of `count` records that has room for two more
@@ -31,6 +32,12 @@ module _ (field : Field) where
     pub fine : Fine (Low field) i x
     pub plan-fine : PlanFine i plan
     pub room : 3 * count + 5 < length work
+
+-- at least one root, all of a list of n records, and 0 past the last
+pub record WellRooted (n : ℕ) (roots : Roots) : Type 0 where
+  pub inside : Inside n roots
+  pub some : 0 < roots .count
+  pub exact : rootsFrom (rootsOf roots) ≡ roots
 
 -- the list's index, with room for two records more
 pub record Linked (work : List ℕ) (count : ℕ) (links : List ℕ) : Type 0 where
@@ -65,11 +72,11 @@ module _ (field : Field) where
     pub holds : Holds field (round (field .elements) (nodes s n) (read fan) i) i work map count
     pub fired-is : t ≡ fired (nodes s n) (read fan) i
 
-  -- what one round asks: a list with its root, and a work store of twice its length
-  pub record Ready (s : List ℕ) (n root workWords : ℕ) : Type 0 where
+  -- what one round asks: a list with its roots, and a work store of twice its length
+  pub record Ready (s : List ℕ) (n : ℕ) (roots : Roots) (workWords : ℕ) : Type 0 where
     pub sound : Sound (field .bounds) s n
     pub few : n ≤ mostRecords
-    pub inside : root < n
+    pub rooted : WellRooted n roots
     pub room : 6 * n ≤ workWords
 
 -- scratch stores for n records: counts, places, and the links of two indexes
@@ -83,38 +90,38 @@ pub record Scratch (n : ℕ) (fan places own links : List ℕ) : Type 0 where
 
 module _ (field : Field) where
   -- what it says of a store that was s
-  pub record Once (s : List ℕ) (n root : ℕ) (after : List ℕ) (r : RoundKept) : Type 0 where
-    pub kept-is : r .kept ≡ isKept (field .elements) (nodes s n) (root ∷ [])
+  pub record Once (s : List ℕ) (n : ℕ) (roots : Roots) (after : List ℕ) (r : RoundKept) : Type 0 where
+    pub kept-is : r .kept ≡ isKept (field .elements) (nodes s n) (rootsOf roots)
     pub stays : r .kept ≡ false → after ≡ s
     pub sound : r .kept ≡ true → Sound (field .bounds) after (r .count)
-    pub list-is : r .kept ≡ true → nodes after (r .count) ≡ rounded (field .elements) (nodes s n) (root ∷ []) .list
-    pub roots-are : r .kept ≡ true → r .root ∷ [] ≡ rounded (field .elements) (nodes s n) (root ∷ []) .roots
+    pub list-is : r .kept ≡ true → nodes after (r .count) ≡ rounded (field .elements) (nodes s n) (rootsOf roots) .list
+    pub roots-are : r .kept ≡ true → r .roots ≡ rootsFrom (rounded (field .elements) (nodes s n) (rootsOf roots) .roots)
 
-  -- the rounds so far: the list in the result store, its root r, and k rounds kept
-  pub record Running (s : List ℕ) (n root : ℕ) (result : List ℕ) (count r k : ℕ) : Type 0 where
+  -- the rounds so far: the list in the result store, its roots rs, and k rounds kept
+  pub record Running (s : List ℕ) (n : ℕ) (roots : Roots) (result : List ℕ) (count : ℕ) (rs : Roots) (k : ℕ) : Type 0 where
     pub sound : Sound (field .bounds) result count
-    pub inside : r < count
+    pub rooted : WellRooted count rs
     pub lost : k + count ≤ n
-    pub rounds : normalized field s n root ≡ roundsFrom (field .elements) count (nodes result count) (r ∷ []) k
+    pub rounds : normalized field s n (rootsOf roots) ≡ roundsFrom (field .elements) count (nodes result count) (rootsOf rs) k
 
   -- the store after the rounds
-  pub record Ended (s : List ℕ) (n root : ℕ) (after : List ℕ) (e : NormalEnd) : Type 0 where
+  pub record Ended (s : List ℕ) (n : ℕ) (roots : Roots) (after : List ℕ) (e : NormalEnd) : Type 0 where
     pub sound : Sound (field .bounds) after (e .count)
     pub few : e .count ≤ n
-    pub list-is : nodes after (e .count) ≡ normalized field s n root .list
-    pub root-is : e .root ≡ getD (normalized field s n root .roots) 0 0
-    pub rounds-are : e .rounds ≡ normalized field s n root .rounds
+    pub list-is : nodes after (e .count) ≡ normalized field s n (rootsOf roots) .list
+    pub roots-are : e .roots ≡ rootsFrom (normalized field s n (rootsOf roots) .roots)
+    pub rounds-are : e .rounds ≡ normalized field s n (rootsOf roots) .rounds
 
   -- what Normalise asks once its tests have passed
-  pub record Passed (s : List ℕ) (n root resultWords workWords : ℕ) : Type 0 where
+  pub record Passed (s : List ℕ) (n : ℕ) (roots : Roots) (resultWords workWords : ℕ) : Type 0 where
     pub sound : Sound (field .bounds) s n
     pub few : n ≤ mostRecords
-    pub inside : root < n
+    pub rooted : WellRooted n roots
     pub result-room : 3 * n ≤ resultWords
     pub work-room : 6 * n ≤ workWords
 
   -- the answer and the stores
-  pub record Finished (s : List ℕ) (n root : ℕ) (result work : List ℕ) (a : NormalizeAnswer) (after blanked : List ℕ) : Type 0 where
-    pub answer : a ≡ NormalizeAnswer'.Done (length (normalized field s n root .list)) (getD (normalized field s n root .roots) 0 0) (normalized field s n root .rounds)
-    pub list-is : after ≡ filled (length result) (wordsOf (normalized field s n root .list))
+  pub record Finished (s : List ℕ) (n : ℕ) (roots : Roots) (result work : List ℕ) (a : NormalizeAnswer) (after blanked : List ℕ) : Type 0 where
+    pub answer : a ≡ answerOf (normalized field s n (rootsOf roots))
+    pub list-is : after ≡ filled (length result) (wordsOf (normalized field s n (rootsOf roots) .list))
     pub work-is : blanked ≡ replicate (length work) blank

@@ -2,25 +2,28 @@
 use Prim.Native.Nat.{ℕ, _+_, _*_, _-_, _<_, _≤_}
 use mathlib.Core.Bool.{Bool, true, false, true≢false}
 use mathlib.Core.Logic.{inl, inr}
-use mathlib.Core.List.{List, [], _∷_, _++_, map}
+use mathlib.Core.List.{List, _++_, map}
 use mathlib.Core.Path.{_≡_, refl, sym, _∙_, ap, ap₂}
 use native.Mathlib.Nat.{sub-zero}
 use native.Mathlib.Omega.{arith}
 use borrow.Author.Tests.{lt-ltb}
-use lib.ListN.{length, getD, take, replicate, length-replicate}
+use lib.ListN.{length, take, replicate, length-replicate}
 use lib.Seq.{length-take-le}
 use Rattle.field.specs.Fields.{Field, Low, elementLaws}
 use Rattle.dag.specs.BlankLaws.{all-zero}
 use Rattle.dag.specs.Nodes.{mostRecords, nodes}
 use Rattle.dag.specs.NodeLaws.{length-nodes}
-use Rattle.dag.specs.Store.{written}
+use Rattle.dag.specs.Roots.{rootsOf, rootsFrom}
+use Rattle.dag.specs.RootLaws.{roots-from, inside-renamed}
+use Rattle.dag.specs.Store.{Records, written}
 use Rattle.dag.specs.WellFormed.{WellFormed}
+use Rattle.dag.specs.declared.Roots.{Roots}
 use Rattle.index.specs.Index.{half, Usable}
 use Rattle.builder.specs.Steps.{Replay, placeOf}
 use Rattle.builder.specs.OutcomeLaws.{list-fine}
 use Rattle.builder.specs.HoldLaws.{count-is, place-read}
 use Rattle.builder.specs.Contracts.{read}
-use Rattle.compact.specs.OperandLaws.{one-below}
+use Rattle.compact.specs.OperandLaws.{inside-below, map-cong}
 use Rattle.compact.specs.Compact.{compact}
 use Rattle.compact.specs.Contracts.{Markable, mostMarks}
 use Rattle.compact.specs.Calls.{compacted, keptOf}
@@ -48,33 +51,41 @@ scratch-part c k h f m o l ef em eo el =
     record { fan-long = omega arith; places-long = omega arith; own-long = omega arith; own-few = omega arith; links-long = omega arith; links-few = omega arith }
 
 module _ (field : Field) where
-  module _ {s : List ℕ} {n root k : ℕ} {fan places own links : List ℕ} (h : Ready field s n root k) (c : Scratch n fan places own links) where
-    pub counting : (cleared : List ℕ) → cleared ≡ take 0 fan ++ replicate (length fan - 0) 0 → Counting s n root cleared
+  module _ {s : List ℕ} {n : ℕ} {roots : Roots} {k : ℕ} {fan places own links : List ℕ} (h : Ready field s n roots k) (c : Scratch n fan places own links) where
+    pub counting : (cleared : List ℕ) → cleared ≡ take 0 fan ++ replicate (length fan - 0) 0 → Counting s n roots cleared
     counting cleared z =
         let q : cleared ≡ replicate (length fan) 0 = rw (sub-zero (length fan)) at z in
         let a = c .fan-long in
-        record { sound = (field .bounds, h .sound); inside = h .inside; few = h .few; fits = rw (q, length-replicate {A = ℕ} (length fan) 0) (omega arith); zeros = λ j. rw q (all-zero (length fan) j) }
+        record { sound = (field .bounds, h .sound); inside = h .rooted .inside; few = h .few; fits = rw (q, length-replicate {A = ℕ} (length fan) 0) (omega arith); zeros = λ j. rw q (all-zero (length fan) j) }
 
     pub rounding : (counted work : List ℕ) → length counted ≡ length fan → k ≡ length work → Rounding field s n counted work places
     rounding counted work e g =
         let a = c .fan-long in let b = c .places-long in let r = h .room in
         record { sound = h .sound; few = h .few; fan-fits = omega arith; work-fits = omega arith; map-fits = omega arith }
 
+    some : 0 < n
+    some = let d = h .rooted .inside .below 0 (h .rooted .some) in omega arith
+
+    pub indexable : Records s n × Usable own × (n ≤ half own)
+    indexable =
+        let a = c .own-long in let b = c .own-few in let d = some in
+        ((field .bounds, h .sound), record { some = omega arith; few = omega arith }, omega arith)
+
     pub linkable : Usable links × (2 * n ≤ half links)
     linkable =
-        let a = c .links-long in let b = c .links-few in let d = h .inside in
+        let a = c .links-long in let b = c .links-few in let d = some in
         (record { some = omega arith; few = omega arith }, omega arith)
 
--- a round's count and root, where it isn't kept and where it is
-abbrev discarded : ℕ → ℕ → RoundKept
-discarded n root = record { kept = false; count = n; root = root }
+-- a round's count and roots, where it isn't kept and where it is
+abbrev discarded : ℕ → Roots → RoundKept
+discarded n roots = record { kept = false; count = n; roots = roots }
 
-abbrev keeping : ℕ → ℕ → RoundKept
-keeping n root = record { kept = true; count = n; root = root }
+abbrev keeping : ℕ → Roots → RoundKept
+keeping n roots = record { kept = true; count = n; roots = roots }
 
 module _ (field : Field) where
-  stays-once : (s : List ℕ) (n root : ℕ) → isKept (field .elements) (nodes s n) (root ∷ []) ≡ false → Once field s n root s (discarded n root)
-  stays-once s n root e =
+  stays-once : (s : List ℕ) (n : ℕ) (roots : Roots) → isKept (field .elements) (nodes s n) (rootsOf roots) ≡ false → Once field s n roots s (discarded n roots)
+  stays-once s n roots e =
       record {
         kept-is = sym e;
         stays = λ _. refl;
@@ -84,15 +95,15 @@ module _ (field : Field) where
       }
 
   -- a round on a list that is ready: what it left in its stores
-  module _ {s : List ℕ} {n root k : ℕ} (ready : Ready field s n root k) {fan work places : List ℕ} {count : ℕ} {t : Bool} (h : RoundHeld field s n fan n work places count t)
-      (ef : read fan ≡ fanout (nodes s n) (root ∷ [])) where
+  module _ {s : List ℕ} {n : ℕ} {roots : Roots} {k : ℕ} (ready : Ready field s n roots k) {fan work places : List ℕ} {count : ℕ} {t : Bool} (h : RoundHeld field s n fan n work places count t)
+      (ef : read fan ≡ fanout (nodes s n) (rootsOf roots)) where
     r : Replay
     r = round (field .elements) (nodes s n) (read fan) n
 
     w : WellFormed (Low field) (nodes s n)
     w = list-fine field s n (ready .sound)
 
-    fired-is : t ≡ fired (nodes s n) (fanout (nodes s n) (root ∷ [])) (length (nodes s n))
+    fired-is : t ≡ fired (nodes s n) (fanout (nodes s n) (rootsOf roots)) (length (nodes s n))
     fired-is = h .fired-is ∙ ap₂ (fired (nodes s n)) ef (sym (length-nodes s n))
 
     pub round-short : count ≤ 2 * n
@@ -100,61 +111,68 @@ module _ (field : Field) where
     round-short = let a = count-is field r n work places count (h .holds) in let b = round-length (field .elements) (elementLaws field) (nodes s n) w (read fan) n in omega arith
 
     -- a round in which no rewrite fired
-    pub not-fired : t ≡ false → Once field s n root s (discarded n root)
-    not-fired e = stays-once s n root (not-kept-when (field .elements) (nodes s n) (root ∷ []) .1 (inl (sym fired-is ∙ e)))
+    pub not-fired : t ≡ false → Once field s n roots s (discarded n roots)
+    not-fired e = stays-once s n roots (not-kept-when (field .elements) (nodes s n) (rootsOf roots) .1 (inl (sym fired-is ∙ e)))
 
-    module _ {new : ℕ} (en : new ≡ read places root) where
-      place-is : new ≡ placeOf r root
-      unfolding r
-      place-is = en ∙ place-read field r n work places count (h .holds) root (ready .inside)
+    place-is : (i : ℕ) → i < n → read places i ≡ placeOf r i
+    unfolding r
+    place-is = place-read field r n work places count (h .holds)
+
+    place-below : (i : ℕ) → i < n → read places i < count
+    unfolding r w
+    place-below i k =
+        let a = count-is field r n work places count (h .holds) in
+        let b = round-replayed (field .elements) (elementLaws field) (nodes s n) w (read fan) n .inside i k in
+        rw (place-is i k, a) b
+
+    module _ {new : Roots} (en : new ≡ rootsFrom (map (read places) (rootsOf roots))) where
+      new-roots : rootsOf new ≡ map (placeOf r) (rootsOf roots)
+      new-roots =
+          rw (en, roots-from (map (read places) (rootsOf roots)))
+          (map-cong (read places) (placeOf r) (rootsOf roots) (λ i p. place-is i (inside-below n roots (ready .rooted .inside) i p)))
 
       -- the round's list may be compacted
       pub markable : Markable work count new mostMarks
-      unfolding r w
       markable =
-          let a = count-is field r n work places count (h .holds) in
-          let b = round-length (field .elements) (elementLaws field) (nodes s n) w (read fan) n in
-          let d = round-replayed (field .elements) (elementLaws field) (nodes s n) w (read fan) n .inside root (ready .inside) in
-          let e = place-is in
+          let a = round-short in
           let f = ready .few in
-          record { sound = (field .bounds, h .holds .sound); inside = omega arith; fits = omega arith }
+          record { sound = (field .bounds, h .holds .sound); inside = rw en (inside-renamed (read places) n count roots (ready .rooted .inside) place-below); fits = omega arith }
 
-      is-rounded : compacted work count new ≡ rounded (field .elements) (nodes s n) (root ∷ [])
+      is-rounded : compacted work count (rootsOf new) ≡ rounded (field .elements) (nodes s n) (rootsOf roots)
       unfolding compacted rounded r
       is-rounded =
-          ap₂ (λ q m. compact q (m ∷ [])) (h .holds .list-is) place-is
-          ∙ ap₂ (λ f m. compact (round (field .elements) (nodes s n) f m .list) (map (placeOf (round (field .elements) (nodes s n) f m)) (root ∷ []))) ef (sym (length-nodes s n))
+          ap₂ compact (h .holds .list-is) new-roots
+          ∙ ap₂ (λ f m. compact (round (field .elements) (nodes s n) f m .list) (map (placeOf (round (field .elements) (nodes s n) f m)) (rootsOf roots))) ef (sym (length-nodes s n))
 
-      module _ {size : ℕ} (es : size ≡ length (compacted work count new .list)) where
-        size-is : size ≡ length (rounded (field .elements) (nodes s n) (root ∷ []) .list)
+      module _ {size : ℕ} (es : size ≡ length (compacted work count (rootsOf new) .list)) where
+        size-is : size ≡ length (rounded (field .elements) (nodes s n) (rootsOf roots) .list)
         size-is = es ∙ ap (λ c. length (c .list)) is-rounded
 
         -- a round whose list is no shorter
-        pub no-shorter : n ≤ size → Once field s n root s (discarded n root)
+        pub no-shorter : n ≤ size → Once field s n roots s (discarded n roots)
         no-shorter less =
             let a = size-is in
             let b = length-nodes s n in
-            stays-once s n root (not-kept-when (field .elements) (nodes s n) (root ∷ []) .1 (inr (omega arith)))
+            stays-once s n roots (not-kept-when (field .elements) (nodes s n) (rootsOf roots) .1 (inr (omega arith)))
 
         -- a list that is no longer fits
-        pub write-fits : size ≤ n → 3 * length (compacted work count new .list) ≤ length s
+        pub write-fits : size ≤ n → 3 * length (compacted work count (rootsOf new) .list) ≤ length s
         write-fits few = let room = ready .sound .room in omega arith
 
         -- a round that is kept: its compacted list is written
         module _ (et : t ≡ true) (less : size < n) where
-          pub kept-once : {after : List ℕ} {place : ℕ} → place ≡ keptOf (compacted work count new) .root → after ≡ written s (compacted work count new .list)
-              → Once field s n root after (keeping size place)
-          unfolding isKept keptOf rounded compact w
+          pub kept-once : {after : List ℕ} {at-roots : Roots} → at-roots ≡ keptOf (compacted work count (rootsOf new)) .roots → after ≡ written s (compacted work count (rootsOf new) .list)
+              → Once field s n roots after (keeping size at-roots)
+          unfolding isKept keptOf w
           kept-once {after} er ea =
               let b = length-nodes s n in
-              let i = ready .inside in
-              let lst = rounded (field .elements) (nodes s n) (root ∷ []) .list in
-              let fine = rounded-well-formed (field .elements) (elementLaws field) (nodes s n) w (root ∷ []) (one-below (length (nodes s n)) root (omega arith)) in
+              let lst = rounded (field .elements) (nodes s n) (rootsOf roots) .list in
+              let fine = rounded-well-formed (field .elements) (elementLaws field) (nodes s n) w (rootsOf roots) (rw (length-nodes s n) (inside-below n roots (ready .rooted .inside))) in
               let wr : after ≡ written s lst = ea ∙ ap (λ c. written s (c .list)) is-rounded in
               record {
                 kept-is = rw (← fired-is, et) (sym (lt-ltb (length lst) (length (nodes s n)) (let a = size-is in omega arith)));
                 stays = λ z. absurd (true≢false z);
                 sound = λ _. rw (size-is, wr) (sound-written (field .bounds) s lst fine);
                 list-is = λ _. rw (size-is, wr) (nodes-written s lst);
-                roots-are = λ _. ap (λ x. x ∷ []) (er ∙ ap (λ c. getD (c .roots) 0 0) is-rounded);
+                roots-are = λ _. er ∙ ap (λ c. rootsFrom (c .roots)) is-rounded;
               }

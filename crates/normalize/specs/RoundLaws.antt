@@ -8,6 +8,7 @@ use lib.ListN.{length}
 use Rattle.ring.specs.Ring.{Ops, Laws}
 use Rattle.field.specs.declared.QuadFelt.{QuadFelt}
 use Rattle.dag.specs.Nodes.{at, rename, like}
+use Rattle.dag.specs.RootLaws.{length-map}
 use Rattle.dag.specs.WellFormed.{Fine, WellFormed}
 use Rattle.dag.specs.WellFormedLaws.{fine-like}
 use Rattle.dag.specs.declared.NodeKind.{NodeKind}
@@ -18,6 +19,8 @@ use Rattle.builder.specs.Steps.{Built, Replay, placeOf, recorded, step}
 use Rattle.builder.specs.StepLaws.{Grown, step-grown}
 use Rattle.builder.specs.StepValueLaws.{Worth, step-worth}
 use Rattle.builder.specs.ReplayLaws.{Replayed, Faithful, nothing-replayed, recorded-replayed, recorded-faithful, renamed-fine, renamed-worth}
+use Rattle.compact.specs.Reach.{marks}
+use Rattle.compact.specs.Compact.{rank, compact}
 use Rattle.compact.specs.OperandLaws.{below-map, map-through}
 use Rattle.compact.specs.CompactLaws.{compact-well-formed, compact-inside, compact-values}
 use Rattle.compact.specs.Contracts.{AllBelow}
@@ -166,3 +169,10 @@ module _ (F : Ops QuadFelt) (L : Laws F) (l : List NodeKind) (w : WellFormed (L 
       compact-values (r .list) (map (placeOf r) roots) (L .Low) (round-replayed F L l w (fanout l roots) (length l) .well-formed) renamed-inside F given
       ∙ map-through (placeOf r) (value F given (r .list)) (value F given l) roots
       (λ i p. round-faithful F L l w (fanout l roots) given low-given (length l) (omega arith) i (inside i p))
+
+-- as many roots as before
+pub rounded-many : (F : Ops QuadFelt) (l : List NodeKind) (roots : List ℕ) → length (rounded F l roots .roots) ≡ length roots
+unfolding rounded compact
+rounded-many F l roots =
+    let r = round F l (fanout l roots) (length l) in
+    length-map (rank (marks (r .list) (map (placeOf r) roots))) (map (placeOf r) roots) ∙ length-map (placeOf r) roots

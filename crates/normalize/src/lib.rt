@@ -2,7 +2,7 @@
 use builder::Entered;
 use dag::Checked;
 use dag::NodeKind;
-use dag::Refusal;
+use dag::Roots;
 use plan::Plan;
 ghost use mathlib.Core.Path.{_≡_};
 ghost use mathlib.Core.Bool.{cond, true};
@@ -131,73 +131,71 @@ fn round(
     RoundEnd { count, fired }
 }
 
-// Whether a round was kept, and then its count and root.
+// Whether a round was kept, and then its count and roots.
 pub struct RoundKept {
     pub kept: bool,
     pub count: usize,
-    pub root: usize,
+    pub roots: Roots,
 }
 
 // One round on the list in the result store, which is written where the round is kept, with scratch stores lent.
 fn normalize_once(
     result: &mut [u64],
     n: usize,
-    root: usize,
+    roots: Roots,
     work: &mut [u64],
     fan: &mut [u64],
     map: &mut [u64],
     own: &mut [u64],
     links: &mut [u64],
 ) -> RoundKept
-    requires { ⌜ Contracts.Ready goldilocks (now result) n root (length (now work)) × Contracts.Scratch n (now fan) (now map) (now own) (now links) ⌝ }
-    ensures { λ r. ⌜ Contracts.Once goldilocks (now (result .entry)) n root (now (result .exit)) r ⌝ }
+    requires { ⌜ Contracts.Ready goldilocks (now result) n roots (length (now work)) × Contracts.Scratch n (now fan) (now map) (now own) (now links) ⌝ }
+    ensures { λ r. ⌜ Contracts.Once goldilocks (now (result .entry)) n roots (now (result .exit)) r ⌝ }
 {
     dag::fill(fan, 0, 0);
-    plan::fanout(result, n, root, fan);
+    plan::fanout(result, n, roots, fan);
     index::index_list(result, n, own);
     let end = round(result, n, own, fan, work, links, map);
     let discarded = RoundKept {
         kept: false,
         count: n,
-        root,
+        roots,
     };
     if !end.fired {
         return discarded;
     }
-    let new_root = dag::mapped(map, root);
+    let new_roots = dag::renamed_roots(map, roots);
     let mut reachable = [false; compact::MOST_MARKS];
-    let size = compact::number_reachable(work, end.count, new_root, &mut reachable, own);
+    let size = compact::number_reachable(work, end.count, new_roots, &mut reachable, own);
     if n <= size {
         return discarded;
     }
     RoundKept {
         kept: true,
         count: size,
-        root: compact::write_numbered(work, end.count, new_root, &reachable, own, result),
+        roots: compact::write_numbered(work, end.count, new_roots, &reachable, own, result),
     }
 }
 
-// The list after the rounds: its count, its root and how many rounds were kept.
+// The list after the rounds: its count, its roots and how many rounds were kept.
 pub struct NormalEnd {
     pub count: usize,
-    pub root: usize,
+    pub roots: Roots,
     pub rounds: usize,
 }
 
-// Normalise's answer.
-pub enum NormalizeAnswer {
-    Done {
-        count: usize,
-        root: usize,
-        rounds: usize,
-    },
-    Refused(Refusal),
+// Normalise's answer: no records, roots or rounds where it is refused.
+pub struct NormalizeAnswer {
+    pub checked: Checked,
+    pub count: usize,
+    pub roots: Roots,
+    pub rounds: usize,
 }
 
 // Rounds on the list in the result store, until one isn't kept, each with the parts of the scratch stores that its list needs.
 fn normalize_rounds(
     n: usize,
-    root: usize,
+    roots: Roots,
     result: &mut [u64],
     work: &mut [u64],
     fan: &mut [u64],
@@ -205,17 +203,17 @@ fn normalize_rounds(
     own: &mut [u64],
     links: &mut [u64],
 ) -> NormalEnd
-    requires { ⌜ Contracts.Ready goldilocks (now result) n root (length (now work)) × Contracts.Scratch n (now fan) (now map) (now own) (now links) ⌝ }
-    ensures { λ r. ⌜ Contracts.Ended goldilocks (now (result .entry)) n root (now (result .exit)) r ⌝ }
+    requires { ⌜ Contracts.Ready goldilocks (now result) n roots (length (now work)) × Contracts.Scratch n (now fan) (now map) (now own) (now links) ⌝ }
+    ensures { λ r. ⌜ Contracts.Ended goldilocks (now (result .entry)) n roots (now (result .exit)) r ⌝ }
 {
     let mut count = n;
-    let mut place = root;
+    let mut places = roots;
     let mut rounds = 0;
     loop {
         let once = normalize_once(
             result,
             count,
-            place,
+            places,
             work,
             &mut fan[..count],
             &mut map[..count],
@@ -225,20 +223,20 @@ fn normalize_rounds(
         if !once.kept {
             return NormalEnd {
                 count,
-                root: place,
+                roots: places,
                 rounds,
             };
         }
         count = once.count;
-        place = once.root;
+        places = once.roots;
         rounds += 1;
     }
 }
 
 // The rounds, with scratch stores for the list's length.
-fn normalize_sized(n: usize, root: usize, result: &mut [u64], work: &mut [u64]) -> NormalEnd
-    requires { ⌜ Contracts.Ready goldilocks (now result) n root (length (now work)) ⌝ }
-    ensures { λ r. ⌜ Contracts.Ended goldilocks (now (result .entry)) n root (now (result .exit)) r ⌝ }
+fn normalize_sized(n: usize, roots: Roots, result: &mut [u64], work: &mut [u64]) -> NormalEnd
+    requires { ⌜ Contracts.Ready goldilocks (now result) n roots (length (now work)) ⌝ }
+    ensures { λ r. ⌜ Contracts.Ended goldilocks (now (result .entry)) n roots (now (result .exit)) r ⌝ }
 {
     if n <= dag::FEW_RECORDS {
         let mut fan = [0u64; dag::FEW_RECORDS];
@@ -247,7 +245,7 @@ fn normalize_sized(n: usize, root: usize, result: &mut [u64], work: &mut [u64]) 
         let mut links = [0u64; 4 * dag::FEW_RECORDS];
         return normalize_rounds(
             n,
-            root,
+            roots,
             result,
             work,
             &mut fan,
@@ -262,7 +260,7 @@ fn normalize_sized(n: usize, root: usize, result: &mut [u64], work: &mut [u64]) 
     let mut links = [0u64; 4 * dag::MOST_RECORDS];
     normalize_rounds(
         n,
-        root,
+        roots,
         result,
         work,
         &mut fan,
@@ -270,6 +268,18 @@ fn normalize_sized(n: usize, root: usize, result: &mut [u64], work: &mut [u64]) 
         &mut own,
         &mut links,
     )
+}
+
+// The tests of Normalise's result and work stores.
+fn normalize_stores(n: usize, result_words: usize, work_words: usize) -> Checked
+    requires { ⌜ n ≤ Nodes.mostRecords ⌝ }
+    ensures { λ r. ⌜ r ≡ Calls.normalizeStores n «result_words» «work_words» ⌝ }
+{
+    let checked = dag::room_check(3 * n, result_words);
+    if dag::is_refused(checked) {
+        return checked;
+    }
+    dag::room_check(6 * n, work_words)
 }
 
 // Normalise's tests.
@@ -286,33 +296,29 @@ fn normalize_check(
     if dag::is_refused(checked) {
         return checked;
     }
-    if result_words < 3 * n {
-        return Checked::Refused(Refusal::StoreTooShort);
-    }
-    if work_words < 6 * n {
-        return Checked::Refused(Refusal::StoreTooShort);
-    }
-    Checked::Good
+    normalize_stores(n, result_words, work_words)
 }
 
 // Normalise past its tests.
 fn normalize_ready(
     list: &[u64],
     n: usize,
-    root: usize,
+    roots: Roots,
     result: &mut [u64],
     work: &mut [u64],
 ) -> NormalizeAnswer
-    requires { ⌜ Contracts.Passed goldilocks (now list) n root (length (now result)) (length (now work)) ⌝ }
-    ensures { λ r. ⌜ Contracts.Finished goldilocks (now (list .entry)) n root (now (result .entry)) (now (work .entry)) r (now (result .exit)) (now (work .exit)) ⌝ }
+    requires { ⌜ Contracts.Passed goldilocks (now list) n roots (length (now result)) (length (now work)) ⌝ }
+    ensures { λ r. ⌜ Contracts.Finished goldilocks (now (list .entry)) n roots (now (result .entry)) (now (work .entry)) r (now (result .exit)) (now (work .exit)) ⌝ }
 {
     dag::copy_words(list, 3 * n, result);
-    let end = normalize_sized(n, root, result, work);
+    let end = normalize_sized(n, roots, result, work);
     dag::blank_from(result, 3 * end.count);
     dag::blank_from(work, 0);
-    NormalizeAnswer::Done {
+    let new_roots = end.roots;
+    NormalizeAnswer {
+        checked: Checked::Good,
         count: end.count,
-        root: end.root,
+        roots: new_roots,
         rounds: end.rounds,
     }
 }
@@ -330,8 +336,13 @@ pub fn normalize(
     ensures work { λ _. ⌜ now (work .exit) ≡ Calls.normalizeWork goldilocks (now (list .entry)) n root (length (now (result .entry))) (now (work .entry)) ⌝ }
 {
     let checked = normalize_check(list, n, root, result.len(), work.len());
-    match checked {
-        Checked::Refused(r) => NormalizeAnswer::Refused(r),
-        Checked::Good => normalize_ready(list, n, root, result, work),
+    if dag::is_refused(checked) {
+        return NormalizeAnswer {
+            checked,
+            count: 0,
+            roots: dag::no_roots(),
+            rounds: 0,
+        };
     }
+    normalize_ready(list, n, dag::one_root(root), result, work)
 }

@@ -1,6 +1,6 @@
 use Rattle.field.specs.Fields.{goldilocks}
+use Rattle.dag.specs.CheckLaws.{good-told, bad-told}
 use Rattle.normalize.specs.CallLaws.{passed, normalize-refused, normalize-done}
-use Rattle.dag.specs.BranchLaws.{told}
 use lib.ListN.{length}
 use borrow.Author.Needs.{needs}
 use Rattle.normalize.proofs.normalize.Statement.{statement}
@@ -9,27 +9,33 @@ use Rattle.normalize.proofs.normalize.Tie as tie
 normalize-check-requires : tie.Need-normalize-check-requires
 normalize-check-requires c κs = search needs
 
-enum-known-checked : tie.Need-enum-known-checked
-enum-known-checked c = search needs
+is-refused-requires : tie.Need-is-refused-requires
+is-refused-requires c κs = search needs
 
-enum-told : tie.Need-enum-told
-enum-told c = search needs
-
-normalize-ready-requires : tie.Need-normalize-ready-requires
-normalize-ready-requires c κs =
-    let at-enum-told = c .before .before in
-    let at-normalize-check = at-enum-told .before .before in
-    let start = at-normalize-check .before .before .before .before in
-    passed goldilocks (start .args .list .now) (start .args .n) (start .args .root) (length (start .args .result .now)) (length (start .args .work .now))
-    (told (at-normalize-check .normalize-check .ensures) (at-enum-told .enum-told .given .1))
+no-roots-requires : tie.Need-no-roots-requires
+no-roots-requires c κs = search needs
 
 returns : tie.Need-returns
 returns c =
-    let at-checked = c .before in
-    let at-normalize-check = at-checked .before .before in
-    let start = at-normalize-check .before .before .before .before in
-    let h = normalize-refused goldilocks (start .args .list .now) (start .args .n) (start .args .root) (start .args .result .now) (start .args .work .now) _
-    (told (at-normalize-check .normalize-check .ensures) (at-checked .checked .given .1)) in (h .answer, (h .list-is, h .work-is))
+    let at-is-refused = c .before .before in
+    let at-check = at-is-refused .before in
+    let start = at-check .before .before .before .before in
+    let bad = bad-told (at-check .normalize-check .ensures) (at-is-refused .is-refused .ensures) (c .before .if1 .taken) in
+    let h = normalize-refused goldilocks (start .args .list .now) (start .args .n) (start .args .root) (start .args .result .now) (start .args .work .now) _ _
+    (at-check .normalize-check .ensures) bad (c .no-roots .ensures) in (h .answer, (h .list-is, h .work-is))
+
+one-root-requires : tie.Need-one-root-requires
+one-root-requires c κs = search needs
+
+normalize-ready-requires : tie.Need-normalize-ready-requires
+normalize-ready-requires c κs =
+    let at-one-root = c .before .before in
+    let at-is-refused = at-one-root .before .before in
+    let at-check = at-is-refused .before in
+    let start = at-check .before .before .before .before in
+    let good = good-told (at-check .normalize-check .ensures) (at-is-refused .is-refused .ensures) (at-one-root .before .if1 .left) in
+    rw (at-one-root .one-root .ensures)
+    (passed goldilocks (start .args .list .now) (start .args .n) (start .args .root) (length (start .args .result .now)) (length (start .args .work .now)) good)
 
 same-length : tie.Need-same-length
 same-length c = search needs
@@ -39,23 +45,25 @@ same-length-2 c = search needs
 
 returns-2 : tie.Need-returns-2
 returns-2 c =
-    let at-normalize-ready = c .before .before .before .before in
-    let at-enum-told = at-normalize-ready .before .before .before in
-    let at-normalize-check = at-enum-told .before .before in
-    let start = at-normalize-check .before .before .before .before in
+    let at-ready = c .before .before .before .before in
+    let at-one-root = at-ready .before .before .before in
+    let at-is-refused = at-one-root .before .before in
+    let at-check = at-is-refused .before in
+    let start = at-check .before .before .before .before in
+    let good = good-told (at-check .normalize-check .ensures) (at-is-refused .is-refused .ensures) (at-one-root .before .if1 .left) in
     let h = normalize-done goldilocks (start .args .list .now) (start .args .n) (start .args .root) (start .args .result .now) (start .args .work .now) _ _ _
-    (told (at-normalize-check .normalize-check .ensures) (at-enum-told .enum-told .given .1)) (at-normalize-ready .normalize-ready .ensures) in
-    (h .answer, (h .list-is, h .work-is))
+    good (rw (at-one-root .one-root .ensures) at (at-ready .normalize-ready .ensures)) in (h .answer, (h .list-is, h .work-is))
 
 pub normalize-spec : {M : Type 1} → statement M
 normalize-spec =
     tie.close
     (tie.spec
     normalize-check-requires
-    enum-known-checked
-    enum-told
-    normalize-ready-requires
+    is-refused-requires
+    no-roots-requires
     returns
+    one-root-requires
+    normalize-ready-requires
     same-length
     same-length-2
     returns-2)

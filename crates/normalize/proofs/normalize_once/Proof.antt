@@ -2,6 +2,7 @@ use mathlib.Core.Path.{refl, _∙_}
 use native.Mathlib.Omega.{arith}
 use borrow.Author.Tests.{not-true, not-false}
 use Rattle.field.specs.Fields.{goldilocks}
+use Rattle.dag.specs.RootLaws.{inside-mono}
 use Rattle.normalize.specs.OnceLaws as Rounded
 use borrow.Author.Needs.{needs}
 use Rattle.normalize.proofs.normalize_once.Statement.{statement}
@@ -17,7 +18,10 @@ fanout-requires c κs =
     Rounded.counting goldilocks (start .pre .0) (start .pre .1) _ (at-fill .fill .ensures)
 
 index-list-requires : tie.Need-index-list-requires
-index-list-requires c κs = search needs
+index-list-requires c κs =
+    let at-fanout = c .before .before .before .before in
+    let start = at-fanout .before .before .before .before .before .before .before .before .before .before .before .before .before in
+    Rounded.indexable goldilocks (start .pre .0) (start .pre .1)
 
 round-requires : tie.Need-round-requires
 round-requires c κs =
@@ -57,24 +61,24 @@ returns c =
     let start = at-fanout .before .before .before .before .before .before .before .before .before .before .before .before .before in
     Rounded.not-fired goldilocks (start .pre .0) (at-round .round .ensures) (at-fanout .fanout .ensures) (not-true _ (c .if1 .taken))
 
-mapped-requires : tie.Need-mapped-requires
-mapped-requires c κs =
+renamed-roots-requires : tie.Need-renamed-roots-requires
+renamed-roots-requires c κs =
     let at-round = c .before .before .before .before .before .before .before .before .before in
     let start = at-round .before .before .before .before .before .before .before .before .before .before .before .before .before .before .before .before .before .before .before .before .before .before .before .before .before .before .before in
-    omega (arith, at-round .round .kept .1 .1 .1 .1 .1 .1 .0, start .pre .0 .inside, start .pre .1 .places-long)
+    inside-mono _ _ (start .pre .0 .rooted .inside) _ (omega (arith, at-round .round .kept .1 .1 .1 .1 .1 .1 .0, start .pre .1 .places-long))
 
 slice-aggregate-number-reachable : tie.Need-slice-aggregate-number-reachable
 slice-aggregate-number-reachable c = search needs
 
 number-reachable-requires : tie.Need-number-reachable-requires
 number-reachable-requires c κs =
-    let at-mapped = c .before .before .before in
-    let at-round = at-mapped .before .before .before .before .before .before .before .before .before .before in
+    let at-renamed = c .before .before .before in
+    let at-round = at-renamed .before .before .before .before .before .before .before .before .before .before in
     let at-index-list = at-round .before .before .before .before .before .before .before .before .before in
     let at-fanout = at-index-list .before .before .before .before .before in
     let start = at-fanout .before .before .before .before .before .before .before .before .before .before .before .before .before in
     let h = Rounded.round-short goldilocks (start .pre .0) (at-round .round .ensures) (at-fanout .fanout .ensures) in (
-      Rounded.markable goldilocks (start .pre .0) (at-round .round .ensures) (at-fanout .fanout .ensures) (at-mapped .mapped .ensures),
+      Rounded.markable goldilocks (start .pre .0) (at-round .round .ensures) (at-fanout .fanout .ensures) (at-renamed .renamed-roots .ensures),
       refl,
       omega (arith, h, at-index-list .index-list .kept .1 .1 .0, start .pre .1 .own-long),
     )
@@ -103,11 +107,11 @@ same-length-12 c = search needs
 returns-2 : tie.Need-returns-2
 returns-2 c =
     let at-number-reachable = c .before .before .before .before in
-    let at-mapped = at-number-reachable .before .before .before .before in
-    let at-round = at-mapped .before .before .before .before .before .before .before .before .before .before in
+    let at-renamed = at-number-reachable .before .before .before .before in
+    let at-round = at-renamed .before .before .before .before .before .before .before .before .before .before in
     let at-fanout = at-round .before .before .before .before .before .before .before .before .before .before .before .before .before .before in
     let start = at-fanout .before .before .before .before .before .before .before .before .before .before .before .before .before in
-    Rounded.no-shorter goldilocks (start .pre .0) (at-round .round .ensures) (at-fanout .fanout .ensures) (at-mapped .mapped .ensures)
+    Rounded.no-shorter goldilocks (start .pre .0) (at-round .round .ensures) (at-fanout .fanout .ensures) (at-renamed .renamed-roots .ensures)
     (at-number-reachable .number-reachable .ensures .0) (omega (arith, c .if2 .taken))
 
 slice-aggregate-write-numbered : tie.Need-slice-aggregate-write-numbered
@@ -117,13 +121,13 @@ write-numbered-requires : tie.Need-write-numbered-requires
 write-numbered-requires c κs =
     let at-if2 = c .before .before .before .before in
     let at-number-reachable = at-if2 .before .before .before .before in
-    let at-mapped = at-number-reachable .before .before .before .before in
-    let at-if1 = at-mapped .before .before in
+    let at-renamed = at-number-reachable .before .before .before .before in
+    let at-if1 = at-renamed .before .before in
     let at-round = at-if1 .before .before .before .before .before .before .before .before in
     let at-fanout = at-round .before .before .before .before .before .before .before .before .before .before .before .before .before .before in
     let start = at-fanout .before .before .before .before .before .before .before .before .before .before .before .before .before in (
       at-number-reachable .number-reachable .ensures .1,
-      Rounded.write-fits goldilocks (start .pre .0) (at-round .round .ensures) (at-fanout .fanout .ensures) (at-mapped .mapped .ensures)
+      Rounded.write-fits goldilocks (start .pre .0) (at-round .round .ensures) (at-fanout .fanout .ensures) (at-renamed .renamed-roots .ensures)
           (at-number-reachable .number-reachable .ensures .0) (omega (arith, at-if2 .if2 .left)),
     )
 
@@ -157,12 +161,12 @@ returns-3 c =
     let at-write-numbered = c .before .before in
     let at-if2 = at-write-numbered .before .before .before .before .before in
     let at-number-reachable = at-if2 .before .before .before .before in
-    let at-mapped = at-number-reachable .before .before .before .before in
-    let at-if1 = at-mapped .before .before in
+    let at-renamed = at-number-reachable .before .before .before .before in
+    let at-if1 = at-renamed .before .before in
     let at-round = at-if1 .before .before .before .before .before .before .before .before in
     let at-fanout = at-round .before .before .before .before .before .before .before .before .before .before .before .before .before .before in
     let start = at-fanout .before .before .before .before .before .before .before .before .before .before .before .before .before in
-    Rounded.kept-once goldilocks (start .pre .0) (at-round .round .ensures) (at-fanout .fanout .ensures) (at-mapped .mapped .ensures)
+    Rounded.kept-once goldilocks (start .pre .0) (at-round .round .ensures) (at-fanout .fanout .ensures) (at-renamed .renamed-roots .ensures)
     (at-number-reachable .number-reachable .ensures .0) (not-false _ (at-if1 .if1 .left)) (omega (arith, at-if2 .if2 .left))
     (at-write-numbered .write-numbered .ensures .0) (at-write-numbered .write-numbered .ensures .1)
 
@@ -181,7 +185,7 @@ normalize-once-spec =
     same-length-5
     same-length-6
     returns
-    mapped-requires
+    renamed-roots-requires
     slice-aggregate-number-reachable
     number-reachable-requires
     same-length-7

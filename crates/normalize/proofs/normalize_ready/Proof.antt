@@ -34,7 +34,7 @@ same-length-2 c = search needs
 
 returns : tie.Need-returns
 returns c =
-    let at-blank-from2 = c .before .before in
+    let at-blank-from2 = c .before .before .before in
     let at-blank-from = at-blank-from2 .before .before .before .before in
     let at-sized = at-blank-from .before .before .before .before .before .before .before in
     let at-copy-words = at-sized .before .before .before .before .before in

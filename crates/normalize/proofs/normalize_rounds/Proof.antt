@@ -12,8 +12,8 @@ use Rattle.normalize.proofs.normalize_rounds.Statement.{statement}
 use Rattle.normalize.proofs.normalize_rounds.Tie as tie
 
 abbrev Inv-loop : tie.InvT-loop
-Inv-loop n root result₀ work₀ fan₀ map₀ own₀ links₀ count₀ place₀ rounds₀ result work fan map own links count place rounds =
-    Running goldilocks result₀ n root result count place rounds
+Inv-loop n result₀ work₀ fan₀ map₀ own₀ links₀ count₀ places₀ rounds₀ result work fan map own links count places rounds =
+    Running goldilocks result₀ n places₀ result count places rounds
     × (length result ≡ length result₀)
     × (length work ≡ length work₀)
     × (length fan ≡ length fan₀)
@@ -22,7 +22,7 @@ Inv-loop n root result₀ work₀ fan₀ map₀ own₀ links₀ count₀ place�
     × (length links ≡ length links₀)
 
 abbrev μ-loop : tie.MeasureT-loop
-μ-loop n root result₀ work₀ fan₀ map₀ own₀ links₀ count₀ place₀ rounds₀ result work fan map own links count place rounds = count
+μ-loop n result₀ work₀ fan₀ map₀ own₀ links₀ count₀ places₀ rounds₀ result work fan map own links count places rounds = count
 
 loop-holds : tie.Need-loop-holds Inv-loop μ-loop
 loop-holds c =
@@ -142,21 +142,21 @@ returns c =
 
 add-rounds : tie.Need-add-rounds Inv-loop μ-loop
 add-rounds c =
-    let at-loop = c .before .before .before .before .before .before .before .before .before .before .before .before .before .before .before .before .before .before .before .before .before in
+    let at-loop = c .before .before .before .before .before .before .before .before .before .before .before .before .before .before .before .before .before .before .before .before .before .before in
     let start = at-loop .before .before .before .before .before .before .before in
     omega (arith, at-loop .loop .inv .0 .lost, start .pre .0 .few)
 
 loop-less : tie.Need-loop-less Inv-loop μ-loop
 loop-less c =
-    let at-once = c .before .before .before .before .before .before .before .before .before .before .before .before .before .before in
+    let at-once = c .before .before .before .before .before .before .before .before .before .before .before .before .before .before .before in
     let at-loop = at-once .before .before .before .before .before .before .before in
-    fewer goldilocks (at-loop .loop .inv .0) (at-once .normalize-once .ensures) (not-false _ (c .if1 .left))
+    fewer goldilocks (at-loop .loop .inv .0) (at-once .normalize-once .ensures) (not-false _ (c .before .if1 .left))
 
 loop-again : tie.Need-loop-again Inv-loop μ-loop
 loop-again c =
-    let at-once = c .before .before .before .before .before .before .before .before .before .before .before .before .before .before in
+    let at-once = c .before .before .before .before .before .before .before .before .before .before .before .before .before .before .before in
     let at-loop = at-once .before .before .before .before .before .before .before in (
-      running-on goldilocks (at-loop .loop .inv .0) (at-once .normalize-once .ensures) (not-false _ (c .if1 .left)),
+      running-on goldilocks (at-loop .loop .inv .0) (at-once .normalize-once .ensures) (not-false _ (c .before .if1 .left)),
       at-once .normalize-once .kept .0 ∙ at-loop .loop .inv .1,
       at-once .normalize-once .kept .1 .1 .1 .0 ∙ at-loop .loop .inv .2,
       length-front (at-loop .loop .fan) (at-once .normalize-once .last .1 .1 .1 .1 .0) (at-loop .loop .count) (at-once .normalize-once .kept .1 .1 .1 .1 .0) ∙ at-loop .loop .inv .3,
