@@ -3,6 +3,7 @@ use Prim.Native.Nat.{ℕ, _+_, _*_, _<_, _≤_}
 use mathlib.Core.List.{List, [], _∷_}
 use mathlib.Core.Path.{_≡_}
 use lib.ListN.{getD, length, set}
+use Rattle.dag.specs.View.{View}
 use Rattle.dag.specs.Roots.{mostRoots, Inside}
 use Rattle.dag.specs.Store.{Records}
 use Rattle.dag.specs.WellFormed.{Any, Fine}
@@ -29,7 +30,7 @@ mentioned f [] = f
 mentioned f (i ∷ is) = mentioned (set f i (getD f i 0 + 1)) is
 
 -- n records, roots among them, and a count of 0 for each
-pub record Counting (s : List ℕ) (n : ℕ) (roots : Roots) (f : List ℕ) : Type 0 where
+pub record Counting (s : View) (n : ℕ) (roots : Roots) (f : List ℕ) : Type 0 where
   pub sound : Records s n
   pub inside : Inside n roots
   pub few : n ≤ mostRecords
@@ -50,14 +51,14 @@ operation AssociativeOp.Add a b = Add a b
 operation AssociativeOp.Mul a b = Mul a b
 
 -- two operands on n records, with a fanout for each record
-pub record Fanned (s : List ℕ) (n : ℕ) (fan : List ℕ) (a b : ℕ) : Type 0 where
+pub record Fanned (s : View) (n : ℕ) (fan : List ℕ) (a b : ℕ) : Type 0 where
   pub sound : Records s n
   pub left-inside : a < n
   pub right-inside : b < n
   pub fits : n ≤ length fan
 
 -- a record x that may stand at place i of n records, with a fanout for each
-pub record Planning (s : List ℕ) (n : ℕ) (fan : List ℕ) (i : ℕ) (x : NodeKind) : Type 0 where
+pub record Planning (s : View) (n : ℕ) (fan : List ℕ) (i : ℕ) (x : NodeKind) : Type 0 where
   pub sound : Records s n
   pub fits : n ≤ length fan
   pub inside : i ≤ n

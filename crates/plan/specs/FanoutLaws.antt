@@ -10,6 +10,7 @@ use lib.Dec.{eqb}
 use lib.ListN.{length, getD, set, take, length-set}
 use lib.Seq.{getD-set-same, getD-set-other, take-suc}
 use Rattle.field.specs.Fields.{Within}
+use Rattle.dag.specs.View.{View}
 use Rattle.dag.specs.Nodes.{nodes, at, operands}
 use Rattle.dag.specs.NodeLaws.{length-nodes}
 use Rattle.dag.specs.Roots.{mostRoots, rootsOf}
@@ -122,7 +123,7 @@ pub counted-none : (l : List NodeKind) (f : List ℕ) → ((j : ℕ) → getD f 
 unfolding mentions
 counted-none l f h j = h j
 
-module _ (s : List ℕ) (n : ℕ) (roots : Roots) (f₀ : List ℕ) (c : Counting s n roots f₀) (i : ℕ) (f : List ℕ) (e : length f ≡ length f₀) (h : Counted (nodes s n) i f) where
+module _ (s : View) (n : ℕ) (roots : Roots) (f₀ : List ℕ) (c : Counting s n roots f₀) (i : ℕ) (f : List ℕ) (e : length f ≡ length f₀) (h : Counted (nodes s n) i f) where
   pub counted-few : i ≤ n → Countable mostRoots f
   counted-few k j = let a = mentions-few (nodes s n) j i in let b = h j in let d = c .few in omega arith
 
@@ -142,7 +143,7 @@ module _ (s : List ℕ) (n : ℕ) (roots : Roots) (f₀ : List ℕ) (c : Countin
     counted-more j = rw (add-one i) (mentioned-at f (operands x) operands-inside j ∙ rw (h j, ex))
 
 -- the roots' mentions
-pub counted-roots : (s : List ℕ) (n : ℕ) (roots : Roots) (f₀ : List ℕ) → Counting s n roots f₀ → (f : List ℕ) → length f ≡ length f₀ → Counted (nodes s n) n f
+pub counted-roots : (s : View) (n : ℕ) (roots : Roots) (f₀ : List ℕ) → Counting s n roots f₀ → (f : List ℕ) → length f ≡ length f₀ → Counted (nodes s n) n f
     → read (mentioned f (rootsOf roots)) ≡ fanout (nodes s n) (rootsOf roots)
 unfolding fanout
 counted-roots s n roots f₀ c f e h =

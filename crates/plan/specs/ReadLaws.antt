@@ -6,6 +6,7 @@ use mathlib.Core.Path.{_≡_, refl, sym, _∙_, ap}
 use native.Mathlib.Omega.{arith}
 use borrow.Author.Tests.{lt-ltb, le-ltb}
 use lib.Dec.{eqb}
+use Rattle.dag.specs.View.{View}
 use Rattle.dag.specs.Nodes.{tag, first, second, recordAt, nodes, at}
 use Rattle.dag.specs.NodeLaws.{at-nodes, length-nodes}
 use Rattle.dag.specs.Lookup.{lookup}
@@ -58,12 +59,12 @@ module _ (i rest : ℕ) {f : Found} where
 abbrev Tested : (ℕ → ℕ → NodeKind) → NodeKind → ℕ → Bool
 Tested op z f = eqb f 1 && eqb (tag z) (tag (op 0 0))
 
-read-single : (s fan : List ℕ) (n a : ℕ) (op : ℕ → ℕ → NodeKind) {z : NodeKind} {t v : Bool} → a < n → z ≡ recordAt s a → t ≡ Tested op z (read fan a) → t ≡ v
+read-single : (s : View) (fan : List ℕ) (n a : ℕ) (op : ℕ → ℕ → NodeKind) {z : NodeKind} {t v : Bool} → a < n → z ≡ recordAt s a → t ≡ Tested op z (read fan a) → t ≡ v
     → isSingle op (nodes s n) (read fan) a ≡ v
 read-single s fan n a op h ez et e = rw (at-nodes s n a h, ← ez) (sym et ∙ e)
 
 -- operands a and b, where the record x is read at place a
-module _ {s : List ℕ} {n : ℕ} {fan : List ℕ} {a b : ℕ} (h : Fanned s n fan a b) {x : NodeKind} (ex : x ≡ recordAt s a) where
+module _ {s : View} {n : ℕ} {fan : List ℕ} {a b : ℕ} (h : Fanned s n fan a b) {x : NodeKind} (ex : x ≡ recordAt s a) where
   left-at : at (nodes s n) a ≡ x
   left-at = at-nodes s n a (h .left-inside) ∙ sym ex
 
@@ -107,7 +108,7 @@ module _ {s : List ℕ} {n : ℕ} {fan : List ℕ} {a b : ℕ} (h : Fanned s n f
           )
 
 -- the operands of a record that is planned
-pub fanned : (s : List ℕ) (n : ℕ) (fan : List ℕ) (i : ℕ) (x : NodeKind) → Planning s n fan i x → (a b : ℕ) → (a < i) × (b < i) → Fanned s n fan a b
+pub fanned : (s : View) (n : ℕ) (fan : List ℕ) (i : ℕ) (x : NodeKind) → Planning s n fan i x → (a b : ℕ) → (a < i) × (b < i) → Fanned s n fan a b
 fanned s n fan i x h a b k =
     let j = h .inside in
     record { sound = h .sound; left-inside = omega arith; right-inside = omega arith; fits = h .fits }

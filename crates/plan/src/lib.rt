@@ -8,6 +8,7 @@ ghost use mathlib.Core.List.{[], _∷_};
 ghost use Prim.Native.Nat.{_<_};
 ghost use lib.Dec.{eqb};
 ghost use lib.ListN.{length, getD};
+ghost use Rattle.dag.specs.View.{interleaved};
 ghost use Rattle.dag.specs.Nodes as Nodes;
 ghost use Rattle.dag.specs.Lookup as Lookup;
 ghost use Rattle.dag.specs.Roots.{mostRoots, rootsOf, Inside};
@@ -85,8 +86,8 @@ fn mention_roots(fan: &mut [u64], roots: Roots)
 
 // The fanout of each place: each mention as an operand, and one for each root.
 pub fn fanout(list: &[u64], n: usize, roots: Roots, fan: &mut [u64])
-    requires { ⌜ Contracts.Counting (now list) n roots (now fan) ⌝ }
-    ensures { λ _. ⌜ read (now (fan .exit)) ≡ Plans.fanout (Nodes.nodes (now (list .entry)) n) (rootsOf roots) ⌝ }
+    requires { ⌜ Contracts.Counting (interleaved (now list)) n roots (now fan) ⌝ }
+    ensures { λ _. ⌜ read (now (fan .exit)) ≡ Plans.fanout (Nodes.nodes (interleaved (now (list .entry))) n) (rootsOf roots) ⌝ }
 {
     let mut i = 0;
     while i < n {
@@ -162,8 +163,8 @@ fn shared_factor(a: [usize; 2], b: [usize; 2]) -> Plan
 
 // Two muls, each of fanout 1, that share a factor.
 fn common_factor(list: &[u64], n: usize, fan: &[u64], a: usize, b: usize) -> Plan
-    requires { ⌜ Contracts.Fanned (now list) n (now fan) a b ⌝ }
-    ensures { λ r. ⌜ r ≡ Plans.commonFactor (Nodes.nodes (now (list .entry)) n) (read (now (fan .entry))) a b ⌝ }
+    requires { ⌜ Contracts.Fanned (interleaved (now list)) n (now fan) a b ⌝ }
+    ensures { λ r. ⌜ r ≡ Plans.commonFactor (Nodes.nodes (interleaved (now (list .entry))) n) (read (now (fan .entry))) a b ⌝ }
 {
     let x = dag::node_at(list, a);
     if !is_single(AssociativeOp::Mul, x, fan[a]) {
@@ -188,8 +189,8 @@ fn onto_before(
     candidate: NodeKind,
     remaining: usize,
 ) -> Plan
-    requires { ⌜ Store.Records (now list) n × NodeIndex (Nodes.nodes (now list) n) (now own) ⌝ }
-    ensures { λ r. ⌜ r ≡ Plans.ontoBefore i remaining (Lookup.lookup (Nodes.nodes (now (list .entry)) n) candidate n) ⌝ }
+    requires { ⌜ Store.Records (interleaved (now list)) n × NodeIndex (Nodes.nodes (interleaved (now list)) n) (now own) ⌝ }
+    ensures { λ r. ⌜ r ≡ Plans.ontoBefore i remaining (Lookup.lookup (Nodes.nodes (interleaved (now (list .entry))) n) candidate n) ⌝ }
 {
     let found = index::find(list, n, own, candidate);
     match found {
@@ -218,8 +219,8 @@ fn existing_rotation(
     inner: usize,
     other: usize,
 ) -> Plan
-    requires { ⌜ Contracts.Fanned (now list) n (now fan) inner other × NodeIndex (Nodes.nodes (now list) n) (now own) ⌝ }
-    ensures { λ r. ⌜ r ≡ Plans.existingRotation (Contracts.operation op) (Nodes.nodes (now (list .entry)) n) (read (now (fan .entry))) i inner other ⌝ }
+    requires { ⌜ Contracts.Fanned (interleaved (now list)) n (now fan) inner other × NodeIndex (Nodes.nodes (interleaved (now list)) n) (now own) ⌝ }
+    ensures { λ r. ⌜ r ≡ Plans.existingRotation (Contracts.operation op) (Nodes.nodes (interleaved (now (list .entry))) n) (read (now (fan .entry))) i inner other ⌝ }
 {
     let z = dag::node_at(list, inner);
     if !is_single(op, z, fan[inner]) {
@@ -245,8 +246,8 @@ fn either_rotation(
     a: usize,
     b: usize,
 ) -> Plan
-    requires { ⌜ Contracts.Fanned (now list) n (now fan) a b × NodeIndex (Nodes.nodes (now list) n) (now own) ⌝ }
-    ensures { λ r. ⌜ r ≡ Plans.eitherRotation (Contracts.operation op) (Nodes.nodes (now (list .entry)) n) (read (now (fan .entry))) i a b ⌝ }
+    requires { ⌜ Contracts.Fanned (interleaved (now list)) n (now fan) a b × NodeIndex (Nodes.nodes (interleaved (now list)) n) (now own) ⌝ }
+    ensures { λ r. ⌜ r ≡ Plans.eitherRotation (Contracts.operation op) (Nodes.nodes (interleaved (now (list .entry))) n) (read (now (fan .entry))) i a b ⌝ }
 {
     let first = existing_rotation(list, n, own, fan, op, i, a, b);
     if fires(first) {
@@ -257,8 +258,8 @@ fn either_rotation(
 
 // What a round does with add(a, b) at place i.
 fn add_plan(list: &[u64], n: usize, own: &[u64], fan: &[u64], i: usize, a: usize, b: usize) -> Plan
-    requires { ⌜ Contracts.Fanned (now list) n (now fan) a b × NodeIndex (Nodes.nodes (now list) n) (now own) ⌝ }
-    ensures { λ r. ⌜ r ≡ Plans.planOf (Nodes.nodes (now (list .entry)) n) (read (now (fan .entry))) i (NodeKind.Add a b) ⌝ }
+    requires { ⌜ Contracts.Fanned (interleaved (now list)) n (now fan) a b × NodeIndex (Nodes.nodes (interleaved (now list)) n) (now own) ⌝ }
+    ensures { λ r. ⌜ r ≡ Plans.planOf (Nodes.nodes (interleaved (now (list .entry))) n) (read (now (fan .entry))) i (NodeKind.Add a b) ⌝ }
 {
     let factored = common_factor(list, n, fan, a, b);
     if fires(factored) {
@@ -269,8 +270,8 @@ fn add_plan(list: &[u64], n: usize, own: &[u64], fan: &[u64], i: usize, a: usize
 
 // What a round does with the record x at place i.
 pub fn plan_of(list: &[u64], n: usize, own: &[u64], fan: &[u64], i: usize, x: NodeKind) -> Plan
-    requires { ⌜ Contracts.Planning (now list) n (now fan) i x × NodeIndex (Nodes.nodes (now list) n) (now own) ⌝ }
-    ensures { λ r. ⌜ r ≡ Plans.planOf (Nodes.nodes (now (list .entry)) n) (read (now (fan .entry))) i x ⌝ }
+    requires { ⌜ Contracts.Planning (interleaved (now list)) n (now fan) i x × NodeIndex (Nodes.nodes (interleaved (now list)) n) (now own) ⌝ }
+    ensures { λ r. ⌜ r ≡ Plans.planOf (Nodes.nodes (interleaved (now (list .entry))) n) (read (now (fan .entry))) i x ⌝ }
 {
     match x {
         NodeKind::Add(a, b) => add_plan(list, n, own, fan, i, a, b),

@@ -1,5 +1,6 @@
 use native.Mathlib.Nat.{le-antisymm}
 use mathlib.Core.Path.{ap}
+use Rattle.dag.specs.View.{interleaved}
 use Rattle.plan.specs.FanoutLaws as Fanouts
 use Rattle.dag.specs.NodeLaws.{at-nodes}
 use Rattle.dag.specs.Nodes as Nodes
@@ -13,7 +14,7 @@ use Rattle.plan.proofs.fanout.Tie as tie
 use Rattle.builder.specs.Contracts.{read}
 
 abbrev Inv-loop : tie.InvT-loop
-Inv-loop list n roots fan₀ i₀ fan i = (i ≤ n) × (length fan ≡ length fan₀) × Fanouts.Counted (Nodes.nodes list n) i fan
+Inv-loop list n roots fan₀ i₀ fan i = (i ≤ n) × (length fan ≡ length fan₀) × Fanouts.Counted (Nodes.nodes (interleaved list) n) i fan
 
 abbrev μ-loop : tie.MeasureT-loop
 μ-loop list n roots fan₀ i₀ fan i = n - i
@@ -21,7 +22,7 @@ abbrev μ-loop : tie.MeasureT-loop
 loop-holds : tie.Need-loop-holds Inv-loop μ-loop
 loop-holds c =
     let start = c .before .before in
-    (omega arith, refl, Fanouts.counted-none (Nodes.nodes (start .args .list .now) (start .args .n)) (start .args .fan .now) (start .pre .zeros))
+    (omega arith, refl, Fanouts.counted-none (Nodes.nodes (interleaved (start .args .list .now)) (start .args .n)) (start .args .fan .now) (start .pre .zeros))
 
 node-at-requires : tie.Need-node-at-requires Inv-loop μ-loop
 node-at-requires c κs = omega (arith, c .before .before .before .before .before .pre .sound .1 .room, c .before .loop-test .taken)
@@ -31,10 +32,10 @@ mention-operands-requires c κs =
     let at-loop-test = c .before .before in
     let at-loop = at-loop-test .before in
     let start = at-loop .before .before .before in (
-      Fanouts.operands-inside (start .args .list .now) (start .args .n) (start .args .roots) (start .args .fan .now) (start .pre) (at-loop .loop .i)
+      Fanouts.operands-inside (interleaved (start .args .list .now)) (start .args .n) (start .args .roots) (start .args .fan .now) (start .pre) (at-loop .loop .i)
           (at-loop .loop .fan) (at-loop .loop .inv .1) (at-loop .loop .inv .2) (at-loop-test .loop-test .taken) _
           (c .node-at .ensures ∙ sym (at-nodes _ _ _ (at-loop-test .loop-test .taken))),
-      Fanouts.counted-countable (start .args .list .now) (start .args .n) (start .args .roots) (start .args .fan .now) (start .pre) (at-loop .loop .i)
+      Fanouts.counted-countable (interleaved (start .args .list .now)) (start .args .n) (start .args .roots) (start .args .fan .now) (start .pre) (at-loop .loop .i)
           (at-loop .loop .fan) (at-loop .loop .inv .1) (at-loop .loop .inv .2) (at-loop-test .loop-test .taken),
     )
 
@@ -57,7 +58,7 @@ loop-again c =
       omega (arith, at-loop-test .loop-test .taken),
       at-mention-operands .mention-operands .kept .0 ∙ at-loop .loop .inv .1,
       rw
-          (at-mention-operands .mention-operands .ensures) (Fanouts.counted-more (start .args .list .now) (start .args .n) (start .args .roots)
+          (at-mention-operands .mention-operands .ensures) (Fanouts.counted-more (interleaved (start .args .list .now)) (start .args .n) (start .args .roots)
           (start .args .fan .now) (start .pre) (at-loop .loop .i) (at-loop .loop .fan) (at-loop .loop .inv .1) (at-loop .loop .inv .2)
           (at-loop-test .loop-test .taken) _ (at-node-at .node-at .ensures ∙ sym (at-nodes _ _ _ (at-loop-test .loop-test .taken)))),
     )
@@ -67,7 +68,7 @@ mention-roots-requires c κs =
     let at-loop = c .before .before in
     let start = at-loop .before .before .before in (
       inside-mono _ _ (start .pre .inside) _ (rw (at-loop .loop .inv .1) (start .pre .fits)),
-      Fanouts.counted-few (start .args .list .now) (start .args .n) (start .args .roots) (start .args .fan .now) (start .pre) (at-loop .loop .i)
+      Fanouts.counted-few (interleaved (start .args .list .now)) (start .args .n) (start .args .roots) (start .args .fan .now) (start .pre) (at-loop .loop .i)
           (at-loop .loop .fan) (at-loop .loop .inv .1) (at-loop .loop .inv .2) (at-loop .loop .inv .0),
     )
 
@@ -80,7 +81,7 @@ returns c =
     let at-loop-test = at-mention-roots .before .before in
     let at-loop = at-loop-test .before in
     let start = at-loop .before .before .before in
-    ap read (at-mention-roots .mention-roots .ensures) ∙ Fanouts.counted-roots (start .args .list .now) (start .args .n) (start .args .roots) (start .args .fan .now)
+    ap read (at-mention-roots .mention-roots .ensures) ∙ Fanouts.counted-roots (interleaved (start .args .list .now)) (start .args .n) (start .args .roots) (start .args .fan .now)
     (start .pre) (at-loop .loop .fan) (at-loop .loop .inv .1)
     (rw (le-antisymm (at-loop .loop .inv .0) (at-loop-test .loop-test .left)) at (at-loop .loop .inv .2))
 
