@@ -1,7 +1,7 @@
 -- A list's words at the start of a store: the store holds the list, and passes the tests that the list meets.
 use Prim.Native.Nat.{ℕ, zero, suc, _+_, _*_, _-_, _≤_, _<_}
 use mathlib.Core.List.{List, [], _∷_, _++_, append-assoc}
-use mathlib.Core.Path.{_≡_, refl, _∙_}
+use mathlib.Core.Path.{_≡_, refl, _∙_, ap}
 use native.Mathlib.Omega.{arith}
 use lib.ListN.{getD, length, take, drop, set, replicate, length-append, length-drop, length-replicate, take-append-drop}
 use lib.Seq.{drop-cons, set-at, take-at, append-snoc, ext-getD}
@@ -15,7 +15,7 @@ use Rattle.dag.specs.NodeLaws.{decode-words, length-nodes, at-nodes, len
 use Rattle.dag.specs.Check.{checkAt, recordsCheck, rootlessCheck, listCheck}
 use Rattle.dag.specs.CheckLaws.{passes, fine-passes}
 use Rattle.dag.specs.PassLaws.{enough-room}
-use Rattle.dag.specs.Store.{put, front, behind, written, stored, blankedBehind, Sound}
+use Rattle.dag.specs.Store.{put, front, behind, written, stored, copied, copiedRecords, blankedBehind, Sound}
 use Rattle.dag.specs.StoreLaws.{words-snoc, length-words, front-words}
 use Rattle.dag.specs.WellFormed.{WellFormed}
 use Rattle.dag.specs.declared.NodeKind.{NodeKind}
@@ -176,6 +176,14 @@ blanked-stored m s d n sound e =
 pub written-own : (m : Bounds) (s : List ℕ) (n : ℕ) → Sound m (interleaved s) n → written s (nodes (interleaved s) n) ≡ s
 unfolding written behind front
 written-own m s n sound = rw (length-nodes (interleaved s) n, ← front-take) (take-append-drop (3 * n) s)
+  where
+    front-take : take (3 * n) s ≡ wordsOf (nodes (interleaved s) n)
+    front-take = front-words m s n sound
+
+-- a list that passes, copied to another store
+pub copied-written : (m : Bounds) (s d : List ℕ) (n : ℕ) → Sound m (interleaved s) n → copiedRecords s d n ≡ written d (nodes (interleaved s) n)
+unfolding copiedRecords copied written behind front
+copied-written m s d n sound = rw (length-nodes (interleaved s) n) (ap (λ w. w ++ drop (3 * n) d) front-take)
   where
     front-take : take (3 * n) s ≡ wordsOf (nodes (interleaved s) n)
     front-take = front-words m s n sound

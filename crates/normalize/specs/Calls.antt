@@ -3,7 +3,9 @@ use Prim.Native.Nat.{ℕ, _*_}
 use mathlib.Core.List.{List, [], _∷_}
 use lib.ListN.{length, replicate}
 use Rattle.field.specs.Fields.{Field}
-use Rattle.dag.specs.Nodes.{blank, nodes, wordsOf, filled}
+use Rattle.dag.specs.View.{View, interleaved}
+use Rattle.dag.specs.Nodes.{blank, nodes}
+use Rattle.dag.specs.Store.{stored}
 use Rattle.dag.specs.Refusals.{_then_, unlessRefused}
 use Rattle.dag.specs.Roots.{rootsFrom}
 use Rattle.dag.specs.Check.{roomCheck, listCheck}
@@ -14,7 +16,7 @@ use Rattle.normalize.specs.declared.NormalizeAnswer.{NormalizeAnswer}
 
 -- the tests of the result and work stores
 abbrev pub normalizeStores : ℕ → ℕ → ℕ → Checked
-normalizeStores n resultWords workWords = roomCheck (3 * n) resultWords then roomCheck (6 * n) workWords
+normalizeStores n resultRoom workRoom = roomCheck n resultRoom then roomCheck (2 * n) workRoom
 
 -- count, roots and rounds kept
 abbrev pub answerOf : Normal → NormalizeAnswer
@@ -22,26 +24,26 @@ answerOf a = record { checked = Good; count = length (a .list); roots = rootsFro
 
 module _ (field : Field) where
   -- the tests: the list check, then the result and work stores
-  unfoldable pub normalizeCheck : List ℕ → ℕ → ℕ → ℕ → ℕ → Checked
-  normalizeCheck s n root resultWords workWords = listCheck (field .bounds) s n root then normalizeStores n resultWords workWords
+  unfoldable pub normalizeCheck : View → ℕ → ℕ → ℕ → ℕ → Checked
+  normalizeCheck s n root resultRoom workRoom = listCheck (field .bounds) s n root then normalizeStores n resultRoom workRoom
 
   -- the rounds on the list that a store holds, with its roots
-  unfoldable pub normalized : List ℕ → ℕ → List ℕ → Normal
+  unfoldable pub normalized : View → ℕ → List ℕ → Normal
   normalized s n roots = normalize (field .elements) (nodes s n) roots
 
   -- count, root and rounds kept
-  unfoldable pub normalizeAnswer : List ℕ → ℕ → ℕ → ℕ → ℕ → NormalizeAnswer
-  normalizeAnswer s n root resultWords workWords =
-      unlessRefused (normalizeCheck s n root resultWords workWords)
+  unfoldable pub normalizeAnswer : View → ℕ → ℕ → ℕ → ℕ → NormalizeAnswer
+  normalizeAnswer s n root resultRoom workRoom =
+      unlessRefused (normalizeCheck s n root resultRoom workRoom)
       (λ r. record { checked = Refused r; count = 0; roots = rootsFrom []; rounds = 0 })
       (answerOf (normalized s n (root ∷ [])))
 
   -- the list answered, blanks behind it
-  unfoldable pub normalizeResult : List ℕ → ℕ → ℕ → List ℕ → ℕ → List ℕ
-  normalizeResult s n root result workWords =
-      unlessRefused (normalizeCheck s n root (length result) workWords) (λ r. result) (filled (length result) (wordsOf (normalized s n (root ∷ []) .list)))
+  unfoldable pub normalizeResult : View → ℕ → ℕ → List ℕ → ℕ → List ℕ
+  normalizeResult s n root result workRoom =
+      unlessRefused (normalizeCheck s n root (interleaved result .room) workRoom) (λ r. result) (stored result (normalized s n (root ∷ []) .list))
 
   -- blank throughout
-  unfoldable pub normalizeWork : List ℕ → ℕ → ℕ → ℕ → List ℕ → List ℕ
-  normalizeWork s n root resultWords work =
-      unlessRefused (normalizeCheck s n root resultWords (length work)) (λ r. work) (replicate (length work) blank)
+  unfoldable pub normalizeWork : View → ℕ → ℕ → ℕ → List ℕ → List ℕ
+  normalizeWork s n root resultRoom work =
+      unlessRefused (normalizeCheck s n root resultRoom (interleaved work .room)) (λ r. work) (replicate (length work) blank)

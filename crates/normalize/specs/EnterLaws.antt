@@ -5,6 +5,8 @@ use mathlib.Core.Path.{_≡_, _∙_, ap, ap₂, subst}
 use native.Mathlib.Omega.{arith}
 use lib.ListN.{length}
 use Rattle.field.specs.Fields.{Field, Low}
+use Rattle.dag.specs.ViewLaws.{same-room}
+use Rattle.dag.specs.View.{interleaved}
 use Rattle.dag.specs.Nodes.{nodes, rename, like}
 use Rattle.dag.specs.WellFormed.{Fine}
 use Rattle.dag.specs.WellFormedLaws.{fine-mono, fine-like, fine-rename}
@@ -21,7 +23,7 @@ use Rattle.plan.specs.declared.Plan.{Plan}
 use Rattle.plan.specs.declared.Plan.the-variants.{Factored, Rotated, Plain}
 
 module _ (field : Field) where
-  by-push : (work : List ℕ) (count : ℕ) (x : NodeKind) (after : List ℕ) (e : Entered) → Pushed field work count x after e → Planned field work count (step (field .elements) (nodes work count) x) after e
+  by-push : (work : List ℕ) (count : ℕ) (x : NodeKind) (after : List ℕ) (e : Entered) → Pushed field work count x after e → Planned field work count (step (field .elements) (nodes (interleaved work) count) x) after e
   by-push work count x after e h =
       record {
         kept = h .kept;
@@ -38,7 +40,7 @@ module _ (field : Field) where
     pub push-room : (links : List ℕ) → Linked work count links → Room work count links
     push-room links d = let a = h .room in let b = d .room in record { room = omega arith; index = d .index; link-room = omega arith }
 
-    like-request : (a b : ℕ) → a < i → b < i → Request field work count (like x (read map a) (read map b))
+    like-request : (a b : ℕ) → a < i → b < i → Request field (interleaved work) count (like x (read map a) (read map b))
     like-request a b k q =
         record { sound = h .sound; fine = fine-like (Low field) i count x (read map a) (read map b) (h .fine) (h .places a k) (h .places b q) }
 
@@ -53,7 +55,7 @@ module _ (field : Field) where
     record-fits = fine-mono (Low field) i (length map) x (h .fits) (h .fine)
 
     -- a plain record
-    pub plain-request : Request field work count (rename (read map) x)
+    pub plain-request : Request field (interleaved work) count (rename (read map) x)
     plain-request = record { sound = h .sound; fine = fine-rename (Low field) (read map) i count x (h .places) (h .fine) }
 
     pub plain-planned : plan ≡ Plain → (after : List ℕ) (e : Entered) → Pushed field work count (rename (read map) x) after e → Planned field work count (planned (field .elements) (held work count map) x plan) after e
@@ -72,7 +74,7 @@ module _ (field : Field) where
         is-like : q ≡ like x (read map a) (read map b)
         is-like = eq ∙ rw (ey, ez)
 
-        pub rotated-request : Request field work count q
+        pub rotated-request : Request field (interleaved work) count q
         rotated-request = rw is-like (like-request a b (rotated-places .0) (rotated-places .1))
 
         pub rotated-planned : (after : List ℕ) (r : Entered) → Pushed field work count q after r → Planned field work count (planned (field .elements) (held work count map) x plan) after r
@@ -91,17 +93,17 @@ module _ (field : Field) where
         inner-like : q ≡ like x (read map a) (read map b)
         inner-like = eq ∙ rw (ey, ez)
 
-        pub inner-request : Request field work count q
+        pub inner-request : Request field (interleaved work) count q
         inner-request = rw inner-like (like-request a b (factored-places .1) (factored-places .2))
 
         module _ (mid : List ℕ) (r : Entered) (k : Pushed field work count q mid r) (g : ℕ) (eg : g ≡ read map f) where
-          pub outer-request : (links later : List ℕ) → Linked work count links → NodeIndex (nodes mid (r .count)) later → length later ≡ length links → Request field mid (r .count) (Mul g (r .place)) × Room mid (r .count) later
+          pub outer-request : (links later : List ℕ) → Linked work count links → NodeIndex (nodes (interleaved mid) (r .count)) later → length later ≡ length links → Request field (interleaved mid) (r .count) (Mul g (r .place)) × Room mid (r .count) later
           unfolding Fine
           outer-request links later linked index same =
               let j = h .places f (factored-places .0) in
               let l = k .longer in
               let s = k .by-one in
-              let t = k .kept in
+              let t = same-room mid work (k .kept) in
               let u = h .room in
               let v = linked .room in
               (record { sound = k .sound; fine = (omega arith, k .inside) }, record { room = omega arith; index = index; link-room = rw same (omega arith) })
@@ -109,9 +111,9 @@ module _ (field : Field) where
           pub factored-planned : (after : List ℕ) (o : Entered) → Pushed field mid (r .count) (Mul g (r .place)) after o → Planned field work count (planned (field .elements) (held work count map) x plan) after o
           unfolding planned placeOf
           factored-planned after o w =
-              let inner = step (field .elements) (nodes work count) (like x (read map a) (read map b)) in
-              let same = ap (step (field .elements) (nodes work count)) inner-like in
-              let m : step (field .elements) (nodes mid (r .count)) (Mul g (r .place)) ≡ step (field .elements) (inner .list) (Mul (read map f) (inner .place)) =
+              let inner = step (field .elements) (nodes (interleaved work) count) (like x (read map a) (read map b)) in
+              let same = ap (step (field .elements) (nodes (interleaved work) count)) inner-like in
+              let m : step (field .elements) (nodes (interleaved mid) (r .count)) (Mul g (r .place)) ≡ step (field .elements) (inner .list) (Mul (read map f) (inner .place)) =
               ap₂ (step (field .elements)) (k .list-is ∙ ap (λ t. t .list) same) (ap₂ Mul eg (k .place-is ∙ ap (λ t. t .place) same)) in
               rw e
               (record {

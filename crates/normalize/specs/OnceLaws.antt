@@ -10,6 +10,7 @@ use borrow.Author.Tests.{lt-ltb}
 use lib.ListN.{length, take, replicate, length-replicate}
 use lib.Seq.{length-take-le}
 use Rattle.field.specs.Fields.{Field, Low, elementLaws}
+use Rattle.dag.specs.View.{interleaved}
 use Rattle.dag.specs.BlankLaws.{all-zero}
 use Rattle.dag.specs.Nodes.{mostRecords, nodes}
 use Rattle.dag.specs.NodeLaws.{length-nodes}
@@ -52,13 +53,13 @@ scratch-part c k h f m o l ef em eo el =
 
 module _ (field : Field) where
   module _ {s : List ℕ} {n : ℕ} {roots : Roots} {k : ℕ} {fan places own links : List ℕ} (h : Ready field s n roots k) (c : Scratch n fan places own links) where
-    pub counting : (cleared : List ℕ) → cleared ≡ take 0 fan ++ replicate (length fan - 0) 0 → Counting s n roots cleared
+    pub counting : (cleared : List ℕ) → cleared ≡ take 0 fan ++ replicate (length fan - 0) 0 → Counting (interleaved s) n roots cleared
     counting cleared z =
         let q : cleared ≡ replicate (length fan) 0 = rw (sub-zero (length fan)) at z in
         let a = c .fan-long in
         record { sound = (field .bounds, h .sound); inside = h .rooted .inside; few = h .few; fits = rw (q, length-replicate {A = ℕ} (length fan) 0) (omega arith); zeros = λ j. rw q (all-zero (length fan) j) }
 
-    pub rounding : (counted work : List ℕ) → length counted ≡ length fan → k ≡ length work → Rounding field s n counted work places
+    pub rounding : (counted work : List ℕ) → length counted ≡ length fan → k ≡ interleaved work .room → Rounding field s n counted work places
     rounding counted work e g =
         let a = c .fan-long in let b = c .places-long in let r = h .room in
         record { sound = h .sound; few = h .few; fan-fits = omega arith; work-fits = omega arith; map-fits = omega arith }
@@ -66,7 +67,7 @@ module _ (field : Field) where
     some : 0 < n
     some = let d = h .rooted .inside .below 0 (h .rooted .some) in omega arith
 
-    pub indexable : Records s n × Usable own × (n ≤ half own)
+    pub indexable : Records (interleaved s) n × Usable own × (n ≤ half own)
     indexable =
         let a = c .own-long in let b = c .own-few in let d = some in
         ((field .bounds, h .sound), record { some = omega arith; few = omega arith }, omega arith)
@@ -84,7 +85,7 @@ abbrev keeping : ℕ → Roots → RoundKept
 keeping n roots = record { kept = true; count = n; roots = roots }
 
 module _ (field : Field) where
-  stays-once : (s : List ℕ) (n : ℕ) (roots : Roots) → isKept (field .elements) (nodes s n) (rootsOf roots) ≡ false → Once field s n roots s (discarded n roots)
+  stays-once : (s : List ℕ) (n : ℕ) (roots : Roots) → isKept (field .elements) (nodes (interleaved s) n) (rootsOf roots) ≡ false → Once field s n roots s (discarded n roots)
   stays-once s n roots e =
       record {
         kept-is = sym e;
@@ -96,23 +97,23 @@ module _ (field : Field) where
 
   -- a round on a list that is ready: what it left in its stores
   module _ {s : List ℕ} {n : ℕ} {roots : Roots} {k : ℕ} (ready : Ready field s n roots k) {fan work places : List ℕ} {count : ℕ} {t : Bool} (h : RoundHeld field s n fan n work places count t)
-      (ef : read fan ≡ fanout (nodes s n) (rootsOf roots)) where
+      (ef : read fan ≡ fanout (nodes (interleaved s) n) (rootsOf roots)) where
     r : Replay
-    r = round (field .elements) (nodes s n) (read fan) n
+    r = round (field .elements) (nodes (interleaved s) n) (read fan) n
 
-    w : WellFormed (Low field) (nodes s n)
-    w = list-fine field s n (ready .sound)
+    w : WellFormed (Low field) (nodes (interleaved s) n)
+    w = list-fine field (interleaved s) n (ready .sound)
 
-    fired-is : t ≡ fired (nodes s n) (fanout (nodes s n) (rootsOf roots)) (length (nodes s n))
-    fired-is = h .fired-is ∙ ap₂ (fired (nodes s n)) ef (sym (length-nodes s n))
+    fired-is : t ≡ fired (nodes (interleaved s) n) (fanout (nodes (interleaved s) n) (rootsOf roots)) (length (nodes (interleaved s) n))
+    fired-is = h .fired-is ∙ ap₂ (fired (nodes (interleaved s) n)) ef (sym (length-nodes (interleaved s) n))
 
     pub round-short : count ≤ 2 * n
     unfolding r w
-    round-short = let a = count-is field r n work places count (h .holds) in let b = round-length (field .elements) (elementLaws field) (nodes s n) w (read fan) n in omega arith
+    round-short = let a = count-is field r n work places count (h .holds) in let b = round-length (field .elements) (elementLaws field) (nodes (interleaved s) n) w (read fan) n in omega arith
 
     -- a round in which no rewrite fired
     pub not-fired : t ≡ false → Once field s n roots s (discarded n roots)
-    not-fired e = stays-once s n roots (not-kept-when (field .elements) (nodes s n) (rootsOf roots) .1 (inl (sym fired-is ∙ e)))
+    not-fired e = stays-once s n roots (not-kept-when (field .elements) (nodes (interleaved s) n) (rootsOf roots) .1 (inl (sym fired-is ∙ e)))
 
     place-is : (i : ℕ) → i < n → read places i ≡ placeOf r i
     unfolding r
@@ -122,7 +123,7 @@ module _ (field : Field) where
     unfolding r w
     place-below i k =
         let a = count-is field r n work places count (h .holds) in
-        let b = round-replayed (field .elements) (elementLaws field) (nodes s n) w (read fan) n .inside i k in
+        let b = round-replayed (field .elements) (elementLaws field) (nodes (interleaved s) n) w (read fan) n .inside i k in
         rw (place-is i k, a) b
 
     module _ {new : Roots} (en : new ≡ rootsFrom (map (read places) (rootsOf roots))) where
@@ -132,45 +133,45 @@ module _ (field : Field) where
           (map-cong (read places) (placeOf r) (rootsOf roots) (λ i p. place-is i (inside-below n roots (ready .rooted .inside) i p)))
 
       -- the round's list may be compacted
-      pub markable : Markable work count new mostMarks
+      pub markable : Markable (interleaved work) count new mostMarks
       markable =
           let a = round-short in
           let f = ready .few in
           record { sound = (field .bounds, h .holds .sound); inside = rw en (inside-renamed (read places) n count roots (ready .rooted .inside) place-below); fits = omega arith }
 
-      is-rounded : compacted work count (rootsOf new) ≡ rounded (field .elements) (nodes s n) (rootsOf roots)
+      is-rounded : compacted (interleaved work) count (rootsOf new) ≡ rounded (field .elements) (nodes (interleaved s) n) (rootsOf roots)
       unfolding compacted rounded r
       is-rounded =
           ap₂ compact (h .holds .list-is) new-roots
-          ∙ ap₂ (λ f m. compact (round (field .elements) (nodes s n) f m .list) (map (placeOf (round (field .elements) (nodes s n) f m)) (rootsOf roots))) ef (sym (length-nodes s n))
+          ∙ ap₂ (λ f m. compact (round (field .elements) (nodes (interleaved s) n) f m .list) (map (placeOf (round (field .elements) (nodes (interleaved s) n) f m)) (rootsOf roots))) ef (sym (length-nodes (interleaved s) n))
 
-      module _ {size : ℕ} (es : size ≡ length (compacted work count (rootsOf new) .list)) where
-        size-is : size ≡ length (rounded (field .elements) (nodes s n) (rootsOf roots) .list)
+      module _ {size : ℕ} (es : size ≡ length (compacted (interleaved work) count (rootsOf new) .list)) where
+        size-is : size ≡ length (rounded (field .elements) (nodes (interleaved s) n) (rootsOf roots) .list)
         size-is = es ∙ ap (λ c. length (c .list)) is-rounded
 
         -- a round whose list is no shorter
         pub no-shorter : n ≤ size → Once field s n roots s (discarded n roots)
         no-shorter less =
             let a = size-is in
-            let b = length-nodes s n in
-            stays-once s n roots (not-kept-when (field .elements) (nodes s n) (rootsOf roots) .1 (inr (omega arith)))
+            let b = length-nodes (interleaved s) n in
+            stays-once s n roots (not-kept-when (field .elements) (nodes (interleaved s) n) (rootsOf roots) .1 (inr (omega arith)))
 
         -- a list that is no longer fits
-        pub write-fits : size ≤ n → 3 * length (compacted work count (rootsOf new) .list) ≤ length s
+        pub write-fits : size ≤ n → length (compacted (interleaved work) count (rootsOf new) .list) ≤ interleaved s .room
         write-fits few = let room = ready .sound .room in omega arith
 
         -- a round that is kept: its compacted list is written
         module _ (et : t ≡ true) (less : size < n) where
-          pub kept-once : {after : List ℕ} {at-roots : Roots} → at-roots ≡ keptOf (compacted work count (rootsOf new)) .roots → after ≡ written s (compacted work count (rootsOf new) .list)
+          pub kept-once : {after : List ℕ} {at-roots : Roots} → at-roots ≡ keptOf (compacted (interleaved work) count (rootsOf new)) .roots → after ≡ written s (compacted (interleaved work) count (rootsOf new) .list)
               → Once field s n roots after (keeping size at-roots)
           unfolding isKept keptOf w
           kept-once {after} er ea =
-              let b = length-nodes s n in
-              let lst = rounded (field .elements) (nodes s n) (rootsOf roots) .list in
-              let fine = rounded-well-formed (field .elements) (elementLaws field) (nodes s n) w (rootsOf roots) (rw (length-nodes s n) (inside-below n roots (ready .rooted .inside))) in
+              let b = length-nodes (interleaved s) n in
+              let lst = rounded (field .elements) (nodes (interleaved s) n) (rootsOf roots) .list in
+              let fine = rounded-well-formed (field .elements) (elementLaws field) (nodes (interleaved s) n) w (rootsOf roots) (rw (length-nodes (interleaved s) n) (inside-below n roots (ready .rooted .inside))) in
               let wr : after ≡ written s lst = ea ∙ ap (λ c. written s (c .list)) is-rounded in
               record {
-                kept-is = rw (← fired-is, et) (sym (lt-ltb (length lst) (length (nodes s n)) (let a = size-is in omega arith)));
+                kept-is = rw (← fired-is, et) (sym (lt-ltb (length lst) (length (nodes (interleaved s) n)) (let a = size-is in omega arith)));
                 stays = λ z. absurd (true≢false z);
                 sound = λ _. rw (size-is, wr) (sound-written (field .bounds) s lst fine);
                 list-is = λ _. rw (size-is, wr) (nodes-written s lst);

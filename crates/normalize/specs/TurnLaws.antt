@@ -7,6 +7,8 @@ use native.Mathlib.Numerals.{add-one}
 use native.Mathlib.Omega.{arith}
 use lib.ListN.{length, set}
 use Rattle.field.specs.Fields.{Field, Low, elementLaws}
+use Rattle.dag.specs.ViewLaws.{same-room}
+use Rattle.dag.specs.View.{interleaved}
 use Rattle.dag.specs.Nodes.{nodes, at, like}
 use Rattle.dag.specs.WellFormedLaws.{fine-any}
 use Rattle.dag.specs.WellFormed.{Fine, WellFormed}
@@ -44,39 +46,40 @@ module _ (field : Field) where
   module _ (s : List ℕ) (n : ℕ) (fan work₀ map₀ : List ℕ) (g : Rounding field s n fan work₀ map₀) (i : ℕ) (work map : List ℕ) (count : ℕ) (t : Bool)
       (ew : length work ≡ length work₀) (em : length map ≡ length map₀) (h : RoundHeld field s n fan i work map count t) where
     r : Replay
-    r = round (field .elements) (nodes s n) (read fan) i
+    r = round (field .elements) (nodes (interleaved s) n) (read fan) i
 
-    w : WellFormed (Low field) (nodes s n)
-    w = list-fine field s n (g .sound)
+    w : WellFormed (Low field) (nodes (interleaved s) n)
+    w = list-fine field (interleaved s) n (g .sound)
 
     pub round-count : count ≤ i + i
     unfolding r w
-    round-count = let a = count-is field r i work map count (h .holds) in let b = round-length (field .elements) (elementLaws field) (nodes s n) w (read fan) i in omega arith
+    round-count = let a = count-is field r i work map count (h .holds) in let b = round-length (field .elements) (elementLaws field) (nodes (interleaved s) n) w (read fan) i in omega arith
 
-    module _ (k : i < n) (x : NodeKind) (ex : x ≡ at (nodes s n) i) where
+    module _ (k : i < n) (x : NodeKind) (ex : x ≡ at (nodes (interleaved s) n) i) where
       fine-here : Fine (Low field) i x
       unfolding WellFormed w
       fine-here = rw ex (w i)
 
-      pub turn-planning : Planning s n fan i x
+      pub turn-planning : Planning (interleaved s) n fan i x
       turn-planning = record { sound = (field .bounds, g .sound); fits = g .fan-fits; inside = omega arith; fine = fine-any (Low field) i x fine-here }
 
-      module _ (plan : Plan) (ep : plan ≡ planOf (nodes s n) (read fan) i x) where
+      module _ (plan : Plan) (ep : plan ≡ planOf (nodes (interleaved s) n) (read fan) i x) where
         plan-here : PlanFine i plan
         unfolding w
-        plan-here = rw ep (plan-fine (Low field) (nodes s n) w (read fan) i x fine-here)
+        plan-here = rw ep (plan-fine (Low field) (nodes (interleaved s) n) w (read fan) i x fine-here)
 
         pub turn-entering : Entering field work count map i x plan
         unfolding r w
         turn-entering =
             let f = g .map-fits in
             let b = g .work-fits in
+            let q = same-room work work₀ ew in
             let c = round-count in
             record {
               sound = h .holds .sound;
               places = λ j m.
                   let a = place-read field r i work map count (h .holds) j m in
-                  let d = round-replayed (field .elements) (elementLaws field) (nodes s n) w (read fan) i .inside j m in
+                  let d = round-replayed (field .elements) (elementLaws field) (nodes (interleaved s) n) w (read fan) i .inside j m in
                   let e = count-is field r i work map count (h .holds) in
                   omega arith;
               fits = omega arith;
@@ -90,10 +93,10 @@ module _ (field : Field) where
         unfolding round fired placeOf r
         turn-held after e u q eu =
             let same = planned-agree (held work count map) r i x plan (h .holds .list-is) (place-read field r i work map count (h .holds)) fine-here plan-here in
-            let here = ap₂ (planned (field .elements) r) ex (ep ∙ ap (planOf (nodes s n) (read fan) i) ex) in
+            let here = ap₂ (planned (field .elements) r) ex (ep ∙ ap (planOf (nodes (interleaved s) n) (read fan) i) ex) in
             rw (add-one i)
             (record {
-              holds = holds-more field r i work map count (h .holds) (planned (field .elements) r (at (nodes s n) i) (planOf (nodes s n) (read fan) i (at (nodes s n) i))) after (e .place) (e .count)
+              holds = holds-more field r i work map count (h .holds) (planned (field .elements) r (at (nodes (interleaved s) n) i) (planOf (nodes (interleaved s) n) (read fan) i (at (nodes (interleaved s) n) i))) after (e .place) (e .count)
                   (q .sound) (q .list-is ∙ ap (λ b. b .list) (same ∙ here)) (q .place-is ∙ ap (λ b. b .place) (same ∙ here)) (let f = g .map-fits in omega arith);
-              fired-is = eu ∙ ap₂ (λ a b. cond a true (fires b)) (h .fired-is) (ep ∙ ap (planOf (nodes s n) (read fan) i) ex);
+              fired-is = eu ∙ ap₂ (λ a b. cond a true (fires b)) (h .fired-is) (ep ∙ ap (planOf (nodes (interleaved s) n) (read fan) i) ex);
             })

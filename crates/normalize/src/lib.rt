@@ -10,6 +10,7 @@ ghost use Prim.Native.Nat.{ℕ, _*_, _≤_};
 ghost use lib.ListN.{length};
 ghost use Rattle.field.specs.Fields.{goldilocks};
 ghost use Rattle.field.specs.Field.{quad};
+ghost use Rattle.dag.specs.View.{interleaved};
 ghost use Rattle.dag.specs.Nodes as Nodes;
 ghost use Rattle.index.specs.Index.{half, Usable, NodeIndex};
 ghost use Rattle.normalize.specs.Rounds as Rounds;
@@ -42,7 +43,7 @@ fn enter_factored(
     b: usize,
 ) -> Entered
     requires { ⌜ ((i : ℕ) × Contracts.Entering goldilocks (now work) count (now map) i x (Plan.Factored factor a b)) × Contracts.Linked (now work) count (now links) ⌝ }
-    ensures { λ r. ⌜ Contracts.Planned goldilocks (now (work .entry)) count (Rounds.planned quad (Contracts.held (now (work .entry)) count (now (map .entry))) x (Plan.Factored factor a b)) (now (work .exit)) r × NodeIndex (Nodes.nodes (now (work .exit)) (r .count)) (now (links .exit)) ⌝ }
+    ensures { λ r. ⌜ Contracts.Planned goldilocks (now (work .entry)) count (Rounds.planned quad (Contracts.held (now (work .entry)) count (now (map .entry))) x (Plan.Factored factor a b)) (now (work .exit)) r × NodeIndex (Nodes.nodes (interleaved (now (work .exit))) (r .count)) (now (links .exit)) ⌝ }
 {
     let inner = builder::push(
         work,
@@ -68,7 +69,7 @@ fn enter_planned(
     plan: Plan,
 ) -> Entered
     requires { ⌜ ((i : ℕ) × Contracts.Entering goldilocks (now work) count (now map) i x plan) × Contracts.Linked (now work) count (now links) ⌝ }
-    ensures { λ r. ⌜ Contracts.Planned goldilocks (now (work .entry)) count (Rounds.planned quad (Contracts.held (now (work .entry)) count (now (map .entry))) x plan) (now (work .exit)) r × NodeIndex (Nodes.nodes (now (work .exit)) (r .count)) (now (links .exit)) ⌝ }
+    ensures { λ r. ⌜ Contracts.Planned goldilocks (now (work .entry)) count (Rounds.planned quad (Contracts.held (now (work .entry)) count (now (map .entry))) x plan) (now (work .exit)) r × NodeIndex (Nodes.nodes (interleaved (now (work .exit))) (r .count)) (now (links .exit)) ⌝ }
 {
     match plan {
         Plan::Factored {
@@ -112,7 +113,7 @@ fn round(
     links: &mut [u64],
     map: &mut [u64],
 ) -> RoundEnd
-    requires { ⌜ Contracts.Rounding goldilocks (now list) n (now fan) (now work) (now map) × NodeIndex (Nodes.nodes (now list) n) (now own) × Usable (now links) × (2 * n ≤ half (now links)) ⌝ }
+    requires { ⌜ Contracts.Rounding goldilocks (now list) n (now fan) (now work) (now map) × NodeIndex (Nodes.nodes (interleaved (now list)) n) (now own) × Usable (now links) × (2 * n ≤ half (now links)) ⌝ }
     ensures { λ r. ⌜ Contracts.RoundHeld goldilocks (now (list .entry)) n (now (fan .entry)) n (now (work .exit)) (now (map .exit)) (r .count) (r .fired) ⌝ }
 {
     index::clear(links);
@@ -149,7 +150,7 @@ fn normalize_once(
     own: &mut [u64],
     links: &mut [u64],
 ) -> RoundKept
-    requires { ⌜ Contracts.Ready goldilocks (now result) n roots (length (now work)) × Contracts.Scratch n (now fan) (now map) (now own) (now links) ⌝ }
+    requires { ⌜ Contracts.Ready goldilocks (now result) n roots (interleaved (now work) .room) × Contracts.Scratch n (now fan) (now map) (now own) (now links) ⌝ }
     ensures { λ r. ⌜ Contracts.Once goldilocks (now (result .entry)) n roots (now (result .exit)) r ⌝ }
 {
     dag::fill(fan, 0, 0);
@@ -203,7 +204,7 @@ fn normalize_rounds(
     own: &mut [u64],
     links: &mut [u64],
 ) -> NormalEnd
-    requires { ⌜ Contracts.Ready goldilocks (now result) n roots (length (now work)) × Contracts.Scratch n (now fan) (now map) (now own) (now links) ⌝ }
+    requires { ⌜ Contracts.Ready goldilocks (now result) n roots (interleaved (now work) .room) × Contracts.Scratch n (now fan) (now map) (now own) (now links) ⌝ }
     ensures { λ r. ⌜ Contracts.Ended goldilocks (now (result .entry)) n roots (now (result .exit)) r ⌝ }
 {
     let mut count = n;
@@ -235,7 +236,7 @@ fn normalize_rounds(
 
 // The rounds, with scratch stores for the list's length.
 fn normalize_sized(n: usize, roots: Roots, result: &mut [u64], work: &mut [u64]) -> NormalEnd
-    requires { ⌜ Contracts.Ready goldilocks (now result) n roots (length (now work)) ⌝ }
+    requires { ⌜ Contracts.Ready goldilocks (now result) n roots (interleaved (now work) .room) ⌝ }
     ensures { λ r. ⌜ Contracts.Ended goldilocks (now (result .entry)) n roots (now (result .exit)) r ⌝ }
 {
     if n <= dag::FEW_RECORDS {
@@ -271,15 +272,15 @@ fn normalize_sized(n: usize, roots: Roots, result: &mut [u64], work: &mut [u64])
 }
 
 // The tests of Normalise's result and work stores.
-fn normalize_stores(n: usize, result_words: usize, work_words: usize) -> Checked
+fn normalize_stores(n: usize, result_room: usize, work_room: usize) -> Checked
     requires { ⌜ n ≤ Nodes.mostRecords ⌝ }
-    ensures { λ r. ⌜ r ≡ Calls.normalizeStores n «result_words» «work_words» ⌝ }
+    ensures { λ r. ⌜ r ≡ Calls.normalizeStores n «result_room» «work_room» ⌝ }
 {
-    let checked = dag::room_check(3 * n, result_words);
+    let checked = dag::room_check(n, result_room);
     if dag::is_refused(checked) {
         return checked;
     }
-    dag::room_check(6 * n, work_words)
+    dag::room_check(2 * n, work_room)
 }
 
 // Normalise's tests.
@@ -287,16 +288,16 @@ fn normalize_check(
     list: &[u64],
     n: usize,
     root: usize,
-    result_words: usize,
-    work_words: usize,
+    result_room: usize,
+    work_room: usize,
 ) -> Checked
-    ensures { λ r. ⌜ r ≡ Calls.normalizeCheck goldilocks (now (list .entry)) n root «result_words» «work_words» ⌝ }
+    ensures { λ r. ⌜ r ≡ Calls.normalizeCheck goldilocks (interleaved (now (list .entry))) n root «result_room» «work_room» ⌝ }
 {
     let checked = dag::list_check(list, n, root);
     if dag::is_refused(checked) {
         return checked;
     }
-    normalize_stores(n, result_words, work_words)
+    normalize_stores(n, result_room, work_room)
 }
 
 // Normalise past its tests.
@@ -307,12 +308,12 @@ fn normalize_ready(
     result: &mut [u64],
     work: &mut [u64],
 ) -> NormalizeAnswer
-    requires { ⌜ Contracts.Passed goldilocks (now list) n roots (length (now result)) (length (now work)) ⌝ }
+    requires { ⌜ Contracts.Passed goldilocks (now list) n roots (interleaved (now result) .room) (interleaved (now work) .room) ⌝ }
     ensures { λ r. ⌜ Contracts.Finished goldilocks (now (list .entry)) n roots (now (result .entry)) (now (work .entry)) r (now (result .exit)) (now (work .exit)) ⌝ }
 {
-    dag::copy_words(list, 3 * n, result);
+    dag::copy_records(list, n, result);
     let end = normalize_sized(n, roots, result, work);
-    dag::blank_from(result, 3 * end.count);
+    dag::blank_records(result, end.count);
     dag::blank_from(work, 0);
     let new_roots = end.roots;
     NormalizeAnswer {
@@ -331,11 +332,11 @@ pub fn normalize(
     result: &mut [u64],
     work: &mut [u64],
 ) -> NormalizeAnswer
-    ensures answer { λ r. ⌜ r ≡ Calls.normalizeAnswer goldilocks (now (list .entry)) n root (length (now (result .entry))) (length (now (work .entry))) ⌝ }
-    ensures result { λ _. ⌜ now (result .exit) ≡ Calls.normalizeResult goldilocks (now (list .entry)) n root (now (result .entry)) (length (now (work .entry))) ⌝ }
-    ensures work { λ _. ⌜ now (work .exit) ≡ Calls.normalizeWork goldilocks (now (list .entry)) n root (length (now (result .entry))) (now (work .entry)) ⌝ }
+    ensures answer { λ r. ⌜ r ≡ Calls.normalizeAnswer goldilocks (interleaved (now (list .entry))) n root (interleaved (now (result .entry)) .room) (interleaved (now (work .entry)) .room) ⌝ }
+    ensures result { λ _. ⌜ now (result .exit) ≡ Calls.normalizeResult goldilocks (interleaved (now (list .entry))) n root (now (result .entry)) (interleaved (now (work .entry)) .room) ⌝ }
+    ensures work { λ _. ⌜ now (work .exit) ≡ Calls.normalizeWork goldilocks (interleaved (now (list .entry))) n root (interleaved (now (result .entry)) .room) (now (work .entry)) ⌝ }
 {
-    let checked = normalize_check(list, n, root, result.len(), work.len());
+    let checked = normalize_check(list, n, root, dag::room(result), dag::room(work));
     if dag::is_refused(checked) {
         return NormalizeAnswer {
             checked,

@@ -4,6 +4,7 @@ use borrow.Author.Tests.{not-true, not-false}
 use lib.ListN.{length}
 use Prim.Native.Nat.{_*_}
 use lib.Seq.{length-take-le, length-front}
+use Rattle.dag.specs.ViewLaws.{same-room}
 use Rattle.field.specs.Fields.{goldilocks}
 use Rattle.normalize.specs.OnceLaws.{scratch-part}
 use Rattle.normalize.specs.CallLaws.{running-begins, running-ready, running-on, fewer, ended}
@@ -94,7 +95,7 @@ normalize-once-requires c κs =
     let at-loop = c .before .before .before .before .before .before in
     let start = at-loop .before .before .before .before .before .before .before in
     let inv = at-loop .loop .inv in (
-      running-ready goldilocks (inv .0) _ (start .pre .0 .few) (omega (arith, start .pre .0 .room, inv .2)),
+      running-ready goldilocks (inv .0) _ (start .pre .0 .few) (rw (same-room (at-loop .loop .work) (start .args .work .now) (inv .2)) (start .pre .0 .room)),
       scratch-part (start .pre .1) _ (omega (arith, inv .0 .lost)) _ _ _ _ (inv .3) (inv .4) (inv .5) (inv .6),
     )
 

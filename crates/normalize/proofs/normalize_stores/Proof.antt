@@ -4,9 +4,6 @@ use borrow.Author.Needs.{needs}
 use Rattle.normalize.proofs.normalize_stores.Statement.{statement}
 use Rattle.normalize.proofs.normalize_stores.Tie as tie
 
-mul-room-check : tie.Need-mul-room-check
-mul-room-check c = search needs
-
 room-check-requires : tie.Need-room-check-requires
 room-check-requires c κs = search needs
 
@@ -18,8 +15,8 @@ returns c =
     let at-room-check = c .before .before in
     at-room-check .room-check .ensures ∙ refused-then _ _ (bad-told (at-room-check .room-check .ensures) (c .before .is-refused .ensures) (c .if1 .taken))
 
-mul-room-check-2 : tie.Need-mul-room-check-2
-mul-room-check-2 c = search needs
+mul-room-check : tie.Need-mul-room-check
+mul-room-check c = search needs
 
 room-check-requires-2 : tie.Need-room-check-requires-2
 room-check-requires-2 c κs = search needs
@@ -33,10 +30,9 @@ pub normalize-stores-spec : {M : Type 1} → statement M
 normalize-stores-spec =
     tie.close
     (tie.spec
-    mul-room-check
     room-check-requires
     is-refused-requires
     returns
-    mul-room-check-2
+    mul-room-check
     room-check-requires-2
     returns-2)
