@@ -1,14 +1,14 @@
 -- Requests on a store: what each kind asks of its operands, what it comes to, and what entering it leaves.
 use Prim.Native.Nat.{ℕ, _+_, _*_, _<_}
 use mathlib.Core.List.{List, [], _∷_, _++_}
-use mathlib.Core.Path.{_≡_, refl, sym, _∙_, ap, ap₂, subst}
+use mathlib.Core.Path.{_≡_, refl, sym, _∙_, ap, subst}
 use native.Mathlib.Numerals.{add-one}
 use native.Mathlib.Omega.{arith}
 use lib.ListN.{length}
 use Rattle.field.specs.Fields.{Field, Low, elementLaws}
 use Rattle.field.specs.declared.QuadFelt.{QuadFelt}
 use Rattle.dag.specs.View.{View, interleaved}
-use Rattle.dag.specs.Nodes.{tag, first, second, recordAt, nodes}
+use Rattle.dag.specs.Nodes.{recordAt, nodes}
 use Rattle.dag.specs.NodeLaws.{at-nodes, length-nodes}
 use Rattle.dag.specs.Lookup.{lookup}
 use Rattle.dag.specs.Store.{put}
@@ -18,8 +18,8 @@ use Rattle.dag.specs.declared.NodeKind.{NodeKind}
 use Rattle.dag.specs.declared.NodeKind.the-variants.{Input, Constant, Add, Sub, Mul, Neg}
 use Rattle.dag.specs.declared.Found.{Found}
 use Rattle.dag.specs.declared.Found.the-variants.{At, Missing}
-use Rattle.index.specs.Index.{half, noted, hash, bucketOf, nodeBucket}
-use Rattle.index.specs.NodeIndexLaws.{same-bucket, index-more}
+use Rattle.index.specs.Index.{half, noted, nodeBucket}
+use Rattle.index.specs.NodeIndexLaws.{index-more}
 use Rattle.builder.specs.Steps.{outcome, mulOutcome, negOutcome, addOutcome, subOutcome, interned, intern, enter, step}
 use Rattle.builder.specs.StepLaws.{OutcomeFine, outcome-fine, Grown, step-grown}
 use Rattle.builder.specs.OutcomeLaws.{list-fine}
@@ -171,14 +171,13 @@ module _ (field : Field) where
     noted-place o i links e h room = record { pushed = pushed-place o i e h; index = room .index }
 
     -- a record appended and noted
-    pub noted-node : (o : Outcome) (z : NodeKind) (after links later : List ℕ) (t a b : ℕ) → o ≡ resolved field (nodes (interleaved s) n) n x → o ≡ Node z → after ≡ put s n z → Room s n links
-        → t ≡ tag z → a ≡ first z → b ≡ second z → later ≡ noted links n (bucketOf (half links) (hash t a b))
+    pub noted-node : (o : Outcome) (z : NodeKind) (after links later : List ℕ) → o ≡ resolved field (nodes (interleaved s) n) n x → o ≡ Node z → after ≡ put s n z → Room s n links
+        → later ≡ noted links n (nodeBucket (half links) z)
         → Noted field s n x after later (record { place = n; count = n + 1 })
-    noted-node o z after links later t a b e h k room et ea eb el =
+    noted-node o z after links later e h k room el =
         record {
           pushed = pushed-node o z after e h k (room .room);
-          index = rw (k, add-one n, nodes-put s n z (room .room), is) (index-more (nodes (interleaved s) n) links z (room .index) (rw (length-nodes (interleaved s) n) (room .link-room)));
+          index =
+              rw (k, add-one n, nodes-put s n z (room .room), el ∙ ap (λ m. noted links m (nodeBucket (half links) z)) (sym (length-nodes (interleaved s) n)))
+              (index-more (nodes (interleaved s) n) links z (room .index) (rw (length-nodes (interleaved s) n) (room .link-room)));
         }
-      where
-        is : later ≡ noted links (length (nodes (interleaved s) n)) (nodeBucket (half links) z)
-        is = el ∙ ap₂ (noted links) (sym (length-nodes (interleaved s) n)) (same-bucket (half links) et ea eb)

@@ -15,7 +15,7 @@ ghost use Rattle.field.specs.Field.{quad};
 ghost use Rattle.dag.specs.View.{interleaved};
 ghost use Rattle.dag.specs.Nodes as Nodes;
 ghost use Rattle.dag.specs.Store as Store;
-ghost use Rattle.index.specs.Index.{half, Usable, NodeIndex};
+ghost use Rattle.index.specs.Index.{half, Usable, noted, nodeBucket, NodeIndex};
 ghost use Rattle.builder.specs.Steps as Steps;
 ghost use Rattle.builder.specs.Contracts as Contracts;
 ghost use Rattle.builder.specs.Calls as Calls;
@@ -313,6 +313,20 @@ pub fn resolve(list: &[u64], n: usize, links: &[u64], x: NodeKind) -> Outcome
     }
 }
 
+// Notes in an index that record y is at place n.
+pub fn note(links: &mut [u64], n: usize, y: NodeKind)
+    requires { ⌜ Usable (now links) × (n < half (now links)) ⌝ }
+    ensures { λ _. ⌜ now (links .exit) ≡ noted (now (links .entry)) n (nodeBucket (half (now (links .entry))) y) ⌝ }
+{
+    index::note(
+        links,
+        n,
+        dag::tag_of(y),
+        dag::first_of(y),
+        dag::second_of(y),
+    );
+}
+
 // Enters one request into a list of n records and its index, which have room for one more.
 pub fn push(list: &mut [u64], n: usize, links: &mut [u64], x: NodeKind) -> Entered
     requires { ⌜ Contracts.Request goldilocks (interleaved (now list)) n x × Contracts.Room (now list) n (now links) ⌝ }
@@ -323,13 +337,7 @@ pub fn push(list: &mut [u64], n: usize, links: &mut [u64], x: NodeKind) -> Enter
         Outcome::Place(i) => Entered { place: i, count: n },
         Outcome::Node(y) => {
             dag::put_node(list, n, y);
-            index::note(
-                links,
-                n,
-                dag::tag_of(y),
-                dag::first_of(y),
-                dag::second_of(y),
-            );
+            note(links, n, y);
             Entered {
                 place: n,
                 count: n + 1,

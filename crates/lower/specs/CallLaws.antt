@@ -32,7 +32,7 @@ use Rattle.columns.specs.PrepareLaws.{prepared}
 use Rattle.periodic.specs.Builder.{Run}
 use Rattle.periodic.specs.Periodic.{buildPeriodicNodes}
 use Rattle.index.specs.Index.{NodeIndex}
-use Rattle.periodic.specs.Contracts.{storeWords, links, Holds, Ready, Listing}
+use Rattle.periodic.specs.Contracts.{recordWords, storeWords, links, Holds, Ready, Listing}
 use Rattle.periodic.specs.StoreLaws.{Same, same-records, same-sound, links-back}
 use Rattle.lower.specs.Lower.{longestFrom, longest, periodGood, lowerCheck, lowered, roomCheck, wholeCheck, lowerAnswer, lowerResult, lowerPlaces, lowerWork}
 use Rattle.lower.specs.Contracts.{Passed, Stored, hasRoom, HandedOver, Finished}
@@ -135,18 +135,18 @@ filled-told a b c m n h e k q = q ∙ rw (e, k, length-take-le m a h)
 
 module _ (field : Field) where
   module _ (s : List ℕ) (n : ℕ) (few : n ≤ mostRecords) where
-    pub stored : (u ys : List ℕ) → take (3 * n) u ≡ take (3 * n) s → length u ≡ storeWords → NodeIndex (nodes s n) ys → length ys ≡ length (take (length u - 3 * mostRecords) (drop (3 * mostRecords) u))
-        → Stored field s n (putMid (3 * mostRecords) (length u - 3 * mostRecords) u ys)
-    stored u ys e long d kept = record { long = same-len-mid (3 * mostRecords) (length u - 3 * mostRecords) u ys kept ∙ long; same = same; indexed = rw (links-back u ys long, drop-at (take (3 * mostRecords) u) ys (3 * mostRecords) front) d }
+    pub stored : (u ys : List ℕ) → take (3 * n) u ≡ take (3 * n) s → length u ≡ storeWords → NodeIndex (nodes s n) ys → length ys ≡ length (take (length u - recordWords) (drop recordWords u))
+        → Stored field s n (putMid recordWords (length u - recordWords) u ys)
+    stored u ys e long d kept = record { long = same-len-mid recordWords (length u - recordWords) u ys kept ∙ long; same = same; indexed = rw (links-back u ys long, drop-at (take recordWords u) ys recordWords front) d }
       where
-        front : length (take (3 * mostRecords) u) ≡ 3 * mostRecords
-        front = length-take-le (3 * mostRecords) u (omega arith)
+        front : length (take recordWords u) ≡ recordWords
+        front = length-take-le recordWords u (omega arith)
 
-        same : Same field s (putMid (3 * mostRecords) (length u - 3 * mostRecords) u ys) n
+        same : Same field s (putMid recordWords (length u - recordWords) u ys) n
         same k h =
             rw (links-back u ys long)
             (sym (getD-take (3 * n) s k 0 h) ∙ (ap (λ l. getD l k 0) (sym e) ∙ (getD-take (3 * n) u k 0 h
-            ∙ sym (List·getD-append (take (3 * mostRecords) u) ys 0 k (omega (arith, front)) ∙ getD-take (3 * mostRecords) u k 0 (omega arith)))))
+            ∙ sym (List·getD-append (take recordWords u) ys 0 k (omega (arith, front)) ∙ getD-take recordWords u k 0 (omega arith)))))
 
     module _ (sound : Sound (field .bounds) s n) (t : List ℕ) (d : Stored field s n t) where
       stored-sound : Sound (field .bounds) t n

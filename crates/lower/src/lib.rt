@@ -225,7 +225,7 @@ fn lower_ready(
     ensures { λ r. ⌜ Contracts.Finished goldilocks (now (list .entry)) n (now (lengths .entry)) (now (entries .entry)) period (now (result .entry)) (now (places .entry)) r (now (result .exit)) (now (places .exit)) × (now (work .exit) ≡ replicate (length (now (work .entry))) blank) ⌝ }
 {
     dag::blank_from(work, 0);
-    let mut store = [0u64; 5 * dag::MOST_RECORDS];
+    let mut store = [0u64; periodic::STORE_WORDS];
     lower_with(
         list,
         n,

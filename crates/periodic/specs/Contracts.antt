@@ -1,28 +1,32 @@
--- Computations run in a store of 4,096 records: what the functions ask and say. A count above 4,096 stands for every list that is too long.
+-- Computations run in a store with room for 4,097 records: what the functions ask and say. A count above 4,096 stands for every list that is too long.
 use Prim.Native.Nat.{ℕ, _+_, _*_, _<_, _≤_}
 use mathlib.Core.List.{List, [], _++_}
 use mathlib.Core.Path.{_≡_}
 use lib.ListN.{getD, length, take, drop}
 use Rattle.field.specs.Fields.{Field, modulus}
 use Rattle.dag.specs.Nodes.{mostRecords, nodes}
-use Rattle.dag.specs.Store.{Sound, put}
+use Rattle.dag.specs.Store.{Sound}
 use Rattle.dag.specs.declared.NodeKind.{NodeKind}
 use Rattle.index.specs.Index as Index
 use Rattle.builder.specs.declared.Entered.{Entered}
 use Rattle.columns.specs.Columns.{support}
 use Rattle.periodic.specs.Builder.{Builder}
 
--- the words of a store: 4,096 records of three words, and an index of two words for each
+-- the words of a store's records: there is room for one more than a list may have
+abbrev pub recordWords : ℕ
+recordWords = 3 * (mostRecords + 1)
+
+-- the words of a store: its records, and an index of two words for each
 abbrev pub storeWords : ℕ
-storeWords = 5 * mostRecords
+storeWords = 5 * (mostRecords + 1)
 
 -- the index of a store
 abbrev pub links : List ℕ → List ℕ
-links s = drop (3 * mostRecords) s
+links s = drop recordWords s
 
 -- a store whose index has the record y at place n noted
 unfoldable pub noted : List ℕ → ℕ → NodeKind → List ℕ
-noted s n y = take (3 * mostRecords) s ++ Index.noted (links s) n (Index.nodeBucket (Index.half (links s)) y)
+noted s n y = take recordWords s ++ Index.noted (links s) n (Index.nodeBucket (Index.half (links s)) y)
 
 module _ (field : Field) where
   -- a store of n records holds the list l
@@ -63,12 +67,6 @@ module _ (field : Field) where
   pub record Listing (s : List ℕ) (n : ℕ) (m : Builder (List ℕ)) (after : List ℕ) (k : ℕ) (places : List ℕ) (c : ℕ) : Type 0 where
     pub ran : Ran s n m after k (λ ps. take c places ≡ ps)
     pub inside : AllInside k (take c places)
-
--- the record y was appended and noted, where the list was not full
-pub record Appended (s : List ℕ) (n : ℕ) (y : NodeKind) (after : List ℕ) (r : Entered) : Type 0 where
-  pub counts : r .count ≡ n + 1
-  pub written : n < mostRecords → (after ≡ noted (put s n y) n y) × (r .place ≡ n)
-  pub full : mostRecords ≤ n → after ≡ s
 
 module _ (field : Field) where
   -- the twiddles of a sparse term

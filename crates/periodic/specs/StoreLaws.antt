@@ -14,13 +14,11 @@ use Rattle.dag.specs.Store.{Sound, put}
 use Rattle.dag.specs.declared.NodeKind.{NodeKind}
 use Rattle.index.specs.Index as Index
 use Rattle.index.specs.IndexLaws.{length-noted}
-use Rattle.index.specs.NodeIndexLaws.{same-bucket}
-use Rattle.builder.specs.Contracts.{Request, resolved, Pushed, Room, Noted}
+use Rattle.builder.specs.Contracts.{Request, resolved, Pushed, Noted}
 use Rattle.builder.specs.RequestLaws.{noted-node}
 use Rattle.builder.specs.declared.Outcome.{Outcome}
 use Rattle.builder.specs.declared.Outcome.the-variants.{Node}
-use Rattle.builder.specs.declared.Entered.{Entered}
-use Rattle.periodic.specs.Contracts.{storeWords, links, noted}
+use Rattle.periodic.specs.Contracts.{recordWords, storeWords, links, noted}
 
 module _ (field : Field) where
   -- stores that begin with the same words hold the same records
@@ -44,8 +42,8 @@ module _ (field : Field) where
     same-sound n room a d = record { room = room; good = sym (same-checks n a) ∙ d .good }
 
 -- the index has two words for each record
-pub half-links : (s : List ℕ) → length s ≡ storeWords → Index.half (links s) ≡ mostRecords
-half-links s e = omega (arith, length-drop (3 * mostRecords) s)
+pub half-links : (s : List ℕ) → length s ≡ storeWords → Index.half (links s) ≡ mostRecords + 1
+half-links s e = omega (arith, length-drop recordWords s)
 
 pub usable-links : (s : List ℕ) → length s ≡ storeWords → Index.Usable (links s)
 usable-links s e = record { some = omega (arith, half-links s e); few = omega (arith, half-links s e) }
@@ -53,45 +51,45 @@ usable-links s e = record { some = omega (arith, half-links s e); few = omega (a
 module _ (field : Field) where
   -- a store with place n noted has the same records
   module _ (s : List ℕ) (n : ℕ) (y : NodeKind) (e : length s ≡ storeWords) where
-    front : length (take (3 * mostRecords) s) ≡ 3 * mostRecords
-    front = length-take-le (3 * mostRecords) s (omega arith)
+    front : length (take recordWords s) ≡ recordWords
+    front = length-take-le recordWords s (omega arith)
 
     pub noted-long : length (noted s n y) ≡ length s
     unfolding noted
     noted-long =
-        length-append (take (3 * mostRecords) s) (Index.noted (links s) n (Index.nodeBucket (Index.half (links s)) y))
-        ∙ omega (arith, front, length-noted (links s) n (Index.nodeBucket (Index.half (links s)) y), length-drop (3 * mostRecords) s)
+        length-append (take recordWords s) (Index.noted (links s) n (Index.nodeBucket (Index.half (links s)) y))
+        ∙ omega (arith, front, length-noted (links s) n (Index.nodeBucket (Index.half (links s)) y), length-drop recordWords s)
 
-    pub noted-same : (m : ℕ) → m ≤ mostRecords → Same field s (noted s n y) m
+    pub noted-same : (m : ℕ) → m ≤ mostRecords + 1 → Same field s (noted s n y) m
     unfolding noted
     noted-same m h k l =
-        sym (List·getD-append (take (3 * mostRecords) s) (Index.noted (links s) n (Index.nodeBucket (Index.half (links s)) y)) 0 k (omega (arith, front)) ∙ getD-take (3 * mostRecords) s k 0 (omega arith))
+        sym (List·getD-append (take recordWords s) (Index.noted (links s) n (Index.nodeBucket (Index.half (links s)) y)) 0 k (omega (arith, front)) ∙ getD-take recordWords s k 0 (omega arith))
 
     pub noted-links : links (noted s n y) ≡ Index.noted (links s) n (Index.nodeBucket (Index.half (links s)) y)
     unfolding noted
-    noted-links = drop-at (take (3 * mostRecords) s) (Index.noted (links s) n (Index.nodeBucket (Index.half (links s)) y)) (3 * mostRecords) front
+    noted-links = drop-at (take recordWords s) (Index.noted (links s) n (Index.nodeBucket (Index.half (links s)) y)) recordWords front
 
 -- the index lent, and back again
-pub links-part : (s : List ℕ) → take (length s - 3 * mostRecords) (drop (3 * mostRecords) s) ≡ links s
-links-part s = take-all (length s - 3 * mostRecords) (drop (3 * mostRecords) s) (omega (arith, length-drop (3 * mostRecords) s))
+pub links-part : (s : List ℕ) → take (length s - recordWords) (drop recordWords s) ≡ links s
+links-part s = take-all (length s - recordWords) (drop recordWords s) (omega (arith, length-drop recordWords s))
 
-pub links-back : (s ys : List ℕ) → length s ≡ storeWords → putMid (3 * mostRecords) (length s - 3 * mostRecords) s ys ≡ take (3 * mostRecords) s ++ ys
+pub links-back : (s ys : List ℕ) → length s ≡ storeWords → putMid recordWords (length s - recordWords) s ys ≡ take recordWords s ++ ys
 links-back s ys e =
-    ap (λ r. take (3 * mostRecords) s ++ (ys ++ r)) (post-is (3 * mostRecords) (length s) s (omega arith) ∙ drop-length s) ∙ ap (λ r. take (3 * mostRecords) s ++ r) (append-nil ys)
+    ap (λ r. take recordWords s ++ (ys ++ r)) (post-is recordWords (length s) s (omega arith) ∙ drop-length s) ∙ ap (λ r. take recordWords s ++ r) (append-nil ys)
 
-pub noted-told : (s : List ℕ) (n : ℕ) (y : NodeKind) (t a b : ℕ) (ys : List ℕ) → length s ≡ storeWords → t ≡ tag y → a ≡ first y → b ≡ second y
-    → ys ≡ Index.noted (take (length s - 3 * mostRecords) (drop (3 * mostRecords) s)) n (Index.bucketOf (Index.half (take (length s - 3 * mostRecords) (drop (3 * mostRecords) s))) (Index.hash t a b))
-    → putMid (3 * mostRecords) (length s - 3 * mostRecords) s ys ≡ noted s n y
+pub noted-told : (s : List ℕ) (n : ℕ) (y : NodeKind) (ys : List ℕ) → length s ≡ storeWords
+    → ys ≡ Index.noted (take (length s - recordWords) (drop recordWords s)) n (Index.nodeBucket (Index.half (take (length s - recordWords) (drop recordWords s))) y)
+    → putMid recordWords (length s - recordWords) s ys ≡ noted s n y
 unfolding noted
-noted-told s n y t a b ys long et ea eb e =
-    links-back s ys long ∙ ap (λ r. take (3 * mostRecords) s ++ r) (e ∙ (ap (λ k. Index.noted k n (Index.bucketOf (Index.half k) (Index.hash t a b))) (links-part s) ∙ ap (Index.noted (links s) n) (same-bucket (Index.half (links s)) et ea eb)))
+noted-told s n y ys long e =
+    links-back s ys long ∙ ap (λ r. take recordWords s ++ r) (e ∙ ap (λ k. Index.noted k n (Index.nodeBucket (Index.half k) y)) (links-part s))
 
 -- a record that is put leaves the index as it is
-pub put-links : (s : List ℕ) (n : ℕ) (y : NodeKind) → n < mostRecords → links (put s n y) ≡ links s
+pub put-links : (s : List ℕ) (n : ℕ) (y : NodeKind) → n ≤ mostRecords → links (put s n y) ≡ links s
 unfolding put
 put-links s n y h =
-    drop-set-lt (3 * mostRecords) (set (set s (3 * n) (tag y)) (3 * n + 1) (first y)) (3 * n + 2) (second y) (omega arith)
-    ∙ (drop-set-lt (3 * mostRecords) (set s (3 * n) (tag y)) (3 * n + 1) (first y) (omega arith) ∙ drop-set-lt (3 * mostRecords) s (3 * n) (tag y) (omega arith))
+    drop-set-lt recordWords (set (set s (3 * n) (tag y)) (3 * n + 1) (first y)) (3 * n + 2) (second y) (omega arith)
+    ∙ (drop-set-lt recordWords (set s (3 * n) (tag y)) (3 * n + 1) (first y) (omega arith) ∙ drop-set-lt recordWords s (3 * n) (tag y) (omega arith))
 
 pub put-long : (s : List ℕ) (n : ℕ) (y : NodeKind) → length (put s n y) ≡ length s
 unfolding put
@@ -99,7 +97,7 @@ put-long s n y = simp length-set
 
 module _ (field : Field) where
   -- a request whose record was put and noted
-  module _ (s : List ℕ) (n : ℕ) (x : NodeKind) (req : Request field s n x) (o : Outcome) (y : NodeKind) (eo : o ≡ resolved field (nodes s n) n x) (q : o ≡ Node y) (long : length s ≡ storeWords) (h : n < mostRecords)
+  module _ (s : List ℕ) (n : ℕ) (x : NodeKind) (req : Request field s n x) (o : Outcome) (y : NodeKind) (eo : o ≡ resolved field (nodes s n) n x) (q : o ≡ Node y) (long : length s ≡ storeWords) (h : n ≤ mostRecords)
       (d : Index.NodeIndex (nodes s n) (links s)) where
     pub entered-noted : Pushed field s n x (noted (put s n y) n y) (record { place = n; count = n + 1 }) × Index.NodeIndex (nodes (noted (put s n y) n y) (n + 1)) (links (noted (put s n y) n y))
     entered-noted = (
@@ -119,7 +117,7 @@ module _ (field : Field) where
         long-put = put-long s n y ∙ long
 
         told : Noted field s n x (put s n y) (Index.noted (links s) n (Index.nodeBucket (Index.half (links s)) y)) (record { place = n; count = n + 1 })
-        told = noted-node field s n x req o y (put s n y) (links s) _ (tag y) (first y) (second y) eo q refl (record { room = omega arith; index = d; link-room = omega (arith, half-links s long) }) refl refl refl refl
+        told = noted-node field s n x req o y (put s n y) (links s) _ eo q refl (record { room = omega arith; index = d; link-room = omega (arith, half-links s long) }) refl
 
         same : Same field (put s n y) (noted (put s n y) n y) (n + 1)
         same = noted-same field (put s n y) n y long-put (n + 1) (omega arith)

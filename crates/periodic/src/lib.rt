@@ -1,5 +1,5 @@
-// periodic.rs: the nodes of periodic columns, built in a store of 4,096 records, with their index behind them. A count above 4,096 says that the list
-// is too long.
+// periodic.rs: the nodes of periodic columns, built in a store with room for 4,097 records, with their index behind them. A count above 4,096 says
+// that the list is too long.
 use builder::Entered;
 use builder::Outcome;
 use dag::NodeKind;
@@ -7,8 +7,8 @@ use field::QuadFelt;
 ghost use mathlib.Core.Path.{_≡_};
 ghost use mathlib.Core.Bool.{true};
 ghost use mathlib.Core.List.{[]};
-ghost use Prim.Native.Nat.{ℕ, _+_, _*_, _-_, _<_, _≤_};
-ghost use lib.ListN.{length, getD, take};
+ghost use Prim.Native.Nat.{_+_, _-_, _<_, _≤_};
+ghost use lib.ListN.{length, getD};
 ghost use Rattle.field.specs.Fields.{goldilocks};
 ghost use Rattle.field.specs.Field.{p, quad, Below};
 ghost use Rattle.dag.specs.Nodes.{mostRecords, nodes};
@@ -16,7 +16,6 @@ ghost use Rattle.dag.specs.WellFormed.{Fine};
 ghost use Rattle.index.specs.Index.{NodeIndex};
 ghost use Rattle.builder.specs.Contracts.{Request, resolved};
 ghost use Rattle.columns.specs.Prepare.{allBelow};
-ghost use Rattle.dag.specs.Arrays.{padded};
 ghost use Rattle.columns.specs.Contracts as ColumnContracts;
 ghost use Rattle.periodic.specs.Builder as Builder;
 ghost use Rattle.periodic.specs.Periodic as Periodic;
@@ -26,44 +25,14 @@ ghost use Rattle.periodic.specs.Contracts as Contracts;
 const ZK: u64 = 3096224743817216;
 
 // The words of a store's records; those of its index follow.
-pub const RECORD_WORDS: usize = 12288;
+pub const RECORD_WORDS: usize = 12291;
 
-// Notes that record y is at place n.
-fn note(list: &mut [u64], n: usize, y: NodeKind)
-    requires { ⌜ (length (now list) ≡ Contracts.storeWords) × (n < mostRecords) ⌝ }
-    ensures { λ _. ⌜ now (list .exit) ≡ Contracts.noted (now (list .entry)) n y ⌝ }
-{
-    index::note(
-        &mut list[RECORD_WORDS..],
-        n,
-        dag::tag_of(y),
-        dag::first_of(y),
-        dag::second_of(y),
-    );
-}
-
-// Appends a new record where the list is not full.
-fn append(list: &mut [u64], n: usize, y: NodeKind) -> Entered
-    requires { ⌜ (length (now list) ≡ Contracts.storeWords) × (n ≤ mostRecords) ⌝ }
-    ensures { λ r. ⌜ Contracts.Appended (now (list .entry)) n y (now (list .exit)) r ⌝ }
-{
-    if n < dag::MOST_RECORDS {
-        dag::put_node(list, n, y);
-        note(list, n, y);
-        return Entered {
-            place: n,
-            count: n + 1,
-        };
-    }
-    Entered {
-        place: 0,
-        count: n + 1,
-    }
-}
+// The words of a store.
+pub const STORE_WORDS: usize = 20485;
 
 // The place of a request's result, or the new record that it needs.
 fn resolve(list: &[u64], n: usize, x: NodeKind) -> Outcome
-    requires { ⌜ Request goldilocks (now list) n x × NodeIndex (nodes (now list) n) (Contracts.links (now list)) × (3 * mostRecords ≤ length (now list)) ⌝ }
+    requires { ⌜ Request goldilocks (now list) n x × NodeIndex (nodes (now list) n) (Contracts.links (now list)) × (Contracts.recordWords ≤ length (now list)) ⌝ }
     ensures { λ r. ⌜ r ≡ resolved goldilocks (nodes (now (list .entry)) n) n x ⌝ }
 {
     builder::resolve(list, n, &list[RECORD_WORDS..], x)
@@ -80,7 +49,14 @@ fn enter(list: &mut [u64], n: usize, x: NodeKind) -> Entered
     let result = resolve(list, n, x);
     match result {
         Outcome::Place(i) => Entered { place: i, count: n },
-        Outcome::Node(y) => append(list, n, y),
+        Outcome::Node(y) => {
+            dag::put_node(list, n, y);
+            builder::note(&mut list[RECORD_WORDS..], n, y);
+            Entered {
+                place: n,
+                count: n + 1,
+            }
+        }
     }
 }
 

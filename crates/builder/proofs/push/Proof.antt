@@ -16,20 +16,11 @@ enum-known-result-2 c = search needs
 put-node-requires : tie.Need-put-node-requires
 put-node-requires c κs = search needs
 
-tag-of-requires : tie.Need-tag-of-requires
-tag-of-requires c κs = search needs
-
-first-of-requires : tie.Need-first-of-requires
-first-of-requires c κs = search needs
-
-second-of-requires : tie.Need-second-of-requires
-second-of-requires c κs = search needs
-
 note-requires : tie.Need-note-requires
 note-requires c κs = search needs
 
-add-t21 : tie.Need-add-t21
-add-t21 c = search needs
+add-t18 : tie.Need-add-t18
+add-t18 c = search needs
 
 same-length : tie.Need-same-length
 same-length c = search needs
@@ -54,16 +45,12 @@ same-length-4 c = search needs
 returns-2 : tie.Need-returns-2
 returns-2 c =
     let at-note = c .before .before in
-    let at-second-of = at-note .before in
-    let at-first-of = at-second-of .before in
-    let at-tag-of = at-first-of .before in
-    let at-put-node = at-tag-of .before .before .before .before in
+    let at-put-node = at-note .before .before .before .before in
     let at-result2 = at-put-node .before .before .before in
     let at-resolve = at-result2 .before .before in
     let start = at-resolve .before .before .before .before .before in
-    noted-node goldilocks (start .args .list .now) (start .args .n) (start .args .x) (start .pre .0) _ _ _ _ _ _ _ _ (at-resolve .resolve .ensures)
-    (at-result2 .result2 .given .1) (at-put-node .put-node .ensures) (start .pre .1) (at-tag-of .tag-of .ensures) (at-first-of .first-of .ensures)
-    (at-second-of .second-of .ensures) (at-note .note .ensures)
+    noted-node goldilocks (start .args .list .now) (start .args .n) (start .args .x) (start .pre .0) _ _ _ _ _ (at-resolve .resolve .ensures)
+    (at-result2 .result2 .given .1) (at-put-node .put-node .ensures) (start .pre .1) (at-note .note .ensures)
 
 pub push-spec : {M : Type 1} → statement M
 push-spec =
@@ -73,11 +60,8 @@ push-spec =
     enum-known-result
     enum-known-result-2
     put-node-requires
-    tag-of-requires
-    first-of-requires
-    second-of-requires
     note-requires
-    add-t21
+    add-t18
     same-length
     same-length-2
     returns

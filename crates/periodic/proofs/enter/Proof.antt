@@ -1,6 +1,8 @@
+use mathlib.Core.Path.{_∙_}
 use native.Mathlib.Omega.{arith}
 use Rattle.field.specs.Fields.{goldilocks}
 use Rattle.periodic.specs.EnterLaws.{enter-long, enter-place, enter-node}
+use Rattle.periodic.specs.StoreLaws.{noted-told}
 use borrow.Author.Needs.{needs}
 use Rattle.periodic.proofs.enter.Statement.{statement}
 use Rattle.periodic.proofs.enter.Tie as tie
@@ -23,8 +25,23 @@ enum-known-result c = search needs
 enum-known-result-2 : tie.Need-enum-known-result-2
 enum-known-result-2 c = search needs
 
-append-requires : tie.Need-append-requires
-append-requires c κs = search needs
+put-node-requires : tie.Need-put-node-requires
+put-node-requires c κs = search needs
+
+sub-note : tie.Need-sub-note
+sub-note c = search needs
+
+part-note-start : tie.Need-part-note-start
+part-note-start c = search needs
+
+part-note-end : tie.Need-part-note-end
+part-note-end c = search needs
+
+note-requires : tie.Need-note-requires
+note-requires c κs = search needs
+
+add-t15 : tie.Need-add-t15
+add-t15 c = search needs
 
 same-length : tie.Need-same-length
 same-length c = search needs
@@ -44,15 +61,17 @@ same-length-2 c = search needs
 
 returns-3 : tie.Need-returns-3
 returns-3 c =
-    let at-append = c .before .before in
-    let at-result2 = at-append .before .before .before in
+    let at-note = c .before .before in
+    let at-put-node = at-note .before .before .before .before in
+    let at-result2 = at-put-node .before .before .before in
     let at-resolve = at-result2 .before .before in
     let at-if1 = at-resolve .before .before in
     let start = at-if1 .before .before in
     enter-node goldilocks (start .args .list .now) (start .args .n) (start .args .x) (at-if1 .if1 .left)
     (record { sound = start .pre .0 .sound (at-if1 .if1 .left); fine = start .pre .1 (at-if1 .if1 .left) })
     (start .pre .0 .indexed (at-if1 .if1 .left)) _ (at-resolve .resolve .ensures) _ _ _ (start .pre .0 .long) (at-result2 .result2 .given .1)
-    (at-append .append .ensures)
+    (at-put-node .put-node .ensures)
+    (noted-told _ _ _ _ (at-put-node .put-node .kept .0 ∙ start .pre .0 .long) (at-note .note .ensures))
 
 pub enter-spec : {M : Type 1} → statement M
 enter-spec =
@@ -62,7 +81,12 @@ enter-spec =
     resolve-requires
     enum-known-result
     enum-known-result-2
-    append-requires
+    put-node-requires
+    sub-note
+    part-note-start
+    part-note-end
+    note-requires
+    add-t15
     same-length
     returns-2
     same-length-2

@@ -1,16 +1,9 @@
-use Rattle.periodic.specs.StoreLaws.{noted-told}
+use mathlib.Core.Path.{_∙_, ap}
+use Rattle.index.specs.Index.{half, noted}
+use Rattle.index.specs.NodeIndexLaws.{same-bucket}
 use borrow.Author.Needs.{needs}
-use Rattle.periodic.proofs.note.Statement.{statement}
-use Rattle.periodic.proofs.note.Tie as tie
-
-sub-note : tie.Need-sub-note
-sub-note c = search needs
-
-part-note-start : tie.Need-part-note-start
-part-note-start c = search needs
-
-part-note-end : tie.Need-part-note-end
-part-note-end c = search needs
+use Rattle.builder.proofs.note.Statement.{statement}
+use Rattle.builder.proofs.note.Tie as tie
 
 tag-of-requires : tie.Need-tag-of-requires
 tag-of-requires c κs = search needs
@@ -34,16 +27,13 @@ returns c =
     let at-first-of = at-second-of .before in
     let at-tag-of = at-first-of .before in
     let start = at-tag-of .before .before .before in
-    noted-told _ _ _ _ _ _ _ (start .pre .0) (at-tag-of .tag-of .ensures) (at-first-of .first-of .ensures) (at-second-of .second-of .ensures)
-    (at-note .note .ensures)
+    at-note .note .ensures ∙ ap (noted (start .args .links .now) (start .args .n))
+    (same-bucket (half (start .args .links .now)) (at-tag-of .tag-of .ensures) (at-first-of .first-of .ensures) (at-second-of .second-of .ensures))
 
 pub note-spec : {M : Type 1} → statement M
 note-spec =
     tie.close
     (tie.spec
-    sub-note
-    part-note-start
-    part-note-end
     tag-of-requires
     first-of-requires
     second-of-requires
