@@ -1,5 +1,5 @@
 -- From what the calls answer to the listing of the definition.
-use Prim.Native.Nat.{ℕ, _*_, _-_, _≤_}
+use Prim.Native.Nat.{ℕ, suc, _*_, _-_, _<_, _≤_}
 use mathlib.Core.List.{List, [], _∷_, _++_}
 use mathlib.Core.Path.{_≡_, refl, sym, _∙_, ap, ap₂}
 use native.Mathlib.Omega.{arith}
@@ -10,19 +10,21 @@ use Rattle.field.specs.Fields.{goldilocks}
 use Rattle.field.specs.Field.{quad, quad-laws}
 use Rattle.dag.specs.Nodes.{blank, nodes, wordsOf, filled}
 use Rattle.dag.specs.NodeLaws.{length-nodes}
-use Rattle.dag.specs.Refusals.{unlessRefused}
+use Rattle.dag.specs.Arrays.{padded}
+use Rattle.dag.specs.Check.{roomCheck}
+use Rattle.dag.specs.Roots.{rootsFrom, Inside}
+use Rattle.dag.specs.RootLaws.{roots-from, inside-one}
 use Rattle.dag.specs.declared.Refusal.{Refusal}
-use Rattle.dag.specs.declared.Checked.{Checked}
 use Rattle.dag.specs.declared.Checked.the-variants.{Good, Refused}
 use Rattle.builder.specs.OutcomeLaws.{list-fine}
-use Rattle.compact.specs.OperandLaws.{one-below}
+use Rattle.compact.specs.OperandLaws.{inside-below}
+use Rattle.compact.specs.Contracts.{AllBelow}
 use Rattle.dag.specs.WordLaws.{nodes-words}
 use Rattle.normalize.specs.Demand3.{never-more, as-many-roots}
-use Rattle.normalize.specs.Calls.{normalizeCheck, normalized, normalizeAnswer, normalizeResult}
-use Rattle.normalize.specs.CallLaws.{passed}
+use Rattle.normalize.specs.Calls.{answerOf, normalizeCheck, normalized, normalizeAnswer, normalizeResult}
+use Rattle.normalize.specs.CallLaws.{passed, answer-checked}
 use Rattle.normalize.specs.Contracts.{Passed}
 use Rattle.normalize.specs.declared.NormalizeAnswer.{NormalizeAnswer}
-use Rattle.normalize.specs.declared.NormalizeAnswer.the-variants as NormalizeAnswer'
 use Rattle.text.specs.Contracts.{Laid}
 use Rattle.house_file.specs.File.{fileCount, fileWords, heldCheck, fileCheck, readAnswer, readList}
 use Rattle.house_file.specs.declared.FileAnswer.the-variants as FileAnswer'
@@ -40,64 +42,63 @@ single (x ∷ []) e = refl
 single (x ∷ y ∷ l) e = absurd (omega arith)
 
 -- Normalise's answer, and what it tells of its tests
-module _ (s : List ℕ) (n root : ℕ) (result : List ℕ) (workWords : ℕ) where
-  answer : NormalizeAnswer
-  answer = normalizeAnswer goldilocks s n root (length result) workWords
+module _ (s : List ℕ) (n root : ℕ) (result : List ℕ) (workWords : ℕ) (a : NormalizeAnswer) (e : a ≡ normalizeAnswer goldilocks s n root (length result) workWords) where
+  tests-are : normalizeCheck goldilocks s n root (length result) workWords ≡ a .checked
+  tests-are = sym (ap (λ a. a .checked) e ∙ answer-checked goldilocks s n root (length result) workWords)
 
-  check : Checked
-  check = normalizeCheck goldilocks s n root (length result) workWords
+  pub words-refused : (r : Refusal) → a .checked ≡ Refused r → refusedLine r ≡ wordsListing s n root (length result) workWords
+  unfolding wordsListing
+  words-refused r f = rw (tests-are, f)
 
-  pub words-refused : (r : Refusal) → normalizeAnswer goldilocks s n root (length result) workWords ≡ NormalizeAnswer'.Refused r → refusedLine r ≡ wordsListing s n root (length result) workWords
-  unfolding check normalizeAnswer wordsListing
-  words-refused r e = go check e
-    where
-      go : (c : Checked)
-          → unlessRefused c NormalizeAnswer'.Refused (NormalizeAnswer'.Done (length (normalized goldilocks s n root .list)) (getD (normalized goldilocks s n root .roots) 0 0) (normalized goldilocks s n root .rounds)) ≡ NormalizeAnswer'.Refused r
-          → refusedLine r ≡ unlessRefused c refusedLine (listed (normalized goldilocks s n root))
-      go Good e = let z : _≡_ {A = ℕ} 0 1 = cc in absurd (omega arith)
-      go (Refused q) e = ap refusedLine (let z : r ≡ q = cc in z)
-
-  record Accepted (count place rounds : ℕ) : Type 0 where
+  module _ (f : a .checked ≡ Good) where
     good : normalizeCheck goldilocks s n root (length result) workWords ≡ Good
-    count-is : count ≡ length (normalized goldilocks s n root .list)
-    place-is : place ≡ getD (normalized goldilocks s n root .roots) 0 0
-    rounds-are : rounds ≡ normalized goldilocks s n root .rounds
+    good = tests-are ∙ f
 
-  module _ (count place rounds : ℕ) (e : normalizeAnswer goldilocks s n root (length result) workWords ≡ NormalizeAnswer'.Done count place rounds) where
-    accepted : Accepted count place rounds
+    answer-is : a ≡ answerOf (normalized goldilocks s n (root ∷ []))
     unfolding normalizeAnswer
-    accepted = go (normalizeCheck goldilocks s n root (length result) workWords) refl e
-      where
-        go : (c : Checked) → normalizeCheck goldilocks s n root (length result) workWords ≡ c
-            → unlessRefused c NormalizeAnswer'.Refused (NormalizeAnswer'.Done (length (normalized goldilocks s n root .list)) (getD (normalized goldilocks s n root .roots) 0 0) (normalized goldilocks s n root .rounds)) ≡ NormalizeAnswer'.Done count place rounds
-            → Accepted count place rounds
-        go Good g d = record { good = g; count-is = cc; place-is = cc; rounds-are = cc }
-        go (Refused q) g d = let z : _≡_ {A = ℕ} 0 1 = cc in absurd (omega arith)
+    answer-is = e ∙ rw good
 
-    ok : Passed goldilocks s n root (length result) workWords
-    ok = passed goldilocks s n root (length result) workWords (accepted .good)
+    ok : Passed goldilocks s n (rootsFrom (root ∷ [])) (length result) workWords
+    ok = passed goldilocks s n root (length result) workWords good
 
-    fewer : count ≤ n
+    fewer : a .count ≤ n
     unfolding normalized
-    fewer = let m = never-more quad (nodes s n) (root ∷ []) in let c = accepted .count-is in omega (arith, length-nodes s n)
+    fewer = let m = never-more quad (nodes s n) (root ∷ []) in let c = ap (λ a. a .count) answer-is in omega (arith, length-nodes s n)
 
     -- the answered list fits the store that holds it
-    pub may-list : (words : ℕ) → words ≡ length result → 3 * count ≤ words
-    may-list words f = let c = fewer in let q = ok .result-room in omega arith
+    pub may-list : (words : ℕ) → words ≡ length result → 3 * a .count ≤ words
+    may-list words g = let c = fewer in let q = ok .result-room in omega arith
 
-    roots-are : place ∷ [] ≡ normalized goldilocks s n root .roots
-    unfolding normalized
-    roots-are =
-        let inside = one-below (length (nodes s n)) root (let i = ok .inside in omega (arith, length-nodes s n)) in
-        ap (λ k. k ∷ []) (accepted .place-is) ∙ sym (single (normalized goldilocks s n root .roots) (as-many-roots quad quad-laws (nodes s n) (list-fine goldilocks s n (ok .sound)) (root ∷ []) inside))
+    new-root : ℕ
+    new-root = getD (normalized goldilocks s n (root ∷ []) .roots) 0 0
 
-    pub words-listed : (after : List ℕ) → after ≡ normalizeResult goldilocks s n root result workWords → answerText after count place rounds ≡ wordsListing s n root (length result) workWords
+    one-root : normalized goldilocks s n (root ∷ []) .roots ≡ new-root ∷ []
+    unfolding new-root normalized
+    one-root =
+        let low : AllBelow n (root ∷ []) = rw (roots-from (root ∷ [])) at (inside-below n (rootsFrom (root ∷ [])) (ok .rooted .inside)) in
+        single (normalized goldilocks s n (root ∷ []) .roots) (as-many-roots quad quad-laws (nodes s n) (list-fine goldilocks s n (ok .sound)) (root ∷ []) (rw (length-nodes s n) low))
+
+    roots-are : a .roots ≡ rootsFrom (new-root ∷ [])
+    roots-are = ap (λ a. a .roots) answer-is ∙ ap rootsFrom one-root
+
+    -- the answered root may be read
+    pub may-read : (0 < a .roots .count) × ((m : ℕ) × Inside m (a .roots))
+    unfolding rootsFrom
+    may-read = rw roots-are (omega arith, (suc new-root, inside-one (suc new-root) new-root (omega arith)))
+
+    root-is : getD (a .roots .places) 0 0 ≡ new-root
+    unfolding rootsFrom padded
+    root-is = ap (λ r. getD (r .places) 0 0) roots-are
+
+    pub words-listed : (after : List ℕ) (place : ℕ) → after ≡ normalizeResult goldilocks s n root result workWords → place ≡ getD (a .roots .places) 0 0
+        → answerText after (a .count) place (a .rounds) ≡ wordsListing s n root (length result) workWords
     unfolding answerText wordsListing normalizeResult filled
-    words-listed after f =
-        let l = normalized goldilocks s n root .list in
-        let held : after ≡ wordsOf l ++ replicate (length result - length (wordsOf l)) blank = f ∙ rw (accepted .good) in
-        let list-is : nodes after count ≡ l = ap₂ nodes held (accepted .count-is) ∙ nodes-words (replicate (length result - length (wordsOf l)) blank) l in
-        ap listed (λ i. record { list = list-is i; roots = roots-are i; rounds = accepted .rounds-are i }) ∙ rw (accepted .good)
+    words-listed after place g p =
+        let l = normalized goldilocks s n (root ∷ []) .list in
+        let held : after ≡ wordsOf l ++ replicate (length result - length (wordsOf l)) blank = g ∙ rw good in
+        let list-is : nodes after (a .count) ≡ l = ap₂ nodes held (ap (λ a. a .count) answer-is) ∙ nodes-words (replicate (length result - length (wordsOf l)) blank) l in
+        let roots : place ∷ [] ≡ normalized goldilocks s n (root ∷ []) .roots = ap (λ k. k ∷ []) (p ∙ root-is) ∙ sym one-root in
+        ap listed (λ i. record { list = list-is i; roots = roots i; rounds = answer-is i .rounds }) ∙ rw good
 
 module _ (file : List ℕ) (room : ℕ) (h : 3072 ≤ room) where
   pub file-refused : (r : Refusal) → readAnswer file room ≡ FileAnswer'.Refused r → refusedLine r ≡ listing file
@@ -120,7 +121,7 @@ module _ (file : List ℕ) (room : ℕ) (h : 3072 ≤ room) where
         ∙ take-at (fileWords file) (replicate (room - length (fileWords file)) blank) (3 * fileCount file) (length-words file (fileCount file))
 
     file-listed : (resultWords workWords : ℕ) → 3072 ≤ resultWords → 6144 ≤ workWords → wordsListing (fileWords file) count root resultWords workWords ≡ listing file
-    unfolding wordsListing listing normalizeCheck heldCheck fileCheck
+    unfolding wordsListing listing normalizeCheck roomCheck heldCheck fileCheck
     file-listed resultWords workWords k l =
         let d = read-done file room count root e in
         let m = ready .form .head .most in

@@ -38,11 +38,11 @@ refusedLine r = line (ascii "refused" ∷ decimal (number r) ∷ decimal (place 
 -- what Normalise answers to the list that a store holds
 unfoldable pub wordsListing : List ℕ → ℕ → ℕ → ℕ → ℕ → List ℕ
 wordsListing s n root resultWords workWords =
-    unlessRefused (normalizeCheck goldilocks s n root resultWords workWords) refusedLine (listed (normalized goldilocks s n root))
+    unlessRefused (normalizeCheck goldilocks s n root resultWords workWords) refusedLine (listed (normalized goldilocks s n (root ∷ [])))
 
 -- a whole file
 unfoldable pub listing : List ℕ → List ℕ
-listing file = unlessRefused (fileCheck file) refusedLine (listed (normalized goldilocks (fileWords file) (fileCount file) (fileRoot file)))
+listing file = unlessRefused (fileCheck file) refusedLine (listed (normalized goldilocks (fileWords file) (fileCount file) (fileRoot file ∷ [])))
 
 -- a listing of n records has no more bytes: 81 in its first line, 53 in each other
 abbrev pub mostBytes : ℕ → ℕ

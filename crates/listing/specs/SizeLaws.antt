@@ -82,7 +82,7 @@ first-most count root rounds c r k =
     omega (arith, length-first count root rounds, named-short (ascii "nodes") count 32 c, named-short (ascii "root") root 32 r, named-short (ascii "rounds") rounds 10 k)
 
 -- the listing of what Normalise answers
-listed-most : (s : List ℕ) (n root : ℕ) → Rooted (goldilocks .bounds) s n root → length (listed (normalized goldilocks s n root)) ≤ mostBytes n
+listed-most : (s : List ℕ) (n root : ℕ) → Rooted (goldilocks .bounds) s n root → length (listed (normalized goldilocks s n (root ∷ []))) ≤ mostBytes n
 unfolding listed normalized
 listed-most s n root h =
     let l = nodes s n in
@@ -169,7 +169,7 @@ unfolding listing fileCheck heldCheck
 listing-most file = go (fileCheck file) refl (near-file file)
   where
     go : (c : Checked) → fileCheck file ≡ c → Near mostFiled c
-        → length (unlessRefused c refusedLine (listed (normalized goldilocks (fileWords file) (fileCount file) (fileRoot file)))) ≤ mostBytes mostFiled
+        → length (unlessRefused c refusedLine (listed (normalized goldilocks (fileWords file) (fileCount file) (fileRoot file ∷ [])))) ≤ mostBytes mostFiled
     go Good e p =
         let both = then-good (formCheck file) (heldCheck file) e in
         let f = FileLaws.formed file (both .0) .head .most in

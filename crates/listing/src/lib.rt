@@ -1,8 +1,8 @@
 // The installers' listing: the text of what Normalise answers to a house file.
+use dag::Checked;
 use dag::NodeKind;
 use dag::Refusal;
 use house_file::FileAnswer;
-use normalize::NormalizeAnswer;
 use text::End;
 
 pub mod kinds;
@@ -108,13 +108,19 @@ fn list_words(
     ensures { λ r. ⌜ Laid (now (out .entry)) (Listing.wordsListing (now (list .entry)) n root (length (now (result .entry))) (length (now (work .entry)))) (now (out .exit)) r ⌝ }
 {
     let answer = normalize::normalize(list, n, root, result, work);
-    match answer {
-        NormalizeAnswer::Refused(r) => write_refused(r, out),
-        NormalizeAnswer::Done {
-            count,
-            root,
-            rounds,
-        } => write_listing(result, count, root, rounds, out),
+    let checked = answer.checked;
+    match checked {
+        Checked::Refused(r) => write_refused(r, out),
+        Checked::Good => {
+            let roots = answer.roots;
+            write_listing(
+                result,
+                answer.count,
+                dag::root_at(roots, 0),
+                answer.rounds,
+                out,
+            )
+        }
     }
 }
 

@@ -11,7 +11,7 @@ use Rattle.field.specs.Fields.{Field, elementLaws}
 use Rattle.dag.specs.View.{interleaved}
 use Rattle.dag.specs.Nodes.{mostRecords, nodes, blank}
 use Rattle.dag.specs.NodeLaws.{length-nodes}
-use Rattle.dag.specs.Refusals.{isRefused}
+use Rattle.dag.specs.Refusals.{isRefused, unlessRefused}
 use Rattle.dag.specs.Roots.{mostRoots, rootsOf, rootsFrom}
 use Rattle.dag.specs.RootLaws.{roots-from, length-roots, inside-from}
 use Rattle.dag.specs.Check.{roomCheck, listCheck}
@@ -21,7 +21,7 @@ use Rattle.dag.specs.Store.{Sound, written, stored, copiedRecords, blankedBehin
 use Rattle.dag.specs.declared.NodeKind.{NodeKind}
 use Rattle.dag.specs.declared.Roots.{Roots}
 use Rattle.dag.specs.declared.Checked.{Checked}
-use Rattle.dag.specs.declared.Checked.the-variants.{Good}
+use Rattle.dag.specs.declared.Checked.the-variants.{Good, Refused}
 use Rattle.builder.specs.OutcomeLaws.{list-fine}
 use Rattle.compact.specs.OperandLaws.{one-below, below-at, inside-below}
 use Rattle.compact.specs.CallLaws.{refused-is}
@@ -30,7 +30,7 @@ use Rattle.dag.specs.WordLaws.{nodes-written, sound-written, copied-written, bl
 use Rattle.normalize.specs.Rounds.{rounded, isKept, roundsFrom, normalize}
 use Rattle.normalize.specs.RoundLaws.{rounded-inside, rounded-many}
 use Rattle.normalize.specs.RepeatLaws.{kept-shorter, given-back}
-use Rattle.normalize.specs.Calls.{normalizeStores, normalizeCheck, normalized, normalizeAnswer, normalizeResult, normalizeWork}
+use Rattle.normalize.specs.Calls.{normalizeStores, answerOf, normalizeCheck, normalized, normalizeAnswer, normalizeResult, normalizeWork}
 use Rattle.normalize.specs.Contracts.{WellRooted, Ready, Once, Running, Ended, Passed, Finished}
 use Rattle.normalize.specs.declared.RoundKept.{RoundKept}
 use Rattle.normalize.specs.declared.NormalEnd.{NormalEnd}
@@ -181,6 +181,15 @@ module _ (field : Field) where
           list-is = ea ∙ (blanked-stored (field .bounds) mid result (r .count) (o .sound) k ∙ ap (stored result) list-is);
           work-is = eb ∙ rw (sub-zero (length last), ew);
         }
+
+  -- what the answer says of the tests
+  pub answer-checked : (s : List ℕ) (n root resultWords workWords : ℕ) → normalizeAnswer field s n root resultWords workWords .checked ≡ normalizeCheck field s n root resultWords workWords
+  unfolding normalizeAnswer
+  answer-checked s n root resultWords workWords = go (normalizeCheck field s n root resultWords workWords)
+    where
+      go : (c : Checked) → unlessRefused c (λ r. record { checked = Refused r; count = 0; roots = rootsFrom []; rounds = 0 }) (answerOf (normalized field s n (root ∷ []))) .checked ≡ c
+      go Good = refl
+      go (Refused r) = refl
 
   pub record Called (s : List ℕ) (n root : ℕ) (result work : List ℕ) (a : NormalizeAnswer) (after blanked : List ℕ) : Type 0 where
     pub answer : a ≡ normalizeAnswer field (interleaved s) n root (interleaved result .room) (interleaved work .room)
