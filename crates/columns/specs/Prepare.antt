@@ -4,6 +4,7 @@ use mathlib.Core.Bool.{Bool, true, _&&_}
 use mathlib.Core.List.{List, [], _∷_, _++_}
 use lib.Dec.{leb, ltb}
 use lib.ListN.{getD, length, take, drop, replicate}
+use Rattle.dag.specs.Arrays.{upTo, padded}
 use Rattle.dag.specs.Refusals.{firstRefused, need, _then_}
 use Rattle.dag.specs.declared.Refusal.the-variants.{StoreTooShort, Malformed, TooManyColumns, ColumnLength}
 use Rattle.dag.specs.declared.Checked.{Checked}

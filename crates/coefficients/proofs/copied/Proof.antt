@@ -6,18 +6,19 @@ use native.Mathlib.Omega.{arith}
 use lib.ListN.{length, getD}
 use Rattle.columns.specs.Prepare as Prepare
 use Rattle.dag.specs.ArrayLaws.{fill-next, fill-all}
+use Rattle.dag.specs.Arrays as Padded
 use Rattle.coefficients.specs.Arrays as Arrays
 use Rattle.coefficients.proofs.copied.Statement.{statement}
 use Rattle.coefficients.proofs.copied.Tie as tie
 
 abbrev Inv-loop : tie.InvT-loop
-Inv-loop col row₀ i₀ row i = (i ≤ length col) × (row ≡ Arrays.padded 0 128 (Arrays.upTo (λ k. getD col k 0) i))
+Inv-loop col row₀ i₀ row i = (i ≤ length col) × (row ≡ Padded.padded 0 128 (Padded.upTo (λ k. getD col k 0) i))
 
 abbrev μ-loop : tie.MeasureT-loop
 μ-loop col row₀ i₀ row i = length col - i
 
 loop-holds : tie.Need-loop-holds Inv-loop μ-loop
-unfolding Arrays.padded Arrays.upTo
+unfolding Padded.padded Padded.upTo
 loop-holds c = (omega arith, refl)
 
 mul-row : tie.Need-mul-row Inv-loop μ-loop

@@ -9,13 +9,14 @@ use Rattle.field.specs.Fields.{goldilocks}
 use Rattle.columns.specs.Prepare as Prepare
 use Rattle.dag.specs.ArrayLaws.{fill-next, fill-all}
 use Rattle.coefficients.specs.Terms as Terms
+use Rattle.dag.specs.Arrays as Padded
 use Rattle.coefficients.specs.Arrays as Arrays
 use Rattle.coefficients.specs.SplitLaws.{dense-told}
 use Rattle.coefficients.proofs.dense.Statement.{statement}
 use Rattle.coefficients.proofs.dense.Tie as tie
 
 abbrev Inv-loop : tie.InvT-loop
-Inv-loop col scale sums coefficients₀ j₀ coefficients j = (j ≤ length col) × (coefficients ≡ Arrays.padded 0 128 (Arrays.upTo (Terms.dense goldilocks col) j))
+Inv-loop col scale sums coefficients₀ j₀ coefficients j = (j ≤ length col) × (coefficients ≡ Padded.padded 0 128 (Padded.upTo (Terms.dense goldilocks col) j))
 
 abbrev μ-loop : tie.MeasureT-loop
 μ-loop col scale sums coefficients₀ j₀ coefficients j = length col - j
@@ -27,7 +28,7 @@ sums-requires : tie.Need-sums-requires Inv-loop μ-loop
 sums-requires c κs = c .before .before .pre
 
 loop-holds : tie.Need-loop-holds Inv-loop μ-loop
-unfolding Arrays.padded Arrays.upTo
+unfolding Padded.padded Padded.upTo
 loop-holds c = (omega arith, refl)
 
 mul-mul : tie.Need-mul-mul Inv-loop μ-loop

@@ -9,19 +9,20 @@ use Rattle.ring.specs.Power.{pow}
 use Rattle.field.specs.Field.{p, felt}
 use Rattle.columns.specs.Prepare as Prepare
 use Rattle.dag.specs.ArrayLaws.{fill-next, fill-all}
+use Rattle.dag.specs.Arrays as Padded
 use Rattle.coefficients.specs.Arrays as Arrays
 use Rattle.coefficients.specs.TermLaws.{pow-start, pow-next}
 use Rattle.coefficients.proofs.powers.Statement.{statement}
 use Rattle.coefficients.proofs.powers.Tie as tie
 
 abbrev Inv-loop : tie.InvT-loop
-Inv-loop base n row₀ power₀ i₀ row power i = (i ≤ n) × (row ≡ Arrays.padded 0 128 (Arrays.upTo (pow felt base) i)) × (power ≡ pow felt base i) × (power < p)
+Inv-loop base n row₀ power₀ i₀ row power i = (i ≤ n) × (row ≡ Padded.padded 0 128 (Padded.upTo (pow felt base) i)) × (power ≡ pow felt base i) × (power < p)
 
 abbrev μ-loop : tie.MeasureT-loop
 μ-loop base n row₀ power₀ i₀ row power i = n - i
 
 loop-holds : tie.Need-loop-holds Inv-loop μ-loop
-unfolding Arrays.padded Arrays.upTo
+unfolding Padded.padded Padded.upTo
 loop-holds c = (omega arith, refl, pow-start goldilocks _, lit< tt)
 
 mul-row : tie.Need-mul-row Inv-loop μ-loop

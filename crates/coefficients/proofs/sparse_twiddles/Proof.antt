@@ -9,13 +9,14 @@ use lib.ListN.{length, replicate}
 use Rattle.field.specs.Fields.{goldilocks}
 use Rattle.columns.specs.Prepare as Prepare
 use Rattle.dag.specs.ArrayLaws.{fill-next, fill-all}
+use Rattle.dag.specs.Arrays as Padded
 use Rattle.coefficients.specs.Arrays as Arrays
 use Rattle.coefficients.specs.TermLaws.{row-told}
 use Rattle.coefficients.proofs.sparse_twiddles.Statement.{statement}
 use Rattle.coefficients.proofs.sparse_twiddles.Tie as tie
 
 abbrev Inv-loop : tie.InvT-loop
-Inv-loop col places step log rows₀ k₀ rows k = (k ≤ length places) × (rows ≡ Arrays.padded (replicate 7 0) 11 (Arrays.upTo (Arrays.twiddles goldilocks col) k))
+Inv-loop col places step log rows₀ k₀ rows k = (k ≤ length places) × (rows ≡ Padded.padded (replicate 7 0) 11 (Padded.upTo (Arrays.twiddles goldilocks col) k))
 
 abbrev μ-loop : tie.MeasureT-loop
 μ-loop col places step log rows₀ k₀ rows k = length places - k
@@ -27,7 +28,7 @@ log-length-requires : tie.Need-log-length-requires Inv-loop μ-loop
 log-length-requires c κs = search needs
 
 loop-holds : tie.Need-loop-holds Inv-loop μ-loop
-unfolding Arrays.padded Arrays.upTo
+unfolding Padded.padded Padded.upTo
 loop-holds c = (omega arith, refl)
 
 mul-pow : tie.Need-mul-pow Inv-loop μ-loop

@@ -12,13 +12,14 @@ use Rattle.columns.specs.Prepare as Prepare
 use Rattle.dag.specs.ArrayLaws.{fill-next, fill-all}
 use Rattle.columns.specs.ClassLaws.{below-at}
 use Rattle.coefficients.specs.Terms as Terms
+use Rattle.dag.specs.Arrays as Padded
 use Rattle.coefficients.specs.Arrays as Arrays
 use Rattle.coefficients.specs.TermLaws.{support-inside, value-told}
 use Rattle.coefficients.proofs.sparse_values.Statement.{statement}
 use Rattle.coefficients.proofs.sparse_values.Tie as tie
 
 abbrev Inv-loop : tie.InvT-loop
-Inv-loop col places scale values₀ k₀ values k = (k ≤ length places) × (values ≡ Arrays.padded 0 11 (Arrays.upTo (λ i. Terms.scaledValue goldilocks col (getD (Columns.support col) i 0)) k))
+Inv-loop col places scale values₀ k₀ values k = (k ≤ length places) × (values ≡ Padded.padded 0 11 (Padded.upTo (λ i. Terms.scaledValue goldilocks col (getD (Columns.support col) i 0)) k))
 
 abbrev μ-loop : tie.MeasureT-loop
 μ-loop col places scale values₀ k₀ values k = length places - k
@@ -27,7 +28,7 @@ size-inverse-requires : tie.Need-size-inverse-requires Inv-loop μ-loop
 size-inverse-requires c κs = search needs
 
 loop-holds : tie.Need-loop-holds Inv-loop μ-loop
-unfolding Arrays.padded Arrays.upTo
+unfolding Padded.padded Padded.upTo
 loop-holds c = (omega arith, refl)
 
 mul-mul : tie.Need-mul-mul Inv-loop μ-loop

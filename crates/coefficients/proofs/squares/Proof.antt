@@ -8,19 +8,20 @@ use Rattle.ring.specs.Power.{pow}
 use Rattle.field.specs.Field.{p, felt}
 use Rattle.columns.specs.Prepare as Prepare
 use Rattle.dag.specs.ArrayLaws.{fill-next, fill-all}
+use Rattle.dag.specs.Arrays as Padded
 use Rattle.coefficients.specs.Arrays as Arrays
 use Rattle.coefficients.specs.TermLaws.{square-start, square-next}
 use Rattle.coefficients.proofs.squares.Statement.{statement}
 use Rattle.coefficients.proofs.squares.Tie as tie
 
 abbrev Inv-loop : tie.InvT-loop
-Inv-loop base log row₀ power₀ i₀ row power i = (i ≤ log) × (row ≡ Arrays.padded 0 7 (Arrays.upTo (λ k. pow felt base (2 ^ k)) i)) × (power ≡ pow felt base (2 ^ i)) × (power < p)
+Inv-loop base log row₀ power₀ i₀ row power i = (i ≤ log) × (row ≡ Padded.padded 0 7 (Padded.upTo (λ k. pow felt base (2 ^ k)) i)) × (power ≡ pow felt base (2 ^ i)) × (power < p)
 
 abbrev μ-loop : tie.MeasureT-loop
 μ-loop base log row₀ power₀ i₀ row power i = log - i
 
 loop-holds : tie.Need-loop-holds Inv-loop μ-loop
-unfolding Arrays.padded Arrays.upTo
+unfolding Padded.padded Padded.upTo
 loop-holds c = (omega arith, refl, square-start goldilocks _ (c .pre .0), c .pre .0)
 
 mul-row : tie.Need-mul-row Inv-loop μ-loop
