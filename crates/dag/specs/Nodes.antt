@@ -1,5 +1,5 @@
 -- Records and lists (document 01, 'What is handed over'; `NodeKind` of ir.rs): a record's three words, and the list that words hold.
-use Prim.Native.Nat.{ℕ, zero, suc, _*_, _-_}
+use Prim.Native.Nat.{ℕ, zero, suc, _-_}
 use mathlib.Core.Bool.{Bool, cond, _&&_}
 use mathlib.Core.List.{List, [], _∷_, _++_}
 use lib.Dec.{eqb}
@@ -17,9 +17,9 @@ blank = 0
 abbrev pub mostRecords : ℕ
 mostRecords = 4096
 
--- the words that the longest list takes
-abbrev pub mostWords : ℕ
-mostWords = 3 * mostRecords
+-- the words of a record
+abbrev pub recordWords : ℕ
+recordWords = 3
 
 -- a record's first word
 abbrev pub tag : NodeKind → ℕ

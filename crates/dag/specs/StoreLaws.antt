@@ -5,12 +5,12 @@ use mathlib.Core.Path.{_≡_, refl, sym, _∙_, ap, ap₂}
 use native.Mathlib.Numerals.{add-three, towards-suc}
 use native.Mathlib.Nat.{mul-suc}
 use native.Mathlib.Omega.{arith}
-use lib.ListN.{getD, length, set, take, length-set}
-use lib.Seq.{getD-set-same, getD-set-other, take-suc}
+use lib.ListN.{getD, length, set, take, drop, length-set}
+use lib.Seq.{getD-set-same, getD-set-other, drop-set-lt, take-suc}
 use Rattle.field.specs.Fields.{Bounds, Within}
 use Rattle.dag.specs.View.{View, interleaved, Agree}
 use Rattle.dag.specs.ViewLaws.{room-words, same-room, words-agree, agree-nodes, agree-checks}
-use Rattle.dag.specs.Nodes.{tag, first, second, recordAt, nodes, at, words, wordsOf, sameNode}
+use Rattle.dag.specs.Nodes.{recordWords, tag, first, second, recordAt, nodes, at, words, wordsOf, sameNode}
 use Rattle.dag.specs.NodeLaws.{decode-words, at-nodes}
 use Rattle.dag.specs.Refusals.{firstRefused}
 use Rattle.dag.specs.Check.{checkAt, recordsCheck}
@@ -110,6 +110,13 @@ module _ (s : List ℕ) (n : ℕ) (x : NodeKind) (fits : n < interleaved s .room
         room = rw (same-room (put s n x) s (length-put s n x)) fits;
         good = rw (← agree-checks (interleaved s) (interleaved (put s n x)) m n put-agrees, sound .good) (check-put s n x fits m f);
       }
+
+-- a record put leaves what stands behind it
+pub put-behind : (s : List ℕ) (n k : ℕ) (y : NodeKind) → n < k → drop (recordWords * k) (put s n y) ≡ drop (recordWords * k) s
+unfolding put
+put-behind s n k y h =
+    drop-set-lt (3 * k) (set (set s (3 * n) (tag y)) (3 * n + 1) (first y)) (3 * n + 2) (second y) (omega arith)
+    ∙ (drop-set-lt (3 * k) (set s (3 * n) (tag y)) (3 * n + 1) (first y) (omega arith) ∙ drop-set-lt (3 * k) s (3 * n) (tag y) (omega arith))
 
 -- a shorter list of the same store
 pub sound-less : (m : Bounds) (s : View) (n : ℕ) → Sound m s (suc n) → Sound m s n

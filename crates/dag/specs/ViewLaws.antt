@@ -31,6 +31,10 @@ module _ (u v : View) where
   pub agree-less : (n k : ℕ) → k ≤ n → Agree u v n → Agree u v k
   agree-less n k h a = record { tags = λ i j. a .tags i (omega arith); firsts = λ i j. a .firsts i (omega arith); seconds = λ i j. a .seconds i (omega arith) }
 
+  pub agree-trans : (w : View) (n : ℕ) → Agree u v n → Agree v w n → Agree u w n
+  agree-trans w n a b =
+      record { tags = λ i h. a .tags i h ∙ b .tags i h; firsts = λ i h. a .firsts i h ∙ b .firsts i h; seconds = λ i h. a .seconds i h ∙ b .seconds i h }
+
   pub agree-record : (n : ℕ) → Agree u v n → (i : ℕ) → i < n → recordAt u i ≡ recordAt v i
   unfolding recordAt
   agree-record n a i h = rw (a .tags i h, a .firsts i h, a .seconds i h)

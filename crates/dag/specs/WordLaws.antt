@@ -4,7 +4,7 @@ use mathlib.Core.List.{List, [], _∷_, _++_, append-assoc}
 use mathlib.Core.Path.{_≡_, refl, _∙_, ap}
 use native.Mathlib.Omega.{arith}
 use lib.ListN.{getD, length, take, drop, set, replicate, length-append, length-drop, length-replicate, take-append-drop}
-use lib.Seq.{drop-cons, set-at, take-at, append-snoc, ext-getD}
+use lib.Seq.{drop-cons, set-at, take-at, append-snoc, ext-getD, length-take-le}
 use borrow.Author.Tests.{le-leb, lt-ltb}
 use Rattle.field.specs.Fields.{Bounds, Within}
 use Rattle.dag.specs.View.{interleaved}
@@ -187,3 +187,22 @@ copied-written m s d n sound = rw (length-nodes (interleaved s) n) (ap (λ w. w 
   where
     front-take : take (3 * n) s ≡ wordsOf (nodes (interleaved s) n)
     front-take = front-words m s n sound
+
+-- records copied from one store to another
+module _ (s d : List ℕ) (n : ℕ) (h : n ≤ interleaved s .room) where
+  pub front-copied : front n (copiedRecords s d n) ≡ front n s
+  unfolding front copiedRecords copied
+  front-copied = take-at (take (3 * n) s) (drop (3 * n) d) (3 * n) (length-take-le (3 * n) s (room-words s n h))
+
+  -- with blanks behind them
+  pub copied-blanked : length (copiedRecords s d n) ≡ length d → blankedBehind (copiedRecords s d n) n ≡ filled (length d) (front n s)
+  unfolding blankedBehind filled front
+  copied-blanked e = rw (e, length-take-le (3 * n) s (room-words s n h)) (ap (λ w. w ++ replicate (length d - 3 * n) blank) taken)
+    where
+      taken : take (3 * n) (copiedRecords s d n) ≡ take (3 * n) s
+      taken = front-copied
+
+-- a list that passes, with blanks behind it
+pub filled-front : (m : Bounds) (s d : List ℕ) (n : ℕ) → Sound m (interleaved s) n → filled (length d) (front n s) ≡ stored d (nodes (interleaved s) n)
+unfolding stored
+filled-front m s d n sound = ap (filled (length d)) (front-words m s n sound)

@@ -23,6 +23,9 @@ pub const BLANK: u64 = 0;
 // The most records that a list has.
 pub const MOST_RECORDS: usize = 4096;
 
+// The words of a record.
+pub const RECORD_WORDS: usize = 3;
+
 // A list is short up to so many records: stores for the longest would take longer to clear than it takes to use.
 pub const FEW_RECORDS: usize = 256;
 
@@ -528,6 +531,15 @@ pub fn blank_records(store: &mut [u64], n: usize)
     ensures { λ _. ⌜ now (store .exit) ≡ Store.blankedBehind (now (store .entry)) n ⌝ }
 {
     blank_from(store, 3 * n);
+}
+
+// Writes the first n records of a store to another, blanks behind them.
+pub fn store_records(from: &[u64], n: usize, to: &mut [u64])
+    requires { ⌜ (n ≤ interleaved (now from) .room) × (n ≤ interleaved (now to) .room) ⌝ }
+    ensures { λ _. ⌜ now (to .exit) ≡ Nodes.filled (length (now (to .entry))) (Store.front n (now (from .entry))) ⌝ }
+{
+    copy_records(from, n, to);
+    blank_records(to, n);
 }
 
 // A refusal's number.

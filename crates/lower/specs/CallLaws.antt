@@ -14,16 +14,18 @@ use borrow.Rule.Slice.PartMut.{putMid, same-len-mid}
 use lib.Seq.{drop-at, drop-cons, getD-take, length-take-le, take-length}
 use Rattle.field.specs.Fields.{Field, modulus}
 use Rattle.dag.specs.CaseLaws.{and-true, or-true, cond-elim, le-or-lt}
-use Rattle.dag.specs.Nodes.{blank, mostRecords, nodes, wordsOf, filled}
+use Rattle.dag.specs.View.{View, interleaved}
+use Rattle.dag.specs.ViewLaws.{words-room, words-agree, front-agree, agree-nodes, agree-sound, agree-trans}
+use Rattle.dag.specs.Nodes.{blank, mostRecords, recordWords, nodes, filled}
 use Rattle.dag.specs.NodeLaws.{length-nodes}
 use Rattle.dag.specs.Refusals.{need, _then_, isRefused, unlessRefused}
-use Rattle.dag.specs.Check.{rootlessCheck}
+use Rattle.dag.specs.Check.{roomCheck, rootlessCheck}
 use Rattle.dag.specs.CheckLaws.{then-good, need-good, refused-then}
-use Rattle.dag.specs.PassLaws.{listed}
-use Rattle.dag.specs.Store.{Sound}
-use Rattle.dag.specs.StoreLaws.{take-words}
+use Rattle.dag.specs.PassLaws.{room-enough, listed}
+use Rattle.dag.specs.Store.{Sound, front, stored}
+use Rattle.dag.specs.WordLaws.{filled-front}
 use Rattle.dag.specs.declared.Refusal.{Refusal}
-use Rattle.dag.specs.declared.Refusal.the-variants.{StoreTooShort, NoRoom, SharedPeriod}
+use Rattle.dag.specs.declared.Refusal.the-variants.{NoRoom, SharedPeriod}
 use Rattle.dag.specs.declared.Checked.{Checked}
 use Rattle.dag.specs.declared.Checked.the-variants.{Good, Refused}
 use Rattle.columns.specs.Columns.{logWithin, isPower}
@@ -32,9 +34,9 @@ use Rattle.columns.specs.PrepareLaws.{prepared}
 use Rattle.periodic.specs.Builder.{Run}
 use Rattle.periodic.specs.Periodic.{buildPeriodicNodes}
 use Rattle.index.specs.Index.{NodeIndex}
-use Rattle.periodic.specs.Contracts.{recordWords, storeWords, links, Holds, Ready, Listing}
-use Rattle.periodic.specs.StoreLaws.{Same, same-records, same-sound, links-back}
-use Rattle.lower.specs.Lower.{longestFrom, longest, periodGood, lowerCheck, lowered, roomCheck, wholeCheck, lowerAnswer, lowerResult, lowerPlaces, lowerWork}
+use Rattle.periodic.specs.Contracts.{listWords, storeWords, links, Holds, Ready, Listing}
+use Rattle.periodic.specs.StoreLaws.{links-back}
+use Rattle.lower.specs.Lower.{longestFrom, longest, periodGood, lowerCheck, lowered, lowerStores, lowerRoom, wholeCheck, lowerAnswer, lowerResult, lowerPlaces, lowerWork}
 use Rattle.lower.specs.Contracts.{Passed, Stored, hasRoom, HandedOver, Finished}
 use Rattle.lower.specs.FormLaws.{covered}
 use Rattle.lower.specs.declared.LowerAnswer.{LowerAnswer}
@@ -86,42 +88,37 @@ module _ (field : Field) (ls : List ℕ) (period : ℕ) where
 
 module _ (field : Field) where
   -- the tests in their order
-  module _ (s : List ℕ) (n : ℕ) (ls es : List ℕ) (period workWords placeWords : ℕ) where
-    pub check-list : (r : Checked) → r ≡ rootlessCheck (field .bounds) 0 s n → isRefused (rootlessCheck (field .bounds) 0 s n) ≡ true → r ≡ lowerCheck field s n ls es period workWords placeWords
+  module _ (s : View) (n : ℕ) (ls es : List ℕ) (period workRoom placeWords : ℕ) where
+    pub check-list : (r : Checked) → r ≡ rootlessCheck (field .bounds) 0 s n → isRefused (rootlessCheck (field .bounds) 0 s n) ≡ true → r ≡ lowerCheck field s n ls es period workRoom placeWords
     unfolding lowerCheck
     check-list r e bad = e ∙ refused-then (rootlessCheck (field .bounds) 0 s n) _ bad
 
     module _ (good : rootlessCheck (field .bounds) 0 s n ≡ Good) where
-      pub check-columns : (r : Checked) → r ≡ prepareCheck (modulus field) ls es → isRefused (prepareCheck (modulus field) ls es) ≡ true → r ≡ lowerCheck field s n ls es period workWords placeWords
+      pub check-columns : (r : Checked) → r ≡ prepareCheck (modulus field) ls es → isRefused (prepareCheck (modulus field) ls es) ≡ true → r ≡ lowerCheck field s n ls es period workRoom placeWords
       unfolding lowerCheck
       check-columns r e bad = rw good (e ∙ refused-then (prepareCheck (modulus field) ls es) _ bad)
 
       module _ (fine : prepareCheck (modulus field) ls es ≡ Good) where
-        pub check-work : workWords < 3 * mostRecords → Refused StoreTooShort ≡ lowerCheck field s n ls es period workWords placeWords
+        pub check-stores : (r : Checked) → r ≡ lowerStores ls workRoom placeWords → isRefused (lowerStores ls workRoom placeWords) ≡ true → r ≡ lowerCheck field s n ls es period workRoom placeWords
         unfolding lowerCheck
-        check-work h = rw (good, fine, lt-leb (3 * mostRecords) workWords h)
+        check-stores r e bad = rw (good, fine) (e ∙ refused-then (lowerStores ls workRoom placeWords) _ bad)
 
-        pub check-places : 3 * mostRecords ≤ workWords → placeWords < length ls → Refused StoreTooShort ≡ lowerCheck field s n ls es period workWords placeWords
+        pub check-period : (t : Bool) → lowerStores ls workRoom placeWords ≡ Good → t ≡ periodGood field ls period → need t SharedPeriod ≡ lowerCheck field s n ls es period workRoom placeWords
         unfolding lowerCheck
-        check-places h k = rw (good, fine, le-leb (3 * mostRecords) workWords h, lt-leb (length ls) placeWords k)
+        check-period t h e = rw (good, fine, h, e)
 
-        pub check-period : (t : Bool) → 3 * mostRecords ≤ workWords → length ls ≤ placeWords → t ≡ periodGood field ls period → need t SharedPeriod ≡ lowerCheck field s n ls es period workWords placeWords
-        unfolding lowerCheck
-        check-period t h k e = rw (good, fine, le-leb (3 * mostRecords) workWords h, le-leb (length ls) placeWords k, e)
-
-    pub passed : lowerCheck field s n ls es period workWords placeWords ≡ Good → Passed field s n ls es period placeWords
-    unfolding lowerCheck
+    pub passed : lowerCheck field s n ls es period workRoom placeWords ≡ Good → Passed field s n ls es period placeWords
+    unfolding lowerCheck lowerStores
     passed e =
-        let stores = leb (3 * mostRecords) workWords && leb (length ls) placeWords in
-        let one = then-good (rootlessCheck (field .bounds) 0 s n) (prepareCheck (modulus field) ls es then need stores StoreTooShort then need (periodGood field ls period) SharedPeriod) e in
-        let two = then-good (prepareCheck (modulus field) ls es) (need stores StoreTooShort then need (periodGood field ls period) SharedPeriod) (one .1) in
-        let three = then-good (need stores StoreTooShort) (need (periodGood field ls period) SharedPeriod) (two .1) in
-        let both = and-true (leb (3 * mostRecords) workWords) (leb (length ls) placeWords) (need-good stores StoreTooShort (three .0)) in
+        let one = then-good (rootlessCheck (field .bounds) 0 s n) (prepareCheck (modulus field) ls es then lowerStores ls workRoom placeWords then need (periodGood field ls period) SharedPeriod) e in
+        let two = then-good (prepareCheck (modulus field) ls es) (lowerStores ls workRoom placeWords then need (periodGood field ls period) SharedPeriod) (one .1) in
+        let three = then-good (lowerStores ls workRoom placeWords) (need (periodGood field ls period) SharedPeriod) (two .1) in
+        let stores = then-good (roomCheck mostRecords workRoom) (roomCheck (length ls) placeWords) (three .0) in
         let t = prepared (modulus field) ls es (two .0) in
         record {
           list = listed (field .bounds) 0 s n (one .0);
           tested = t;
-          place-room = leb-true (length ls) placeWords (both .1);
+          place-room = room-enough (length ls) placeWords (stores .1);
           covered = covered field ls es period t (covers field ls period (need-good (periodGood field ls period) SharedPeriod (three .1)));
         }
 
@@ -134,26 +131,28 @@ unfolding filled
 filled-told a b c m n h e k q = q ∙ rw (e, k, length-take-le m a h)
 
 module _ (field : Field) where
-  module _ (s : List ℕ) (n : ℕ) (few : n ≤ mostRecords) where
-    pub stored : (u ys : List ℕ) → take (3 * n) u ≡ take (3 * n) s → length u ≡ storeWords → NodeIndex (nodes s n) ys → length ys ≡ length (take (length u - recordWords) (drop recordWords u))
-        → Stored field s n (putMid recordWords (length u - recordWords) u ys)
-    stored u ys e long d kept = record { long = same-len-mid recordWords (length u - recordWords) u ys kept ∙ long; same = same; indexed = rw (links-back u ys long, drop-at (take recordWords u) ys recordWords front) d }
+  module _ (n : ℕ) (few : n ≤ mostRecords) where
+    pub stored-list : (s u ys : List ℕ) → front n u ≡ front n s → length u ≡ storeWords → NodeIndex (nodes (interleaved s) n) ys → length ys ≡ length (take (length u - listWords) (drop listWords u))
+        → Stored field (interleaved s) n (putMid listWords (length u - listWords) u ys)
+    stored-list s u ys e long d kept =
+        record {
+          long = same-len-mid listWords (length u - listWords) u ys kept ∙ long;
+          same = agree-trans (interleaved s) (interleaved u) (interleaved (putMid listWords (length u - listWords) u ys)) n (front-agree s u n (sym e)) (words-agree u (putMid listWords (length u - listWords) u ys) n same);
+          indexed = rw (links-back u ys long, drop-at (take listWords u) ys listWords before) d;
+        }
       where
-        front : length (take recordWords u) ≡ recordWords
-        front = length-take-le recordWords u (omega arith)
+        before : length (take listWords u) ≡ listWords
+        before = length-take-le listWords u (omega arith)
 
-        same : Same field s (putMid recordWords (length u - recordWords) u ys) n
-        same k h =
-            rw (links-back u ys long)
-            (sym (getD-take (3 * n) s k 0 h) ∙ (ap (λ l. getD l k 0) (sym e) ∙ (getD-take (3 * n) u k 0 h
-            ∙ sym (List·getD-append (take recordWords u) ys 0 k (omega (arith, front)) ∙ getD-take recordWords u k 0 (omega arith)))))
+        same : (k : ℕ) → k < recordWords * n → getD u k 0 ≡ getD (putMid listWords (length u - listWords) u ys) k 0
+        same k h = rw (links-back u ys long) (sym (List·getD-append (take listWords u) ys 0 k (omega (arith, before)) ∙ getD-take listWords u k 0 (omega arith)))
 
-    module _ (sound : Sound (field .bounds) s n) (t : List ℕ) (d : Stored field s n t) where
-      stored-sound : Sound (field .bounds) t n
-      stored-sound = same-sound field s t n (omega (arith, d .long)) (d .same) sound
+    module _ (s : View) (sound : Sound (field .bounds) s n) (t : List ℕ) (d : Stored field s n t) where
+      stored-sound : Sound (field .bounds) (interleaved t) n
+      stored-sound = agree-sound s (interleaved t) (field .bounds) n (words-room t n (omega (arith, d .long))) (d .same) sound
 
-      stored-records : nodes s n ≡ nodes t n
-      stored-records = same-records field s t n (d .same)
+      stored-records : nodes s n ≡ nodes (interleaved t) n
+      stored-records = agree-nodes s (interleaved t) n (d .same)
 
       pub stored-holds : Holds field t n (nodes s n)
       stored-holds =
@@ -174,13 +173,13 @@ module _ (work : List ℕ) (count : ℕ) (ns result places : List ℕ) where
   pub handed-long : mostRecords < count → HandedOver work count ns result places (LowerAnswer'.Refused NoRoom) result places
   handed-long h = refuses (rw (lt-leb count mostRecords h))
 
-  pub handed-short : count ≤ mostRecords → length result < 3 * count → HandedOver work count ns result places (LowerAnswer'.Refused NoRoom) result places
-  handed-short h k = refuses (rw (le-leb count mostRecords h) (lt-leb (3 * count) (length result) k))
+  pub handed-short : count ≤ mostRecords → interleaved result .room < count → HandedOver work count ns result places (LowerAnswer'.Refused NoRoom) result places
+  handed-short h k = refuses (rw (le-leb count mostRecords h) (lt-leb count (interleaved result .room) k))
 
-  pub handed-done : (after listed : List ℕ) → count ≤ mostRecords → 3 * count ≤ length result → after ≡ filled (length result) (take (3 * count) work) → listed ≡ filled (length places) (take (length ns) ns)
+  pub handed-done : (after listed : List ℕ) → count ≤ mostRecords → count ≤ interleaved result .room → after ≡ filled (length result) (front count work) → listed ≡ filled (length places) (take (length ns) ns)
       → HandedOver work count ns result places (LowerAnswer'.Done count) after listed
   handed-done after listed h k e f =
-      let t : hasRoom count result ≡ true = rw (le-leb count mostRecords h) (le-leb (3 * count) (length result) k) in
+      let t : hasRoom count result ≡ true = rw (le-leb count mostRecords h) (le-leb count (interleaved result .room) k) in
       record { answer = rw t; result-is = rw t e; places-are = rw t (f ∙ ap (filled (length places)) (take-length ns)) }
 
 need-cond : {A : Type 0} (t : Bool) (q : Refusal) (f : Refusal → A) (g : A) → cond t g (f q) ≡ unlessRefused (need t q) f g
@@ -190,7 +189,7 @@ need-cond false q f g = refl
 module _ (field : Field) where
   module _ (result places : List ℕ) (L : Run (List ℕ)) (work : List ℕ) (count : ℕ) (ns : List ℕ) (holds : Holds field work count (L .list)) (answers : count ≤ mostRecords → ns ≡ L .answer) (r : LowerAnswer) (after listed : List ℕ) (h : HandedOver work count ns result places r after listed) where
     fits : count ≤ mostRecords → length (L .list) ≡ count
-    fits i = ap length (sym (holds .list-is i)) ∙ length-nodes work count
+    fits i = ap length (sym (holds .list-is i)) ∙ length-nodes (interleaved work) count
 
     same-room : hasRoom count result ≡ hasRoom (length (L .list)) result
     same-room = go (le-or-lt count mostRecords)
@@ -203,30 +202,30 @@ module _ (field : Field) where
     when-room : {A : Type 0} (x y : A) (z : A) → (count ≤ mostRecords → x ≡ y) → cond (hasRoom count result) x z ≡ cond (hasRoom (length (L .list)) result) y z
     when-room x y z e = rw (← same-room) (go (leb count mostRecords) refl)
       where
-        go : (t : Bool) → leb count mostRecords ≡ t → cond (t && leb (3 * count) (length result)) x z ≡ cond (t && leb (3 * count) (length result)) y z
-        go true q = ap (λ w. cond (leb (3 * count) (length result)) w z) (e (leb-true count mostRecords q))
+        go : (t : Bool) → leb count mostRecords ≡ t → cond (t && leb count (interleaved result .room)) x z ≡ cond (t && leb count (interleaved result .room)) y z
+        go true q = ap (λ w. cond (leb count (interleaved result .room)) w z) (e (leb-true count mostRecords q))
         go false q = refl
 
-    room-answer : r ≡ unlessRefused (roomCheck L (length result)) LowerAnswer'.Refused (LowerAnswer'.Done (length (L .list)))
-    unfolding roomCheck
+    room-answer : r ≡ unlessRefused (lowerRoom L (interleaved result .room)) LowerAnswer'.Refused (LowerAnswer'.Done (length (L .list)))
+    unfolding lowerRoom
     room-answer =
         h .answer ∙ (when-room (LowerAnswer'.Done count) (LowerAnswer'.Done (length (L .list))) (LowerAnswer'.Refused NoRoom) (λ i. ap LowerAnswer'.Done (sym (fits i))) ∙ need-cond (hasRoom (length (L .list)) result) NoRoom LowerAnswer'.Refused (LowerAnswer'.Done (length (L .list))))
 
-    room-result : after ≡ unlessRefused (roomCheck L (length result)) (λ q. result) (filled (length result) (wordsOf (L .list)))
-    unfolding roomCheck
+    room-result : after ≡ unlessRefused (lowerRoom L (interleaved result .room)) (λ q. result) (stored result (L .list))
+    unfolding lowerRoom
     room-result =
         h .result-is
-        ∙ (when-room (filled (length result) (take (3 * count) work)) (filled (length result) (wordsOf (L .list))) result (λ i. ap (filled (length result)) (take-words (field .bounds) work count (holds .sound i) ∙ ap wordsOf (holds .list-is i)))
-        ∙ need-cond (hasRoom (length (L .list)) result) NoRoom (λ q. result) (filled (length result) (wordsOf (L .list))))
+        ∙ (when-room (filled (length result) (front count work)) (stored result (L .list)) result (λ i. filled-front (field .bounds) work result count (holds .sound i) ∙ ap (stored result) (holds .list-is i))
+        ∙ need-cond (hasRoom (length (L .list)) result) NoRoom (λ q. result) (stored result (L .list)))
 
-    room-places : listed ≡ unlessRefused (roomCheck L (length result)) (λ q. places) (filled (length places) (L .answer))
-    unfolding roomCheck
+    room-places : listed ≡ unlessRefused (lowerRoom L (interleaved result .room)) (λ q. places) (filled (length places) (L .answer))
+    unfolding lowerRoom
     room-places =
         h .places-are
         ∙ (when-room (filled (length places) ns) (filled (length places) (L .answer)) places (λ i. ap (filled (length places)) (answers i))
         ∙ need-cond (hasRoom (length (L .list)) result) NoRoom (λ q. places) (filled (length places) (L .answer)))
 
-  pub finished : (s : List ℕ) (n : ℕ) (ls es : List ℕ) (period : ℕ) (result places : List ℕ) (words : List ℕ) (log : ℕ) (built : List ℕ) (count : ℕ) (ns : List ℕ) (r : LowerAnswer) (after listed : List ℕ)
+  pub finished : (s : View) (n : ℕ) (ls es : List ℕ) (period : ℕ) (result places : List ℕ) (words : List ℕ) (log : ℕ) (built : List ℕ) (count : ℕ) (ns : List ℕ) (r : LowerAnswer) (after listed : List ℕ)
       → Passed field s n ls es period (length places)
       → Stored field s n words
       → log ≡ logWithin (field .mostLog) period
@@ -235,7 +234,7 @@ module _ (field : Field) where
       → Finished field s n ls es period result places r after listed
   unfolding lowered
   finished s n ls es period result places words log built count ns r after listed ok d el run h =
-      let holds = stored-holds field s n (ok .list .most) (ok .list .sound) words d in
+      let holds = stored-holds field n (ok .list .most) s (ok .list .sound) words d in
       let ran = subst (λ x. Listing field words n (buildPeriodicNodes field (columns ls es) x) built count ns (length ls)) el run in
       let L = buildPeriodicNodes field (columns ls es) (logWithin (field .mostLog) period) .run (nodes s n) in
       let g = ran .ran .gives (nodes s n) holds in
@@ -247,18 +246,18 @@ module _ (field : Field) where
       }
 
   -- the whole call
-  pub record Called (s : List ℕ) (n : ℕ) (ls es : List ℕ) (period : ℕ) (result work places : List ℕ) (r : LowerAnswer) (after blanked listed : List ℕ) : Type 0 where
+  pub record Called (s : View) (n : ℕ) (ls es : List ℕ) (period : ℕ) (result work places : List ℕ) (r : LowerAnswer) (after blanked listed : List ℕ) : Type 0 where
     pub answer : r ≡ lowerAnswer field s n ls es period result work places
     pub result-is : after ≡ lowerResult field s n ls es period result work places
     pub work-is : blanked ≡ lowerWork field s n ls es period result work places
     pub places-are : listed ≡ lowerPlaces field s n ls es period result work places
 
-  module _ (s : List ℕ) (n : ℕ) (ls es : List ℕ) (period : ℕ) (result work places : List ℕ) where
-    pub lower-refused : (r : Refusal) → lowerCheck field s n ls es period (length work) (length places) ≡ Refused r → Called s n ls es period result work places (LowerAnswer'.Refused r) result work places
+  module _ (s : View) (n : ℕ) (ls es : List ℕ) (period : ℕ) (result work places : List ℕ) where
+    pub lower-refused : (r : Refusal) → lowerCheck field s n ls es period (interleaved work .room) (length places) ≡ Refused r → Called s n ls es period result work places (LowerAnswer'.Refused r) result work places
     unfolding lowerAnswer lowerResult lowerWork lowerPlaces wholeCheck
     lower-refused r e = record { answer = rw e; result-is = rw e; work-is = rw e; places-are = rw e }
 
-    pub lower-done : (r : LowerAnswer) (after blanked listed : List ℕ) → lowerCheck field s n ls es period (length work) (length places) ≡ Good
+    pub lower-done : (r : LowerAnswer) (after blanked listed : List ℕ) → lowerCheck field s n ls es period (interleaved work .room) (length places) ≡ Good
         → Finished field s n ls es period result places r after listed → blanked ≡ replicate (length work) blank
         → Called s n ls es period result work places r after blanked listed
     unfolding lowerAnswer lowerResult lowerWork lowerPlaces wholeCheck

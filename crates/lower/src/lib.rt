@@ -10,6 +10,7 @@ ghost use Prim.Native.Nat.{_+_, _*_, _-_, _<_, _≤_};
 ghost use lib.ListN.{length, take, replicate};
 ghost use Rattle.field.specs.Fields.{goldilocks};
 ghost use Rattle.field.specs.Field.{p};
+ghost use Rattle.dag.specs.View.{interleaved};
 ghost use Rattle.dag.specs.Nodes.{mostRecords, blank, filled};
 ghost use Rattle.dag.specs.Store.{Sound};
 ghost use Rattle.columns.specs.Prepare as Prepare;
@@ -117,6 +118,17 @@ fn period_good(lengths: &[u64], period: u64) -> bool
     longest(lengths) <= period
 }
 
+// The tests of Lower's stores.
+fn lower_stores(lengths: &[u64], work_room: usize, place_words: usize) -> Checked
+    ensures { λ r. ⌜ r ≡ Lower.lowerStores (now (lengths .entry)) «work_room» «place_words» ⌝ }
+{
+    let checked = dag::room_check(dag::MOST_RECORDS, work_room);
+    if dag::is_refused(checked) {
+        return checked;
+    }
+    dag::room_check(lengths.len(), place_words)
+}
+
 // Lower's tests before anything is built.
 fn lower_check(
     list: &[u64],
@@ -124,10 +136,10 @@ fn lower_check(
     lengths: &[u64],
     entries: &[u64],
     period: u64,
-    work_words: usize,
+    work_room: usize,
     place_words: usize,
 ) -> Checked
-    ensures { λ r. ⌜ r ≡ Lower.lowerCheck goldilocks (now (list .entry)) n (now (lengths .entry)) (now (entries .entry)) period «work_words» «place_words» ⌝ }
+    ensures { λ r. ⌜ r ≡ Lower.lowerCheck goldilocks (interleaved (now (list .entry))) n (now (lengths .entry)) (now (entries .entry)) period «work_room» «place_words» ⌝ }
 {
     let checked = dag::rootless_check(list, n, 0);
     if dag::is_refused(checked) {
@@ -137,11 +149,9 @@ fn lower_check(
     if dag::is_refused(prepared) {
         return prepared;
     }
-    if work_words < 3 * dag::MOST_RECORDS {
-        return Checked::Refused(Refusal::StoreTooShort);
-    }
-    if place_words < lengths.len() {
-        return Checked::Refused(Refusal::StoreTooShort);
+    let stored = lower_stores(lengths, work_room, place_words);
+    if dag::is_refused(stored) {
+        return stored;
     }
     if !period_good(lengths, period) {
         return Checked::Refused(Refusal::SharedPeriod);
@@ -160,11 +170,11 @@ fn fill_from(from: &[u64], m: usize, to: &mut [u64])
 
 // Writes the first n records of a list and their index to a store.
 fn store_list(list: &[u64], n: usize, store: &mut [u64])
-    requires { ⌜ Sound (goldilocks .bounds) (now list) n × (n ≤ mostRecords) × (length (now store) ≡ PeriodicContracts.storeWords) ⌝ }
-    ensures { λ _. ⌜ Contracts.Stored goldilocks (now (list .entry)) n (now (store .exit)) ⌝ }
+    requires { ⌜ Sound (goldilocks .bounds) (interleaved (now list)) n × (n ≤ mostRecords) × (length (now store) ≡ PeriodicContracts.storeWords) ⌝ }
+    ensures { λ _. ⌜ Contracts.Stored goldilocks (interleaved (now (list .entry))) n (now (store .exit)) ⌝ }
 {
-    dag::copy_words(list, 3 * n, store);
-    index::index_list(list, n, &mut store[periodic::RECORD_WORDS..]);
+    dag::copy_records(list, n, store);
+    index::index_list(list, n, &mut store[periodic::LIST_WORDS..]);
 }
 
 // The list that was built, and its columns' nodes, where there is room for the list: else 7.
@@ -175,16 +185,16 @@ fn hand_over(
     result: &mut [u64],
     places: &mut [u64],
 ) -> LowerAnswer
-    requires { ⌜ (3 * mostRecords ≤ length (now work)) × (length (now nodes) ≤ length (now places)) ⌝ }
+    requires { ⌜ (mostRecords ≤ interleaved (now work) .room) × (length (now nodes) ≤ length (now places)) ⌝ }
     ensures { λ r. ⌜ Contracts.HandedOver (now (work .entry)) count (now (nodes .entry)) (now (result .entry)) (now (places .entry)) r (now (result .exit)) (now (places .exit)) ⌝ }
 {
     if dag::MOST_RECORDS < count {
         return LowerAnswer::Refused(Refusal::NoRoom);
     }
-    if result.len() < 3 * count {
+    if dag::room(result) < count {
         return LowerAnswer::Refused(Refusal::NoRoom);
     }
-    fill_from(work, 3 * count, result);
+    dag::store_records(work, count, result);
     fill_from(nodes, nodes.len(), places);
     LowerAnswer::Done { count }
 }
@@ -200,8 +210,8 @@ fn lower_with(
     store: &mut [u64],
     places: &mut [u64],
 ) -> LowerAnswer
-    requires { ⌜ Contracts.Passed goldilocks (now list) n (now lengths) (now entries) period (length (now places)) × (length (now store) ≡ PeriodicContracts.storeWords) ⌝ }
-    ensures { λ r. ⌜ Contracts.Finished goldilocks (now (list .entry)) n (now (lengths .entry)) (now (entries .entry)) period (now (result .entry)) (now (places .entry)) r (now (result .exit)) (now (places .exit)) ⌝ }
+    requires { ⌜ Contracts.Passed goldilocks (interleaved (now list)) n (now lengths) (now entries) period (length (now places)) × (length (now store) ≡ PeriodicContracts.storeWords) ⌝ }
+    ensures { λ r. ⌜ Contracts.Finished goldilocks (interleaved (now (list .entry))) n (now (lengths .entry)) (now (entries .entry)) period (now (result .entry)) (now (places .entry)) r (now (result .exit)) (now (places .exit)) ⌝ }
 {
     store_list(list, n, store);
     let mut nodes = [0u64; 16];
@@ -221,8 +231,8 @@ fn lower_ready(
     work: &mut [u64],
     places: &mut [u64],
 ) -> LowerAnswer
-    requires { ⌜ Contracts.Passed goldilocks (now list) n (now lengths) (now entries) period (length (now places)) ⌝ }
-    ensures { λ r. ⌜ Contracts.Finished goldilocks (now (list .entry)) n (now (lengths .entry)) (now (entries .entry)) period (now (result .entry)) (now (places .entry)) r (now (result .exit)) (now (places .exit)) × (now (work .exit) ≡ replicate (length (now (work .entry))) blank) ⌝ }
+    requires { ⌜ Contracts.Passed goldilocks (interleaved (now list)) n (now lengths) (now entries) period (length (now places)) ⌝ }
+    ensures { λ r. ⌜ Contracts.Finished goldilocks (interleaved (now (list .entry))) n (now (lengths .entry)) (now (entries .entry)) period (now (result .entry)) (now (places .entry)) r (now (result .exit)) (now (places .exit)) × (now (work .exit) ≡ replicate (length (now (work .entry))) blank) ⌝ }
 {
     dag::blank_from(work, 0);
     let mut store = [0u64; periodic::STORE_WORDS];
@@ -249,12 +259,20 @@ pub fn lower(
     work: &mut [u64],
     places: &mut [u64],
 ) -> LowerAnswer
-    ensures answer { λ r. ⌜ r ≡ Lower.lowerAnswer goldilocks (now (list .entry)) n (now (lengths .entry)) (now (entries .entry)) period (now (result .entry)) (now (work .entry)) (now (places .entry)) ⌝ }
-    ensures result { λ _. ⌜ now (result .exit) ≡ Lower.lowerResult goldilocks (now (list .entry)) n (now (lengths .entry)) (now (entries .entry)) period (now (result .entry)) (now (work .entry)) (now (places .entry)) ⌝ }
-    ensures work { λ _. ⌜ now (work .exit) ≡ Lower.lowerWork goldilocks (now (list .entry)) n (now (lengths .entry)) (now (entries .entry)) period (now (result .entry)) (now (work .entry)) (now (places .entry)) ⌝ }
-    ensures places { λ _. ⌜ now (places .exit) ≡ Lower.lowerPlaces goldilocks (now (list .entry)) n (now (lengths .entry)) (now (entries .entry)) period (now (result .entry)) (now (work .entry)) (now (places .entry)) ⌝ }
+    ensures answer { λ r. ⌜ r ≡ Lower.lowerAnswer goldilocks (interleaved (now (list .entry))) n (now (lengths .entry)) (now (entries .entry)) period (now (result .entry)) (now (work .entry)) (now (places .entry)) ⌝ }
+    ensures result { λ _. ⌜ now (result .exit) ≡ Lower.lowerResult goldilocks (interleaved (now (list .entry))) n (now (lengths .entry)) (now (entries .entry)) period (now (result .entry)) (now (work .entry)) (now (places .entry)) ⌝ }
+    ensures work { λ _. ⌜ now (work .exit) ≡ Lower.lowerWork goldilocks (interleaved (now (list .entry))) n (now (lengths .entry)) (now (entries .entry)) period (now (result .entry)) (now (work .entry)) (now (places .entry)) ⌝ }
+    ensures places { λ _. ⌜ now (places .exit) ≡ Lower.lowerPlaces goldilocks (interleaved (now (list .entry))) n (now (lengths .entry)) (now (entries .entry)) period (now (result .entry)) (now (work .entry)) (now (places .entry)) ⌝ }
 {
-    let checked = lower_check(list, n, lengths, entries, period, work.len(), places.len());
+    let checked = lower_check(
+        list,
+        n,
+        lengths,
+        entries,
+        period,
+        dag::room(work),
+        places.len(),
+    );
     match checked {
         Checked::Refused(r) => LowerAnswer::Refused(r),
         Checked::Good => lower_ready(list, n, lengths, entries, period, result, work, places),

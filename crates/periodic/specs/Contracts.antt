@@ -4,7 +4,8 @@ use mathlib.Core.List.{List, [], _++_}
 use mathlib.Core.Path.{_≡_}
 use lib.ListN.{getD, length, take, drop}
 use Rattle.field.specs.Fields.{Field, modulus}
-use Rattle.dag.specs.Nodes.{mostRecords, nodes}
+use Rattle.dag.specs.View.{interleaved}
+use Rattle.dag.specs.Nodes.{mostRecords, recordWords, nodes}
 use Rattle.dag.specs.Store.{Sound}
 use Rattle.dag.specs.declared.NodeKind.{NodeKind}
 use Rattle.index.specs.Index as Index
@@ -13,34 +14,34 @@ use Rattle.columns.specs.Columns.{support}
 use Rattle.periodic.specs.Builder.{Builder}
 
 -- the words of a store's records: there is room for one more than a list may have
-abbrev pub recordWords : ℕ
-recordWords = 3 * (mostRecords + 1)
+abbrev pub listWords : ℕ
+listWords = recordWords * (mostRecords + 1)
 
 -- the words of a store: its records, and an index of two words for each
 abbrev pub storeWords : ℕ
-storeWords = 5 * (mostRecords + 1)
+storeWords = (recordWords + 2) * (mostRecords + 1)
 
 -- the index of a store
 abbrev pub links : List ℕ → List ℕ
-links s = drop recordWords s
+links s = drop listWords s
 
 -- a store whose index has the record y at place n noted
 unfoldable pub noted : List ℕ → ℕ → NodeKind → List ℕ
-noted s n y = take recordWords s ++ Index.noted (links s) n (Index.nodeBucket (Index.half (links s)) y)
+noted s n y = take listWords s ++ Index.noted (links s) n (Index.nodeBucket (Index.half (links s)) y)
 
 module _ (field : Field) where
   -- a store of n records holds the list l
   pub record Holds (s : List ℕ) (n : ℕ) (l : List NodeKind) : Type 0 where
-    pub sound : n ≤ mostRecords → Sound (field .bounds) s n
-    pub list-is : n ≤ mostRecords → nodes s n ≡ l
-    pub indexed : n ≤ mostRecords → Index.NodeIndex (nodes s n) (links s)
+    pub sound : n ≤ mostRecords → Sound (field .bounds) (interleaved s) n
+    pub list-is : n ≤ mostRecords → nodes (interleaved s) n ≡ l
+    pub indexed : n ≤ mostRecords → Index.NodeIndex (nodes (interleaved s) n) (links s)
     pub too-long : mostRecords < n → mostRecords < length l
 
   -- a store to build in
   pub record Ready (s : List ℕ) (n : ℕ) : Type 0 where
     pub long : length s ≡ storeWords
-    pub sound : n ≤ mostRecords → Sound (field .bounds) s n
-    pub indexed : n ≤ mostRecords → Index.NodeIndex (nodes s n) (links s)
+    pub sound : n ≤ mostRecords → Sound (field .bounds) (interleaved s) n
+    pub indexed : n ≤ mostRecords → Index.NodeIndex (nodes (interleaved s) n) (links s)
 
 -- place a is one of n records
 abbrev pub Inside : ℕ → ℕ → Type 0

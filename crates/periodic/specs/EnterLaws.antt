@@ -5,6 +5,7 @@ use mathlib.Core.Path.{_≡_, refl, _∙_, ap, subst}
 use native.Mathlib.Omega.{arith}
 use lib.ListN.{length}
 use Rattle.field.specs.Fields.{Field, Low}
+use Rattle.dag.specs.View.{interleaved}
 use Rattle.dag.specs.Keys.{isKey, ZK}
 use Rattle.dag.specs.Nodes.{mostRecords, nodes}
 use Rattle.dag.specs.NodeLaws.{length-nodes}
@@ -41,7 +42,7 @@ module _ (field : Field) where
 
   module _ (s : List ℕ) (n : ℕ) (x : NodeKind) (h : n ≤ mostRecords) where
     -- a request that was pushed
-    pushed-entering : (after : List ℕ) (r : Entered) → Pushed field s n x after r → NodeIndex (nodes after (r .count)) (links after) → Entering field s n (enter (field .elements) x) after r
+    pushed-entering : (after : List ℕ) (r : Entered) → Pushed field s n x after r → NodeIndex (nodes (interleaved after) (r .count)) (links after) → Entering field s n (enter (field .elements) x) after r
     unfolding enter
     pushed-entering after r d ix =
         record {
@@ -55,14 +56,14 @@ module _ (field : Field) where
                       sound = λ _. d .sound;
                       list-is = λ _. now;
                       indexed = λ _. ix;
-                      too-long = λ i. omega (arith, ap length now, length-nodes after (r .count));
+                      too-long = λ i. omega (arith, ap length now, length-nodes (interleaved after) (r .count));
                     };
                 answers = λ l e _. d .place-is ∙ ap (λ k. Steps.step (field .elements) k x .place) (e .list-is h);
               };
           inside = λ _. d .inside;
         }
 
-    module _ (req : Request field s n x) (ix : NodeIndex (nodes s n) (links s)) (o : Outcome) (e : o ≡ resolved field (nodes s n) n x) where
+    module _ (req : Request field (interleaved s) n x) (ix : NodeIndex (nodes (interleaved s) n) (links s)) (o : Outcome) (e : o ≡ resolved field (nodes (interleaved s) n) n x) where
       pub enter-place : (i : ℕ) → o ≡ Place i → Entering field s n (enter (field .elements) x) s (record { place = i; count = n })
       enter-place i q = pushed-entering s (record { place = i; count = n }) (pushed-place field s n x req o i e q) ix
 

@@ -8,6 +8,7 @@ use native.Mathlib.Numerals.{add-one}
 use native.Mathlib.Omega.{arith}
 use lib.ListN.{length, replicate, length-append, length-replicate}
 use Rattle.field.specs.Fields.{Field}
+use Rattle.dag.specs.View.{interleaved}
 use Rattle.dag.specs.CaseLaws.{le-or-lt}
 use Rattle.dag.specs.Nodes.{mostRecords, nodes}
 use Rattle.dag.specs.declared.NodeKind.{NodeKind}
@@ -35,7 +36,7 @@ module _ (field : Field) where
   held s n r = go (le-or-lt n mostRecords)
     where
       go : (n ≤ mostRecords) ⊎ (mostRecords < n) → (l : List NodeKind) × Holds field s n l
-      go (inl h) = (nodes s n, record { sound = r .sound; list-is = λ _. refl; indexed = r .indexed; too-long = λ j. absurd (omega arith) })
+      go (inl h) = (nodes (interleaved s) n, record { sound = r .sound; list-is = λ _. refl; indexed = r .indexed; too-long = λ j. absurd (omega arith) })
       go (inr h) =
           (replicate n (Input 0), record { sound = r .sound; list-is = λ j. absurd (omega arith); indexed = r .indexed; too-long = λ _. omega (arith, length-replicate n (Input 0)) })
 

@@ -11,6 +11,7 @@ ghost use Prim.Native.Nat.{_+_, _-_, _<_, _≤_};
 ghost use lib.ListN.{length, getD};
 ghost use Rattle.field.specs.Fields.{goldilocks};
 ghost use Rattle.field.specs.Field.{p, quad, Below};
+ghost use Rattle.dag.specs.View.{interleaved};
 ghost use Rattle.dag.specs.Nodes.{mostRecords, nodes};
 ghost use Rattle.dag.specs.WellFormed.{Fine};
 ghost use Rattle.index.specs.Index.{NodeIndex};
@@ -25,17 +26,17 @@ ghost use Rattle.periodic.specs.Contracts as Contracts;
 const ZK: u64 = 3096224743817216;
 
 // The words of a store's records; those of its index follow.
-pub const RECORD_WORDS: usize = 12291;
+pub const LIST_WORDS: usize = dag::RECORD_WORDS * (dag::MOST_RECORDS + 1);
 
 // The words of a store.
-pub const STORE_WORDS: usize = 20485;
+pub const STORE_WORDS: usize = LIST_WORDS + 2 * (dag::MOST_RECORDS + 1);
 
 // The place of a request's result, or the new record that it needs.
 fn resolve(list: &[u64], n: usize, x: NodeKind) -> Outcome
-    requires { ⌜ Request goldilocks (now list) n x × NodeIndex (nodes (now list) n) (Contracts.links (now list)) × (Contracts.recordWords ≤ length (now list)) ⌝ }
-    ensures { λ r. ⌜ r ≡ resolved goldilocks (nodes (now (list .entry)) n) n x ⌝ }
+    requires { ⌜ Request goldilocks (interleaved (now list)) n x × NodeIndex (nodes (interleaved (now list)) n) (Contracts.links (now list)) × (Contracts.listWords ≤ length (now list)) ⌝ }
+    ensures { λ r. ⌜ r ≡ resolved goldilocks (nodes (interleaved (now (list .entry))) n) n x ⌝ }
 {
-    builder::resolve(list, n, &list[RECORD_WORDS..], x)
+    builder::resolve(list, n, &list[LIST_WORDS..], x)
 }
 
 // One request.
@@ -51,7 +52,7 @@ fn enter(list: &mut [u64], n: usize, x: NodeKind) -> Entered
         Outcome::Place(i) => Entered { place: i, count: n },
         Outcome::Node(y) => {
             dag::put_node(list, n, y);
-            builder::note(&mut list[RECORD_WORDS..], n, y);
+            builder::note(&mut list[LIST_WORDS..], n, y);
             Entered {
                 place: n,
                 count: n + 1,

@@ -1,5 +1,6 @@
 use mathlib.Core.Path.{_∙_}
 use native.Mathlib.Omega.{arith}
+use Rattle.dag.specs.ViewLaws.{words-room}
 use Rattle.field.specs.Fields.{goldilocks}
 use Rattle.periodic.specs.EnterLaws.{enter-long, enter-place, enter-node}
 use Rattle.periodic.specs.StoreLaws.{noted-told}
@@ -26,7 +27,10 @@ enum-known-result-2 : tie.Need-enum-known-result-2
 enum-known-result-2 c = search needs
 
 put-node-requires : tie.Need-put-node-requires
-put-node-requires c κs = search needs
+put-node-requires c κs =
+    let at-if1 = c .before .before .before .before .before .before in
+    let start = at-if1 .before .before in
+    words-room (start .args .list .now) _ (omega (arith, start .pre .0 .long, at-if1 .if1 .left))
 
 sub-note : tie.Need-sub-note
 sub-note c = search needs
