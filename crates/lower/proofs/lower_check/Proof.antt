@@ -2,7 +2,7 @@ use mathlib.Core.Path.{sym, _∙_}
 use borrow.Author.Tests.{not-true, not-false}
 use Rattle.field.specs.Fields.{goldilocks}
 use Rattle.dag.specs.CheckLaws.{good-told, bad-told}
-use Rattle.lower.specs.CallLaws.{check-list, check-columns, check-work, check-places, check-period}
+use Rattle.lower.specs.CallLaws.{check-list, check-columns, check-stores, check-period}
 use borrow.Author.Needs.{needs}
 use Rattle.lower.proofs.lower_check.Statement.{statement}
 use Rattle.lower.proofs.lower_check.Tie as tie
@@ -33,65 +33,62 @@ returns-2 c =
     (at-prepare-check .prepare-check .ensures) (bad-told (at-prepare-check .prepare-check .ensures) (at-is-refused2 .is-refused2 .ensures)
     (c .if2 .taken))
 
-mul-if3 : tie.Need-mul-if3
-mul-if3 c = search needs
+lower-stores-requires : tie.Need-lower-stores-requires
+lower-stores-requires c κs = search needs
+
+is-refused-requires-3 : tie.Need-is-refused-requires-3
+is-refused-requires-3 c κs = search needs
 
 returns-3 : tie.Need-returns-3
 returns-3 c =
-    let at-if2 = c .before in
+    let at-is-refused3 = c .before in
+    let at-lower-stores = at-is-refused3 .before in
+    let at-if2 = at-lower-stores .before in
     let at-is-refused2 = at-if2 .before in
     let at-prepare-check = at-is-refused2 .before in
     let at-if1 = at-prepare-check .before in
     let at-is-refused = at-if1 .before in
     let at-rootless-check = at-is-refused .before in
-    check-work goldilocks _ _ _ _ _ _ _ (good-told (at-rootless-check .rootless-check .ensures) (at-is-refused .is-refused .ensures) (at-if1 .if1 .left))
-    (good-told (at-prepare-check .prepare-check .ensures) (at-is-refused2 .is-refused2 .ensures) (at-if2 .if2 .left)) (c .if3 .taken)
-
-returns-4 : tie.Need-returns-4
-returns-4 c =
-    let at-if3 = c .before in
-    let at-if2 = at-if3 .before in
-    let at-is-refused2 = at-if2 .before in
-    let at-prepare-check = at-is-refused2 .before in
-    let at-if1 = at-prepare-check .before in
-    let at-is-refused = at-if1 .before in
-    let at-rootless-check = at-is-refused .before in
-    check-places goldilocks _ _ _ _ _ _ _ (good-told (at-rootless-check .rootless-check .ensures) (at-is-refused .is-refused .ensures) (at-if1 .if1 .left))
-    (good-told (at-prepare-check .prepare-check .ensures) (at-is-refused2 .is-refused2 .ensures) (at-if2 .if2 .left)) (at-if3 .if3 .left)
-    (c .if4 .taken)
+    check-stores goldilocks _ _ _ _ _ _ _ (good-told (at-rootless-check .rootless-check .ensures) (at-is-refused .is-refused .ensures) (at-if1 .if1 .left))
+    (good-told (at-prepare-check .prepare-check .ensures) (at-is-refused2 .is-refused2 .ensures) (at-if2 .if2 .left)) _ (at-lower-stores .lower-stores .ensures)
+    (bad-told (at-lower-stores .lower-stores .ensures) (at-is-refused3 .is-refused3 .ensures) (c .if3 .taken))
 
 period-good-requires : tie.Need-period-good-requires
 period-good-requires c κs = search needs
 
+returns-4 : tie.Need-returns-4
+returns-4 c =
+    let at-period-good = c .before in
+    let at-if3 = at-period-good .before in
+    let at-is-refused3 = at-if3 .before in
+    let at-lower-stores = at-is-refused3 .before in
+    let at-if2 = at-lower-stores .before in
+    let at-is-refused2 = at-if2 .before in
+    let at-prepare-check = at-is-refused2 .before in
+    let at-if1 = at-prepare-check .before in
+    let at-is-refused = at-if1 .before in
+    let at-rootless-check = at-is-refused .before in
+    check-period goldilocks _ _ _ _ _ _ _ (good-told (at-rootless-check .rootless-check .ensures) (at-is-refused .is-refused .ensures) (at-if1 .if1 .left))
+    (good-told (at-prepare-check .prepare-check .ensures) (at-is-refused2 .is-refused2 .ensures) (at-if2 .if2 .left)) _
+    (good-told (at-lower-stores .lower-stores .ensures) (at-is-refused3 .is-refused3 .ensures) (at-if3 .if3 .left))
+    (sym (not-true _ (c .if4 .taken)) ∙ at-period-good .period-good .ensures)
+
 returns-5 : tie.Need-returns-5
 returns-5 c =
     let at-period-good = c .before in
-    let at-if4 = at-period-good .before in
-    let at-if3 = at-if4 .before in
-    let at-if2 = at-if3 .before in
+    let at-if3 = at-period-good .before in
+    let at-is-refused3 = at-if3 .before in
+    let at-lower-stores = at-is-refused3 .before in
+    let at-if2 = at-lower-stores .before in
     let at-is-refused2 = at-if2 .before in
     let at-prepare-check = at-is-refused2 .before in
     let at-if1 = at-prepare-check .before in
     let at-is-refused = at-if1 .before in
     let at-rootless-check = at-is-refused .before in
     check-period goldilocks _ _ _ _ _ _ _ (good-told (at-rootless-check .rootless-check .ensures) (at-is-refused .is-refused .ensures) (at-if1 .if1 .left))
-    (good-told (at-prepare-check .prepare-check .ensures) (at-is-refused2 .is-refused2 .ensures) (at-if2 .if2 .left)) _ (at-if3 .if3 .left)
-    (at-if4 .if4 .left) (sym (not-true _ (c .if5 .taken)) ∙ at-period-good .period-good .ensures)
-
-returns-6 : tie.Need-returns-6
-returns-6 c =
-    let at-period-good = c .before in
-    let at-if4 = at-period-good .before in
-    let at-if3 = at-if4 .before in
-    let at-if2 = at-if3 .before in
-    let at-is-refused2 = at-if2 .before in
-    let at-prepare-check = at-is-refused2 .before in
-    let at-if1 = at-prepare-check .before in
-    let at-is-refused = at-if1 .before in
-    let at-rootless-check = at-is-refused .before in
-    check-period goldilocks _ _ _ _ _ _ _ (good-told (at-rootless-check .rootless-check .ensures) (at-is-refused .is-refused .ensures) (at-if1 .if1 .left))
-    (good-told (at-prepare-check .prepare-check .ensures) (at-is-refused2 .is-refused2 .ensures) (at-if2 .if2 .left)) _ (at-if3 .if3 .left)
-    (at-if4 .if4 .left) (sym (not-false _ (c .if5 .left)) ∙ at-period-good .period-good .ensures)
+    (good-told (at-prepare-check .prepare-check .ensures) (at-is-refused2 .is-refused2 .ensures) (at-if2 .if2 .left)) _
+    (good-told (at-lower-stores .lower-stores .ensures) (at-is-refused3 .is-refused3 .ensures) (at-if3 .if3 .left))
+    (sym (not-false _ (c .if4 .left)) ∙ at-period-good .period-good .ensures)
 
 pub lower-check-spec : {M : Type 1} → statement M
 lower-check-spec =
@@ -103,9 +100,9 @@ lower-check-spec =
     prepare-check-requires
     is-refused-requires-2
     returns-2
-    mul-if3
+    lower-stores-requires
+    is-refused-requires-3
     returns-3
-    returns-4
     period-good-requires
-    returns-5
-    returns-6)
+    returns-4
+    returns-5)

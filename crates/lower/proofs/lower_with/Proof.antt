@@ -3,6 +3,7 @@ use native.Mathlib.Nat.{le-trans, le-of-eq}
 use native.Mathlib.Omega.{arith}
 use lib.Seq.{length-take-le}
 use Rattle.field.specs.Fields.{goldilocks}
+use Rattle.dag.specs.ViewLaws.{words-room}
 use Rattle.lower.specs.Contracts as Said
 use Rattle.lower.specs.CallLaws.{stored-ready, finished}
 use borrow.Author.Needs.{needs}
@@ -23,7 +24,7 @@ build-periodic-nodes-requires c κs =
     let at-power-within = c .before .before in
     let at-store-list = at-power-within .before .before .before in
     let start = at-store-list .before .before .before .before .before .before .before .before in (
-      stored-ready goldilocks _ _ (start .pre .0 .list .most) (start .pre .0 .list .sound) _ (at-store-list .store-list .ensures),
+      stored-ready goldilocks _ (start .pre .0 .list .most) _ (start .pre .0 .list .sound) _ (at-store-list .store-list .ensures),
       subst
           (Said.Covered goldilocks (start .args .lengths .now) (start .args .entries .now)) (sym (at-power-within .power-within .ensures .0))
           (start .pre .0 .covered),
@@ -43,7 +44,7 @@ hand-over-requires c κs =
     let at-build-periodic-nodes = c .before .before .before .before .before .before .before in
     let at-store-list = at-build-periodic-nodes .before .before .before .before .before .before in
     let start = at-store-list .before .before .before .before .before .before .before .before in (
-      omega (arith, at-build-periodic-nodes .build-periodic-nodes .kept .0, at-store-list .store-list .ensures .long),
+      words-room _ _ (omega (arith, at-build-periodic-nodes .build-periodic-nodes .kept .0, at-store-list .store-list .ensures .long)),
       le-trans
           (le-of-eq (length-take-le _ (at-build-periodic-nodes .build-periodic-nodes .last .1 .1 .1 .1 .1 .0)
           (omega (arith, start .pre .0 .tested .handed .few)))) (start .pre .0 .place-room),

@@ -1,16 +1,18 @@
 use Rattle.field.specs.Fields.{goldilocks}
-use Rattle.dag.specs.BlankLaws.{copied-front}
-use mathlib.Core.Path.{_∙_}
-use Rattle.lower.specs.CallLaws.{stored}
+use mathlib.Core.Path.{_∙_, ap}
+use native.Mathlib.Omega.{arith}
+use Rattle.dag.specs.Store.{front}
+use Rattle.dag.specs.ViewLaws.{words-room}
+use Rattle.dag.specs.WordLaws.{front-copied}
+use Rattle.lower.specs.CallLaws.{stored-list}
 use borrow.Author.Needs.{needs}
 use Rattle.lower.proofs.store_list.Statement.{statement}
 use Rattle.lower.proofs.store_list.Tie as tie
 
-mul-copy-words : tie.Need-mul-copy-words
-mul-copy-words c = search needs
-
-copy-words-requires : tie.Need-copy-words-requires
-copy-words-requires c κs = search needs
+copy-records-requires : tie.Need-copy-records-requires
+copy-records-requires c κs =
+    let start = c .before .before .before in
+    (start .pre .0 .room, words-room (start .args .store .now) (start .args .n) (omega (arith, start .pre .1, start .pre .2)))
 
 sub-index-list : tie.Need-sub-index-list
 sub-index-list c = search needs
@@ -30,17 +32,17 @@ same-length c = search needs
 returns : tie.Need-returns
 returns c =
     let at-index-list = c .before .before in
-    let at-copy-words = at-index-list .before .before .before .before in
-    let start = at-copy-words .before .before .before .before in
-    stored goldilocks _ _ (start .pre .1) _ _ (copied-front _ _ _ (start .pre .0 .room) (at-copy-words .copy-words .ensures))
-    ((at-copy-words .copy-words .kept .1 .1 .0) ∙ (start .pre .2)) (at-index-list .index-list .ensures) (at-index-list .index-list .kept .1 .1 .0)
+    let at-copy-records = at-index-list .before .before .before .before in
+    let start = at-copy-records .before .before .before .before in
+    stored-list goldilocks (start .args .n) (start .pre .1) (start .args .list .now) _ _
+    (ap (front (start .args .n)) (at-copy-records .copy-records .ensures) ∙ front-copied (start .args .list .now) (start .args .store .now) (start .args .n) (start .pre .0 .room))
+    (at-copy-records .copy-records .kept .1 .1 .0 ∙ start .pre .2) (at-index-list .index-list .ensures) (at-index-list .index-list .kept .1 .1 .0)
 
 pub store-list-spec : {M : Type 1} → statement M
 store-list-spec =
     tie.close
     (tie.spec
-    mul-copy-words
-    copy-words-requires
+    copy-records-requires
     sub-index-list
     part-index-list-start
     part-index-list-end
