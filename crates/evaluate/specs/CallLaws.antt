@@ -8,6 +8,7 @@ use lib.Dec.{leb}
 use lib.ListN.{length, replicate, length-replicate}
 use Rattle.field.specs.Fields.{Field, Bounds}
 use Rattle.field.specs.declared.QuadFelt.{QuadFelt}
+use Rattle.dag.specs.View.{View}
 use Rattle.dag.specs.Nodes.{mostRecords, nodes, at}
 use Rattle.dag.specs.Refusals.{firstRefused, need, _then_}
 use Rattle.dag.specs.Check.{listCheck}
@@ -42,7 +43,7 @@ entries-pass m width e n h q =
     (record { wide = h; room = leb-true (width * n) (length e) (need-good (leb (width * n) (length e)) StoreTooShort (two .0)) }, two .1)
 
 module _ (field : Field) where
-  module _ (s : List ℕ) (n root : ℕ) (a : List ℕ) (m : ℕ) where
+  module _ (s : View) (n root : ℕ) (a : List ℕ) (m : ℕ) where
     -- where Evaluate refuses
     pub answer-refused : (r : Refusal) → evaluateCheck field s n root a m ≡ Checked'.Refused r → refused r ≡ evaluateAnswer field s n root a m
     unfolding evaluateAnswer
@@ -111,5 +112,5 @@ module _ (field : Field) where
       unfolding inputsCheck given
       accepted-input i key h q =
           let has = need-good (hasEntry (entryOf entryWords a m) (at (nodes s n) i)) (Unassigned i) (first-good (λ i. need (hasEntry (entryOf entryWords a m) (at (nodes s n) i)) (Unassigned i)) n (tests .2) i h) in
-          let found = found-last entryWords a m key (rw q at has) in
+          let found = found-last entryWords a key m (rw q at has) in
           (found .0, found .2, ap (elementOf a) (found .1))

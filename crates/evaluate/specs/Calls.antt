@@ -5,6 +5,7 @@ use lib.ListN.{getD}
 use Rattle.field.specs.Fields.{Field}
 use Rattle.field.specs.Field.{new}
 use Rattle.field.specs.declared.QuadFelt.{QuadFelt}
+use Rattle.dag.specs.View.{View}
 use Rattle.dag.specs.Nodes.{nodes}
 use Rattle.dag.specs.Refusals.{_then_, unlessRefused}
 use Rattle.dag.specs.Check.{listCheck}
@@ -32,7 +33,7 @@ given a m key = elementOf a (entryOf entryWords a m key)
 
 module _ (field : Field) where
   -- Evaluate's tests: the list check, the entries, then the inputs
-  unfoldable pub evaluateCheck : List ℕ → ℕ → ℕ → List ℕ → ℕ → Checked
+  unfoldable pub evaluateCheck : View → ℕ → ℕ → List ℕ → ℕ → Checked
   evaluateCheck s n root a m =
       listCheck (field .bounds) s n root
       then entriesCheck (field .bounds) entryWords a m
@@ -44,6 +45,6 @@ refused r = record { checked = Refused r; value = new 0 0 }
 
 module _ (field : Field) where
   -- the root's value
-  unfoldable pub evaluateAnswer : List ℕ → ℕ → ℕ → List ℕ → ℕ → EvaluateAnswer
+  unfoldable pub evaluateAnswer : View → ℕ → ℕ → List ℕ → ℕ → EvaluateAnswer
   evaluateAnswer s n root a m =
       unlessRefused (evaluateCheck field s n root a m) refused (record { checked = Good; value = value (field .elements) (given a m) (nodes s n) root })

@@ -1,9 +1,10 @@
 -- What the functions of evaluation ask of their stores.
-use Prim.Native.Nat.{ℕ, _+_, _*_, _≤_, _<_}
+use Prim.Native.Nat.{ℕ, _≤_, _<_}
 use mathlib.Core.Bool.{Bool, true, false}
 use mathlib.Core.List.{List}
 use mathlib.Core.Path.{_≡_}
 use lib.ListN.{getD, length}
+use Rattle.dag.specs.View.{View}
 use Rattle.dag.specs.Refusals.{firstRefused}
 use Rattle.field.specs.Fields.{Field, Low}
 use Rattle.field.specs.Field.{new}
@@ -37,26 +38,26 @@ elementAt c0 c1 i = new (getD c0 i 0) (getD c1 i 0)
 
 module _ (field : Field) where
   -- the record at place i may stand there, and the values before it are in two arrays
-  pub record Valued (s : List ℕ) (i : ℕ) (c0 c1 : List ℕ) : Type 0 where
-    pub room : 3 * i + 2 < length s
+  pub record Valued (s : View) (i : ℕ) (c0 c1 : List ℕ) : Type 0 where
+    pub room : i < s .room
     pub fine : Fine (Low field) i (recordAt s i)
     pub first : i ≤ length c0
     pub second : i ≤ length c1
     pub low : (j : ℕ) → j < i → Low field (elementAt c0 c1 j)
 
   -- n records and m entries that pass their tests, and k places for values
-  pub record Ready (s : List ℕ) (n : ℕ) (a : List ℕ) (m k : ℕ) : Type 0 where
+  pub record Ready (s : View) (n : ℕ) (a : List ℕ) (m k : ℕ) : Type 0 where
     pub sound : Sound (field .bounds) s n
     pub lent : Lent entryWords a m
     pub good : firstRefused (entryCheck (field .bounds) entryWords a) m ≡ Good
     pub fits : n ≤ k
 
   -- the values of the first i records stand in two arrays
-  abbrev pub Filled : List ℕ → ℕ → List ℕ → ℕ → List ℕ → List ℕ → ℕ → Type 0
+  abbrev pub Filled : View → ℕ → List ℕ → ℕ → List ℕ → List ℕ → ℕ → Type 0
   Filled s n a m c0 c1 i = (j : ℕ) → j < i → elementAt c0 c1 j ≡ value (field .elements) (given a m) (nodes s n) j
 
   -- the list and the entries pass their tests
-  pub record Tested (s : List ℕ) (n root : ℕ) (a : List ℕ) (m : ℕ) : Type 0 where
+  pub record Tested (s : View) (n root : ℕ) (a : List ℕ) (m : ℕ) : Type 0 where
     pub list : listCheck (field .bounds) s n root ≡ Good
     pub entries : entriesCheck (field .bounds) entryWords a m ≡ Good
 

@@ -1,28 +1,27 @@
 -- The turns of the loops over entries, and what entries that pass are known to be.
 use Prim.Native.Nat.{ℕ, zero, suc, _+_, _*_, _-_, _≤_, _<_}
-use mathlib.Core.Bool.{Bool, true, false, cond, _&&_, true≢false}
+use mathlib.Core.Bool.{Bool, true, false, _&&_, true≢false}
 use mathlib.Core.List.{List}
-use mathlib.Core.Logic.{_⊎_, inl, inr}
-use mathlib.Core.Path.{_≡_, refl, sym, _∙_, ap}
+use mathlib.Core.Path.{_≡_, refl, sym, _∙_, ap, subst}
 use native.Mathlib.Nat.{mul-suc, mul-le-mul-left}
-use native.Mathlib.Numerals.{add-one, sub-one}
+use native.Mathlib.Numerals.{add-one}
 use native.Mathlib.Omega.{arith}
-use borrow.Author.Tests.{lt-ltb, ltb-true, eq-eqb, ne-eqb, eqb-true, eqb-false}
+use borrow.Author.Tests.{lt-ltb, ltb-true, eqb-true, eqb-false}
 use lib.Dec.{ltb, eqb}
 use lib.ListN.{getD, length}
-use Rattle.dag.specs.Lookup.{greatest}
 use Rattle.field.specs.Fields.{Bounds, bound}
+use Rattle.dag.specs.View.{View}
 use Rattle.dag.specs.Keys.{isKey}
 use Rattle.dag.specs.Nodes.{nodes, at, recordAt}
 use Rattle.dag.specs.NodeLaws.{at-nodes}
+use Rattle.dag.specs.SearchLaws.{Greatest, greatest-says}
 use Rattle.dag.specs.declared.NodeKind.{NodeKind}
-use Rattle.dag.specs.CaseLaws.{and-true, below-suc, below-suc-elim}
-use Rattle.dag.specs.Refusals.{firstRefused, need, _then_, isRefused}
+use Rattle.dag.specs.CaseLaws.{and-true, below-suc-elim}
+use Rattle.dag.specs.Refusals.{need}
 use Rattle.dag.specs.CheckLaws.{first-next, first-bad}
 use Rattle.dag.specs.declared.Found.{Found}
 use Rattle.dag.specs.declared.Found.the-variants.{At, Missing}
 use Rattle.dag.specs.declared.Refusal.the-variants.{Malformed, Unassigned}
-use Rattle.dag.specs.declared.Checked.{Checked}
 use Rattle.dag.specs.declared.Checked.the-variants.{Good, Refused}
 use Rattle.evaluate.specs.Entries.{Lent, keyAt, wordsBelow, entryCheck, entryOf, isFound, hasEntry, inputsCheck}
 
@@ -84,73 +83,35 @@ module _ (width : ℕ) (e : List ℕ) (n : ℕ) (lent : Lent width e n) where
   pub key-room : (i : ℕ) → i < n → width * i < length e
   key-room i h = omega (arith, entry-room i h, lent .wide)
 
--- the search for a key's last entry, one entry a turn
-module _ (width : ℕ) (e : List ℕ) (key : ℕ) where
-  entry-step : (i : ℕ) → 0 < i → entryOf width e i key ≡ cond (eqb (keyAt width e (i - 1)) key) (At (i - 1)) (entryOf width e (i - 1) key)
-  unfolding entryOf greatest
-  entry-step zero h = absurd (omega arith)
-  entry-step (suc i) h = rw (sub-one (suc i))
-
-  module _ (n i : ℕ) (h : 0 < i) (inv : entryOf width e n key ≡ entryOf width e i key) where
-    pub entry-hit : keyAt width e (i - 1) ≡ key → At (i - 1) ≡ entryOf width e n key
-    entry-hit q = sym (inv ∙ (entry-step i h ∙ rw (eq-eqb (keyAt width e (i - 1)) key q)))
-
-    pub entry-miss : (keyAt width e (i - 1) ≡ key → ⊥) → entryOf width e n key ≡ entryOf width e (i - 1) key
-    entry-miss q = inv ∙ (entry-step i h ∙ rw (ne-eqb (keyAt width e (i - 1)) key q))
-
-  pub entry-none : (n i : ℕ) → i ≤ 0 → entryOf width e n key ≡ entryOf width e i key → Missing ≡ entryOf width e n key
-  unfolding entryOf greatest
-  entry-none n zero h inv = sym inv
-  entry-none n (suc i) h inv = absurd (omega arith)
-
--- what is found is an entry
-module _ (width : ℕ) (e : List ℕ) (key : ℕ) where
-  pub entry-inside : (n i : ℕ) → entryOf width e n key ≡ At i → i < n
-  unfolding entryOf greatest
-  entry-inside zero i q = let z : _≡_ {A = ℕ} 0 1 = cc in absurd (omega arith)
-  entry-inside (suc n) i q = go (eqb (keyAt width e n) key) q (entry-inside n i)
-    where
-      go : (b : Bool) → cond b (At n) (entryOf width e n key) ≡ At i → (entryOf width e n key ≡ At i → i < n) → i < suc n
-      go true q before = let f : n ≡ i = cc in omega arith
-      go false q before = let k = before q in omega arith
-
 -- entry i is the last one of a key among the first n
 pub record Last (width : ℕ) (e : List ℕ) (n key i : ℕ) : Type 0 where
   pub inside : i < n
   pub its-key : keyAt width e i ≡ key
   pub none-later : (j : ℕ) → i < j → j < n → keyAt width e j ≡ key → ⊥
 
--- what a search for a key's last entry says
-abbrev Says : ℕ → List ℕ → ℕ → ℕ → Found → Type 0
-Says width e n key (At i) = Last width e n key i
-Says width e n key Missing = (j : ℕ) → j < n → keyAt width e j ≡ key → ⊥
+-- the search for a key's last entry
+module _ (width : ℕ) (e : List ℕ) (key : ℕ) where
+  -- entry i is one of the key's
+  abbrev its : ℕ → Bool
+  its i = eqb (keyAt width e i) key
 
-pub entry-says : (width : ℕ) (e : List ℕ) (n key : ℕ) → Says width e n key (entryOf width e n key)
-unfolding entryOf greatest
-entry-says width e zero key = λ j h q. absurd (omega arith)
-entry-says width e (suc n) key = go (eqb (keyAt width e n) key) refl (entryOf width e n key) (entry-says width e n key)
-  where
-    go : (b : Bool) → eqb (keyAt width e n) key ≡ b → (f : Found) → Says width e n key f → Says width e (suc n) key (cond b (At n) f)
-    go true q f says =
-        record { inside = omega arith; its-key = eqb-true (keyAt width e n) key q; none-later = λ j h k r. absurd (omega arith) }
-    go false q (At i) says =
-        record {
-          inside = omega (arith, says .inside);
-          its-key = says .its-key;
-          none-later = λ j h k. below-suc-elim (λ j. i < j → keyAt width e j ≡ key → ⊥) n (λ j k h. says .none-later j h k) (λ h. eqb-false (keyAt width e n) key q) j k h;
-        }
-    go false q Missing says = below-suc-elim (λ j. keyAt width e j ≡ key → ⊥) n says (eqb-false (keyAt width e n) key q)
+  -- what is found is an entry
+  pub entry-inside : (n i : ℕ) → entryOf width e n key ≡ At i → i < n
+  unfolding entryOf
+  entry-inside n i q = subst (Greatest its n) q (greatest-says its n) .0
 
--- a found entry is the key's last one
-pub found-last : (width : ℕ) (e : List ℕ) (n key : ℕ) → isFound (entryOf width e n key) ≡ true → (i : ℕ) × (entryOf width e n key ≡ At i) × Last width e n key i
-found-last width e n key q = go (entryOf width e n key) refl (entry-says width e n key) q
-  where
-    go : (f : Found) → entryOf width e n key ≡ f → Says width e n key f → isFound f ≡ true → (i : ℕ) × (entryOf width e n key ≡ At i) × Last width e n key i
-    go (At i) r says q = (i, r, says)
-    go Missing r says q = absurd (true≢false (sym q))
+  -- a found entry is the key's last one
+  pub found-last : (n : ℕ) → isFound (entryOf width e n key) ≡ true → (i : ℕ) × (entryOf width e n key ≡ At i) × Last width e n key i
+  unfolding entryOf
+  found-last n q = go (entryOf width e n key) refl (greatest-says its n) q
+    where
+      go : (f : Found) → entryOf width e n key ≡ f → Greatest its n f → isFound f ≡ true → (i : ℕ) × (entryOf width e n key ≡ At i) × Last width e n key i
+      go (At i) r says q =
+          (i, r, record { inside = says .0; its-key = eqb-true (keyAt width e i) key (says .1); none-later = λ j h k. eqb-false (keyAt width e j) key (says .2 j (omega arith) k) })
+      go Missing r says q = absurd (true≢false (sym q))
 
 -- the inputs, one record a turn
-module _ (find : ℕ → Found) (s : List ℕ) (n i : ℕ) (x : NodeKind) (h : i < n) (before : inputsCheck find (nodes s n) i ≡ Good) (e : x ≡ recordAt s i) where
+module _ (find : ℕ → Found) (s : View) (n i : ℕ) (x : NodeKind) (h : i < n) (before : inputsCheck find (nodes s n) i ≡ Good) (e : x ≡ recordAt s i) where
   here : hasEntry find x ≡ hasEntry find (at (nodes s n) i)
   here = ap (hasEntry find) (e ∙ sym (at-nodes s n i h))
 

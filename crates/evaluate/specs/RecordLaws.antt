@@ -6,6 +6,7 @@ use mathlib.Core.Path.{_≡_, refl, _∙_, ap}
 use native.Mathlib.Omega.{arith}
 use Rattle.field.specs.Fields.{Field, Low}
 use Rattle.field.specs.declared.QuadFelt.{QuadFelt}
+use Rattle.dag.specs.View.{View}
 use Rattle.dag.specs.Nodes.{recordAt}
 use Rattle.dag.specs.WellFormed.{Fine}
 use Rattle.dag.specs.declared.NodeKind.{NodeKind}
@@ -63,7 +64,7 @@ module _ (field : Field) where
         go false e = refl
 
   -- the operands of a record that may stand at place i
-  module _ (s : List ℕ) (i : ℕ) (c0 c1 : List ℕ) (h : Valued field s i c0 c1) {x : NodeKind} (e : x ≡ recordAt s i) where
+  module _ (s : View) (i : ℕ) (c0 c1 : List ℕ) (h : Valued field s i c0 c1) {x : NodeKind} (e : x ≡ recordAt s i) where
     fine : Fine (Low field) i x
     fine = rw e (h .fine)
 
@@ -84,5 +85,5 @@ module _ (field : Field) where
     neg-before f = rw f at fine
 
   -- a value that was read is in lowest form
-  pub low-read : {s : List ℕ} {i : ℕ} {c0 c1 : List ℕ} → Valued field s i c0 c1 → (j : ℕ) {r : QuadFelt} → j < i → r ≡ elementAt c0 c1 j → Low field r
+  pub low-read : {s : View} {i : ℕ} {c0 c1 : List ℕ} → Valued field s i c0 c1 → (j : ℕ) {r : QuadFelt} → j < i → r ≡ elementAt c0 c1 j → Low field r
   low-read h j k e = rw e (h .low j k)

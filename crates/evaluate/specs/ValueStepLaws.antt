@@ -13,6 +13,7 @@ use Rattle.dag.specs.Refusals.{firstRefused}
 use Rattle.field.specs.Fields.{Field, Within, Low, elementLaws}
 use Rattle.field.specs.Field.{new}
 use Rattle.field.specs.declared.QuadFelt.{QuadFelt}
+use Rattle.dag.specs.View.{View}
 use Rattle.dag.specs.Keys.{isKey}
 use Rattle.dag.specs.Nodes.{nodes, at, recordAt}
 use Rattle.dag.specs.NodeLaws.{length-nodes, at-nodes}
@@ -39,9 +40,9 @@ module _ (field : Field) where
     entry-low : (i : ℕ) → i < m → Low field (elementOf a (At i))
     unfolding elementOf entryCheck
     entry-low i h =
-        let e = need-good (isKey (keyAt entryWords a i) && wordsBelow (field .bounds) a (3 * i + 1) 2) (Malformed i) (first-good (entryCheck (field .bounds) entryWords a) m good i h) in
-        let w = and-true (isKey (keyAt entryWords a i)) (wordsBelow (field .bounds) a (3 * i + 1) 2) e .1 in
-        (rw (add-zero (3 * i + 1)) at (word-below (field .bounds) a (3 * i + 1) 2 0 (omega arith) w), rw (add-assoc (3 * i) 1 1) at (word-below (field .bounds) a (3 * i + 1) 2 1 (omega arith) w))
+        let e = need-good (isKey (keyAt entryWords a i) && wordsBelow (field .bounds) a (entryWords * i + 1) 2) (Malformed i) (first-good (entryCheck (field .bounds) entryWords a) m good i h) in
+        let w = and-true (isKey (keyAt entryWords a i)) (wordsBelow (field .bounds) a (entryWords * i + 1) 2) e .1 in
+        (rw (add-zero (entryWords * i + 1)) at (word-below (field .bounds) a (entryWords * i + 1) 2 0 (omega arith) w), rw (add-assoc (entryWords * i) 1 1) at (word-below (field .bounds) a (entryWords * i + 1) 2 1 (omega arith) w))
 
     found-low : (f : Found) → ((i : ℕ) → f ≡ At i → i < m) → Low field (elementOf a f)
     unfolding elementOf
@@ -52,7 +53,7 @@ module _ (field : Field) where
     unfolding given
     given-low key = found-low (entryOf entryWords a m key) (λ i e. entry-inside entryWords a key m i e)
 
-  module _ (s : List ℕ) (n : ℕ) (a : List ℕ) (m k : ℕ) (r : Ready field s n a m k) where
+  module _ (s : View) (n : ℕ) (a : List ℕ) (m k : ℕ) (r : Ready field s n a m k) where
     well-formed : WellFormed (Within (field .bounds)) (nodes s n)
     well-formed = sound-well-formed (field .bounds) s n (r .sound)
 

@@ -7,6 +7,7 @@ use field::QuadFelt;
 ghost use mathlib.Core.Path.{_≡_};
 ghost use Prim.Native.Nat.{_+_, _*_, _-_, _^_, _<_, _≤_};
 ghost use lib.ListN.{length, set};
+ghost use Rattle.dag.specs.View.{interleaved};
 ghost use Rattle.dag.specs.Refusals as Refusals;
 ghost use Rattle.field.specs.Fields.{goldilocks};
 ghost use Rattle.field.specs.Field.{p};
@@ -221,9 +222,9 @@ fn value_of(
     c0: &[u64],
     c1: &[u64],
 ) -> Assigned
-    requires { ⌜ Contracts.Valued goldilocks (now list) i (now c0) (now c1) ⌝ }
+    requires { ⌜ Contracts.Valued goldilocks (interleaved (now list)) i (now c0) (now c1) ⌝ }
     requires { ⌜ Lent Calls.entryWords (now assignment) m × KeyIndex.Keyed Calls.entryWords (now assignment) m (now links) ⌝ }
-    ensures { λ r. ⌜ r ≡ Contracts.recordAnswer goldilocks (now (assignment .entry)) m (Contracts.elementAt (now (c0 .entry)) (now (c1 .entry))) (Nodes.recordAt (now (list .entry)) i) ⌝ }
+    ensures { λ r. ⌜ r ≡ Contracts.recordAnswer goldilocks (now (assignment .entry)) m (Contracts.elementAt (now (c0 .entry)) (now (c1 .entry))) (Nodes.recordAt (interleaved (now (list .entry))) i) ⌝ }
 {
     let x = dag::node_at(list, i);
     match x {
@@ -261,10 +262,10 @@ fn fill_values(
     c0: &mut [u64],
     c1: &mut [u64],
 ) -> Checked
-    requires { ⌜ Contracts.Ready goldilocks (now list) n (now assignment) m (length (now c0)) × (n ≤ length (now c1)) ⌝ }
+    requires { ⌜ Contracts.Ready goldilocks (interleaved (now list)) n (now assignment) m (length (now c0)) × (n ≤ length (now c1)) ⌝ }
     requires { ⌜ KeyIndex.Keyed Calls.entryWords (now assignment) m (now links) ⌝ }
-    ensures { λ r. ⌜ r ≡ Entries.inputsCheck (Entries.entryOf Calls.entryWords (now (assignment .entry)) m) (Nodes.nodes (now (list .entry)) n) n ⌝ }
-    ensures { λ r. ⌜ (r ≡ Checked.Good → Contracts.Filled goldilocks (now (list .entry)) n (now (assignment .entry)) m (now (c0 .exit)) (now (c1 .exit)) n) ⌝ }
+    ensures { λ r. ⌜ r ≡ Entries.inputsCheck (Entries.entryOf Calls.entryWords (now (assignment .entry)) m) (Nodes.nodes (interleaved (now (list .entry))) n) n ⌝ }
+    ensures { λ r. ⌜ (r ≡ Checked.Good → Contracts.Filled goldilocks (interleaved (now (list .entry))) n (now (assignment .entry)) m (now (c0 .exit)) (now (c1 .exit)) n) ⌝ }
 {
     let mut i = 0;
     while i < n {
@@ -299,9 +300,9 @@ fn evaluate_in(
     c1: &mut [u64],
     links: &mut [u64],
 ) -> EvaluateAnswer
-    requires { ⌜ Contracts.Tested goldilocks (now list) n root (now assignment) m ⌝ }
+    requires { ⌜ Contracts.Tested goldilocks (interleaved (now list)) n root (now assignment) m ⌝ }
     requires { ⌜ Contracts.Stores n m (now c0) (now c1) (now links) ⌝ }
-    ensures { λ r. ⌜ r ≡ Calls.evaluateAnswer goldilocks (now (list .entry)) n root (now (assignment .entry)) m ⌝ }
+    ensures { λ r. ⌜ r ≡ Calls.evaluateAnswer goldilocks (interleaved (now (list .entry))) n root (now (assignment .entry)) m ⌝ }
 {
     index_keys(assignment, ENTRY_WORDS, m, links);
     let filled = fill_values(list, n, assignment, m, links, c0, c1);
@@ -322,8 +323,8 @@ fn evaluate_sized(
     assignment: &[u64],
     m: usize,
 ) -> EvaluateAnswer
-    requires { ⌜ Contracts.Tested goldilocks (now list) n root (now assignment) m ⌝ }
-    ensures { λ r. ⌜ r ≡ Calls.evaluateAnswer goldilocks (now (list .entry)) n root (now (assignment .entry)) m ⌝ }
+    requires { ⌜ Contracts.Tested goldilocks (interleaved (now list)) n root (now assignment) m ⌝ }
+    ensures { λ r. ⌜ r ≡ Calls.evaluateAnswer goldilocks (interleaved (now (list .entry))) n root (now (assignment .entry)) m ⌝ }
 {
     let most = larger(n, m);
     if most <= FEW {
@@ -346,7 +347,7 @@ fn evaluate_sized(
 
 // Evaluate's tests of its words: the list, then the entries.
 fn words_check(list: &[u64], n: usize, root: usize, assignment: &[u64], m: usize) -> Checked
-    ensures { λ r. ⌜ r ≡ (listCheck (goldilocks .bounds) (now (list .entry)) n root then Entries.entriesCheck (goldilocks .bounds) Calls.entryWords (now (assignment .entry)) m) ⌝ }
+    ensures { λ r. ⌜ r ≡ (listCheck (goldilocks .bounds) (interleaved (now (list .entry))) n root then Entries.entriesCheck (goldilocks .bounds) Calls.entryWords (now (assignment .entry)) m) ⌝ }
 {
     let listed = dag::list_check(list, n, root);
     if dag::is_refused(listed) {
@@ -357,7 +358,7 @@ fn words_check(list: &[u64], n: usize, root: usize, assignment: &[u64], m: usize
 
 // Evaluate: the root's value under an assignment.
 pub fn evaluate(list: &[u64], n: usize, root: usize, assignment: &[u64], m: usize) -> EvaluateAnswer
-    ensures { λ r. ⌜ r ≡ Calls.evaluateAnswer goldilocks (now (list .entry)) n root (now (assignment .entry)) m ⌝ }
+    ensures { λ r. ⌜ r ≡ Calls.evaluateAnswer goldilocks (interleaved (now (list .entry))) n root (now (assignment .entry)) m ⌝ }
 {
     let checked = words_check(list, n, root, assignment, m);
     match checked {

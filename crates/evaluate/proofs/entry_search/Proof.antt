@@ -1,8 +1,10 @@
-use Rattle.evaluate.specs.EntryLaws.{key-room, entry-hit, entry-miss, entry-none}
+use Rattle.evaluate.specs.EntryLaws.{key-room}
 use Rattle.evaluate.specs.Entries as Entries
 use Rattle.dag.specs.BranchLaws.{told}
+use Rattle.dag.specs.SearchLaws.{greatest-miss, greatest-hit, greatest-none}
+use borrow.Author.Tests.{eq-eqb, ne-eqb}
 use native.Mathlib.Omega.{arith}
-use mathlib.Core.Path.{_≡_, refl, _∙_}
+use mathlib.Core.Path.{_≡_, refl, sym, _∙_}
 use Prim.Native.Nat.{_≤_}
 use Rattle.evaluate.proofs.entry_search.Statement.{statement}
 use Rattle.evaluate.proofs.entry_search.Tie as tie
@@ -23,16 +25,26 @@ key-at-requires : tie.Need-key-at-requires Inv-loop μ-loop
 key-at-requires c κs = key-room _ _ _ (c .before .before .before .pre) _ (omega arith)
 
 returns : tie.Need-returns Inv-loop μ-loop
-returns c = entry-hit _ _ _ _ _ (c .before .before .loop-test .taken) (c .before .before .before .loop .inv .1) (told (c .before .key-at .ensures) (c .if1 .taken))
+unfolding Entries.entryOf
+returns c =
+    let at-loop-test = c .before .before in
+    let at-loop = at-loop-test .before in
+    sym (at-loop .loop .inv .1 ∙ greatest-hit _ (at-loop .loop .i) (at-loop-test .loop-test .taken) (eq-eqb _ _ (told (c .before .key-at .ensures) (c .if1 .taken))))
 
 loop-less : tie.Need-loop-less Inv-loop μ-loop
 loop-less c = omega arith
 
 loop-again : tie.Need-loop-again Inv-loop μ-loop
-loop-again c = (omega arith, entry-miss _ _ _ _ _ (c .before .before .loop-test .taken) (c .before .before .before .loop .inv .1) (λ e. c .if1 .left (c .before .key-at .ensures ∙ e)))
+unfolding Entries.entryOf
+loop-again c =
+    let at-loop-test = c .before .before in
+    let at-loop = at-loop-test .before in
+    let miss = ne-eqb _ _ (λ e. c .if1 .left (c .before .key-at .ensures ∙ e)) in
+    (omega arith, at-loop .loop .inv .1 ∙ greatest-miss _ (at-loop .loop .i) (at-loop-test .loop-test .taken) miss)
 
 returns-2 : tie.Need-returns-2 Inv-loop μ-loop
-returns-2 c = entry-none _ _ _ _ _ (c .loop-test .left) (c .before .loop .inv .1)
+unfolding Entries.entryOf
+returns-2 c = sym (c .before .loop .inv .1 ∙ greatest-none _ (c .before .loop .i) (c .loop-test .left))
 
 pub entry-search-spec : {M : Type 1} → statement M
 entry-search-spec =

@@ -5,6 +5,7 @@ use native.Mathlib.Nat.{le-antisymm}
 use native.Mathlib.Omega.{arith}
 use borrow.Author.Needs.{needs}
 use lib.ListN.{length}
+use Rattle.dag.specs.View.{interleaved}
 use Rattle.dag.specs.Refusals.{firstRefused}
 use Rattle.field.specs.Fields.{goldilocks}
 use Rattle.dag.specs.Nodes.{nodes}
@@ -25,7 +26,7 @@ never e = let z : _≡_ {A = ℕ} 0 1 = cc in absurd (omega arith)
 abbrev Inv-loop : tie.InvT-loop
 Inv-loop list n assignment m links c0₀ c1₀ i₀ c0 c1 i =
     (i ≤ n) × (length c0 ≡ length c0₀) × (length c1 ≡ length c1₀)
-    × Filled goldilocks list n assignment m c0 c1 i × (inputsCheck (entryOf entryWords assignment m) (nodes list n) i ≡ Good)
+    × Filled goldilocks (interleaved list) n assignment m c0 c1 i × (inputsCheck (entryOf entryWords assignment m) (nodes (interleaved list) n) i ≡ Good)
 
 abbrev μ-loop : tie.MeasureT-loop
 μ-loop list n assignment m links c0₀ c1₀ i₀ c0 c1 i = n - i

@@ -18,56 +18,56 @@ mul-t8 c =
     let at-found = c .before in
     let at-entry-of = at-found .before .before in
     let start = at-entry-of .before .before .before in
-    omega (arith, entry-inside 3 _ _ _ _ (told (at-entry-of .entry-of .ensures) (at-found .found .given .1)), start .pre .0 .room, start .good .0 .1)
+    omega (arith, entry-inside Calls.entryWords _ _ _ _ (told (at-entry-of .entry-of .ensures) (at-found .found .given .1)), start .pre .0 .room, start .good .0 .1)
 
 add-t9 : tie.Need-add-t9
 add-t9 c =
     let at-found = c .before in
     let at-entry-of = at-found .before .before in
     let start = at-entry-of .before .before .before in
-    omega (arith, entry-inside 3 _ _ _ _ (told (at-entry-of .entry-of .ensures) (at-found .found .given .1)), start .pre .0 .room, start .good .0 .1)
+    omega (arith, entry-inside Calls.entryWords _ _ _ _ (told (at-entry-of .entry-of .ensures) (at-found .found .given .1)), start .pre .0 .room, start .good .0 .1)
 
 mul-t10 : tie.Need-mul-t10
 mul-t10 c =
     let at-found = c .before in
     let at-entry-of = at-found .before .before in
     let start = at-entry-of .before .before .before in
-    omega (arith, entry-inside 3 _ _ _ _ (told (at-entry-of .entry-of .ensures) (at-found .found .given .1)), start .pre .0 .room, start .good .0 .1)
+    omega (arith, entry-inside Calls.entryWords _ _ _ _ (told (at-entry-of .entry-of .ensures) (at-found .found .given .1)), start .pre .0 .room, start .good .0 .1)
 
 shared-slice-read-t12 : tie.Need-shared-slice-read-t12
 shared-slice-read-t12 c =
     let at-found = c .before .before in
     let at-entry-of = at-found .before .before in
     let start = at-entry-of .before .before .before in
-    omega (arith, entry-inside 3 _ _ _ _ (told (at-entry-of .entry-of .ensures) (at-found .found .given .1)), start .pre .0 .room, start .good .0 .1)
+    omega (arith, entry-inside Calls.entryWords _ _ _ _ (told (at-entry-of .entry-of .ensures) (at-found .found .given .1)), start .pre .0 .room, start .good .0 .1)
 
 mul-t13 : tie.Need-mul-t13
 mul-t13 c =
     let at-found = c .before .before in
     let at-entry-of = at-found .before .before in
     let start = at-entry-of .before .before .before in
-    omega (arith, entry-inside 3 _ _ _ _ (told (at-entry-of .entry-of .ensures) (at-found .found .given .1)), start .pre .0 .room, start .good .0 .1)
+    omega (arith, entry-inside Calls.entryWords _ _ _ _ (told (at-entry-of .entry-of .ensures) (at-found .found .given .1)), start .pre .0 .room, start .good .0 .1)
 
 add-t14 : tie.Need-add-t14
 add-t14 c =
     let at-found = c .before .before in
     let at-entry-of = at-found .before .before in
     let start = at-entry-of .before .before .before in
-    omega (arith, entry-inside 3 _ _ _ _ (told (at-entry-of .entry-of .ensures) (at-found .found .given .1)), start .pre .0 .room, start .good .0 .1)
+    omega (arith, entry-inside Calls.entryWords _ _ _ _ (told (at-entry-of .entry-of .ensures) (at-found .found .given .1)), start .pre .0 .room, start .good .0 .1)
 
 mul-t15 : tie.Need-mul-t15
 mul-t15 c =
     let at-found = c .before .before in
     let at-entry-of = at-found .before .before in
     let start = at-entry-of .before .before .before in
-    omega (arith, entry-inside 3 _ _ _ _ (told (at-entry-of .entry-of .ensures) (at-found .found .given .1)), start .pre .0 .room, start .good .0 .1)
+    omega (arith, entry-inside Calls.entryWords _ _ _ _ (told (at-entry-of .entry-of .ensures) (at-found .found .given .1)), start .pre .0 .room, start .good .0 .1)
 
 shared-slice-read-t17 : tie.Need-shared-slice-read-t17
 shared-slice-read-t17 c =
     let at-found = c .before .before .before in
     let at-entry-of = at-found .before .before in
     let start = at-entry-of .before .before .before in
-    omega (arith, entry-inside 3 _ _ _ _ (told (at-entry-of .entry-of .ensures) (at-found .found .given .1)), start .pre .0 .room, start .good .0 .1)
+    omega (arith, entry-inside Calls.entryWords _ _ _ _ (told (at-entry-of .entry-of .ensures) (at-found .found .given .1)), start .pre .0 .room, start .good .0 .1)
 
 enum-told : tie.Need-enum-told
 enum-told c = search needs

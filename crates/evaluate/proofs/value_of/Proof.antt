@@ -1,5 +1,6 @@
 -- `evaluate::value_of` meets its contract, record by record.
 use Rattle.field.specs.Fields.{goldilocks}
+use Rattle.dag.specs.View.{interleaved}
 use Rattle.evaluate.specs.RecordLaws.{input-value, constant-value, add-value, sub-value, mul-value, neg-value, add-before, sub-before, mul-before, neg-before, low-read}
 use Rattle.evaluate.specs.Contracts.{elementAt}
 use native.Mathlib.Omega.{arith}
@@ -31,7 +32,7 @@ element-at-requires c κs =
     let start = at-node-at .before .before .before .before .before .before in
     omega (
       arith,
-      add-before goldilocks (start .args .list .now) (start .args .i) (start .args .c0 .now) (start .args .c1 .now) (start .pre .0)
+      add-before goldilocks (interleaved (start .args .list .now)) (start .args .i) (start .args .c0 .now) (start .args .c1 .now) (start .pre .0)
           (at-node-at .node-at .ensures) (at-x3 .x3 .given .1),
       start .pre .0 .first,
       start .pre .0 .second,
@@ -44,7 +45,7 @@ element-at-requires-2 c κs =
     let start = at-node-at .before .before .before .before .before .before in
     omega (
       arith,
-      add-before goldilocks (start .args .list .now) (start .args .i) (start .args .c0 .now) (start .args .c1 .now) (start .pre .0)
+      add-before goldilocks (interleaved (start .args .list .now)) (start .args .i) (start .args .c0 .now) (start .args .c1 .now) (start .pre .0)
           (at-node-at .node-at .ensures) (at-x3 .x3 .given .1),
       start .pre .0 .first,
       start .pre .0 .second,
@@ -56,7 +57,7 @@ add-requires c κs =
     let at-x3 = at-element-at .before .before in
     let at-node-at = at-x3 .before .before in
     let start = at-node-at .before .before .before .before .before .before in
-    let h = add-before goldilocks (start .args .list .now) (start .args .i) (start .args .c0 .now) (start .args .c1 .now) (start .pre .0)
+    let h = add-before goldilocks (interleaved (start .args .list .now)) (start .args .i) (start .args .c0 .now) (start .args .c1 .now) (start .pre .0)
     (at-node-at .node-at .ensures) (at-x3 .x3 .given .1) in (
       low-read goldilocks (start .pre .0) _ (omega arith) (at-element-at .element-at .ensures),
       low-read goldilocks (start .pre .0) _ (omega arith)
@@ -73,7 +74,7 @@ element-at-requires-3 c κs =
     let start = at-node-at .before .before .before .before .before .before in
     omega (
       arith,
-      sub-before goldilocks (start .args .list .now) (start .args .i) (start .args .c0 .now) (start .args .c1 .now) (start .pre .0)
+      sub-before goldilocks (interleaved (start .args .list .now)) (start .args .i) (start .args .c0 .now) (start .args .c1 .now) (start .pre .0)
           (at-node-at .node-at .ensures) (at-x4 .x4 .given .1),
       start .pre .0 .first,
       start .pre .0 .second,
@@ -86,7 +87,7 @@ element-at-requires-4 c κs =
     let start = at-node-at .before .before .before .before .before .before in
     omega (
       arith,
-      sub-before goldilocks (start .args .list .now) (start .args .i) (start .args .c0 .now) (start .args .c1 .now) (start .pre .0)
+      sub-before goldilocks (interleaved (start .args .list .now)) (start .args .i) (start .args .c0 .now) (start .args .c1 .now) (start .pre .0)
           (at-node-at .node-at .ensures) (at-x4 .x4 .given .1),
       start .pre .0 .first,
       start .pre .0 .second,
@@ -98,7 +99,7 @@ sub-requires c κs =
     let at-x4 = at-element-at3 .before .before in
     let at-node-at = at-x4 .before .before in
     let start = at-node-at .before .before .before .before .before .before in
-    let h = sub-before goldilocks (start .args .list .now) (start .args .i) (start .args .c0 .now) (start .args .c1 .now) (start .pre .0)
+    let h = sub-before goldilocks (interleaved (start .args .list .now)) (start .args .i) (start .args .c0 .now) (start .args .c1 .now) (start .pre .0)
     (at-node-at .node-at .ensures) (at-x4 .x4 .given .1) in (
       low-read goldilocks (start .pre .0) _ (omega arith) (at-element-at3 .element-at3 .ensures),
       low-read goldilocks (start .pre .0) _ (omega arith)
@@ -115,7 +116,7 @@ element-at-requires-5 c κs =
     let start = at-node-at .before .before .before .before .before .before in
     omega (
       arith,
-      mul-before goldilocks (start .args .list .now) (start .args .i) (start .args .c0 .now) (start .args .c1 .now) (start .pre .0)
+      mul-before goldilocks (interleaved (start .args .list .now)) (start .args .i) (start .args .c0 .now) (start .args .c1 .now) (start .pre .0)
           (at-node-at .node-at .ensures) (at-x5 .x5 .given .1),
       start .pre .0 .first,
       start .pre .0 .second,
@@ -128,7 +129,7 @@ element-at-requires-6 c κs =
     let start = at-node-at .before .before .before .before .before .before in
     omega (
       arith,
-      mul-before goldilocks (start .args .list .now) (start .args .i) (start .args .c0 .now) (start .args .c1 .now) (start .pre .0)
+      mul-before goldilocks (interleaved (start .args .list .now)) (start .args .i) (start .args .c0 .now) (start .args .c1 .now) (start .pre .0)
           (at-node-at .node-at .ensures) (at-x5 .x5 .given .1),
       start .pre .0 .first,
       start .pre .0 .second,
@@ -140,7 +141,7 @@ mul-requires c κs =
     let at-x5 = at-element-at5 .before .before in
     let at-node-at = at-x5 .before .before in
     let start = at-node-at .before .before .before .before .before .before in
-    let h = mul-before goldilocks (start .args .list .now) (start .args .i) (start .args .c0 .now) (start .args .c1 .now) (start .pre .0)
+    let h = mul-before goldilocks (interleaved (start .args .list .now)) (start .args .i) (start .args .c0 .now) (start .args .c1 .now) (start .pre .0)
     (at-node-at .node-at .ensures) (at-x5 .x5 .given .1) in (
       low-read goldilocks (start .pre .0) _ (omega arith) (at-element-at5 .element-at5 .ensures),
       low-read goldilocks (start .pre .0) _ (omega arith)
@@ -157,7 +158,7 @@ element-at-requires-7 c κs =
     let start = at-node-at .before .before .before .before .before .before in
     omega (
       arith,
-      neg-before goldilocks (start .args .list .now) (start .args .i) (start .args .c0 .now) (start .args .c1 .now) (start .pre .0)
+      neg-before goldilocks (interleaved (start .args .list .now)) (start .args .i) (start .args .c0 .now) (start .args .c1 .now) (start .pre .0)
           (at-node-at .node-at .ensures) (at-x6 .x6 .given .1),
       start .pre .0 .first,
       start .pre .0 .second,
@@ -168,7 +169,7 @@ neg-requires c κs =
     let at-x6 = c .before .before in
     let at-node-at = at-x6 .before .before in
     let start = at-node-at .before .before .before .before .before .before in
-    low-read goldilocks (start .pre .0) _ (neg-before goldilocks (start .args .list .now) (start .args .i) (start .args .c0 .now) (start .args .c1 .now) (start .pre .0)
+    low-read goldilocks (start .pre .0) _ (neg-before goldilocks (interleaved (start .args .list .now)) (start .args .i) (start .args .c0 .now) (start .args .c1 .now) (start .pre .0)
     (at-node-at .node-at .ensures) (at-x6 .x6 .given .1)) (c .element-at7 .ensures)
 
 returns : tie.Need-returns
