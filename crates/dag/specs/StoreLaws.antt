@@ -2,7 +2,7 @@
 use Prim.Native.Nat.{ℕ, zero, suc, _+_, _*_, _≤_, _<_}
 use mathlib.Core.List.{List, [], _∷_, _++_, append-assoc}
 use mathlib.Core.Path.{_≡_, refl, sym, _∙_, ap, ap₂}
-use native.Mathlib.Numerals.{add-three, towards-suc}
+use native.Mathlib.Numerals.{add-one, add-three, towards-suc}
 use native.Mathlib.Nat.{mul-suc}
 use native.Mathlib.Omega.{arith}
 use lib.ListN.{getD, length, set, take, drop, length-set}
@@ -12,12 +12,13 @@ use Rattle.dag.specs.View.{View, interleaved, Agree}
 use Rattle.dag.specs.ViewLaws.{room-words, same-room, words-agree, agree-nodes, agree-checks}
 use Rattle.dag.specs.Nodes.{recordWords, tag, first, second, recordAt, nodes, at, words, wordsOf, sameNode}
 use Rattle.dag.specs.NodeLaws.{decode-words, at-nodes}
+use Rattle.dag.specs.CaseLaws.{below-suc-elim}
 use Rattle.dag.specs.Refusals.{firstRefused}
 use Rattle.dag.specs.Check.{checkAt, recordsCheck}
 use Rattle.dag.specs.CheckLaws.{first-good, then-good, passed, passes, faithful, fine-passes, check-well-formed}
 use Rattle.dag.specs.Lookup.{lookup}
 use Rattle.dag.specs.SearchLaws.{greatest-same}
-use Rattle.dag.specs.Store.{put, front, wordsAre, lookupWords, Sound}
+use Rattle.dag.specs.Store.{putWords, put, front, wordsAre, lookupWords, Sound}
 use Rattle.dag.specs.WellFormed.{Fine, WellFormed}
 use Rattle.dag.specs.declared.NodeKind.{NodeKind}
 use Rattle.dag.specs.declared.Checked.the-variants.{Good}
@@ -51,53 +52,71 @@ module _ (m : Bounds) (s : View) (n : ℕ) (sound : Sound m s n) where
   lookup-words : (x : NodeKind) → lookupWords s (tag x) (first x) (second x) n ≡ lookup (nodes s n) x n
   lookup-words x = greatest-same (λ i. wordsAre s i (tag x) (first x) (second x)) (λ i. sameNode (at (nodes s n) i) x) n (words-are-same x)
 
--- a store with a record written
-module _ (s : List ℕ) (i : ℕ) (x : NodeKind) where
-  pub length-put : length (put s i x) ≡ length s
-  unfolding put
-  length-put = simp length-set
+-- a store with the words t, a, b written at place i
+module _ (s : List ℕ) (i t a b : ℕ) where
+  length-put-words : length (putWords s i t a b) ≡ length s
+  length-put-words = simp length-set
 
-  pub put-other : (k : ℕ) → (k ≡ 3 * i → ⊥) → (k ≡ 3 * i + 1 → ⊥) → (k ≡ 3 * i + 2 → ⊥) → getD (put s i x) k 0 ≡ getD s k 0
-  unfolding put
-  put-other k a b c =
-      getD-set-other (set (set s (3 * i) (tag x)) (3 * i + 1) (first x)) (3 * i + 2) k (second x) 0 c
-      ∙ (getD-set-other (set s (3 * i) (tag x)) (3 * i + 1) k (first x) 0 b
-      ∙ getD-set-other s (3 * i) k (tag x) 0 a)
+  put-other : (k : ℕ) → (k ≡ 3 * i → ⊥) → (k ≡ 3 * i + 1 → ⊥) → (k ≡ 3 * i + 2 → ⊥) → getD (putWords s i t a b) k 0 ≡ getD s k 0
+  put-other k h₀ h₁ h₂ =
+      getD-set-other (set (set s (3 * i) t) (3 * i + 1) a) (3 * i + 2) k b 0 h₂
+      ∙ (getD-set-other (set s (3 * i) t) (3 * i + 1) k a 0 h₁
+      ∙ getD-set-other s (3 * i) k t 0 h₀)
+
+  put-words-agrees : Agree (interleaved s) (interleaved (putWords s i t a b)) i
+  put-words-agrees = words-agree s (putWords s i t a b) i (λ k h. sym (put-other k (omega arith) (omega arith) (omega arith)))
 
   module _ (fits : i < interleaved s .room) where
     words-fit : 3 * suc i ≤ length s
     words-fit = room-words s (suc i) fits
 
-    put-tag : getD (put s i x) (3 * i) 0 ≡ tag x
-    unfolding put
+    put-tag : getD (putWords s i t a b) (3 * i) 0 ≡ t
     put-tag =
-        getD-set-other (set (set s (3 * i) (tag x)) (3 * i + 1) (first x)) (3 * i + 2) (3 * i) (second x) 0 (omega arith)
-        ∙ (getD-set-other (set s (3 * i) (tag x)) (3 * i + 1) (3 * i) (first x) 0 (omega arith)
-        ∙ getD-set-same s (3 * i) (tag x) 0 (omega (arith, words-fit)))
+        getD-set-other (set (set s (3 * i) t) (3 * i + 1) a) (3 * i + 2) (3 * i) b 0 (omega arith)
+        ∙ (getD-set-other (set s (3 * i) t) (3 * i + 1) (3 * i) a 0 (omega arith)
+        ∙ getD-set-same s (3 * i) t 0 (omega (arith, words-fit)))
 
-    put-first : getD (put s i x) (3 * i + 1) 0 ≡ first x
-    unfolding put
+    put-first : getD (putWords s i t a b) (3 * i + 1) 0 ≡ a
     put-first =
-        getD-set-other (set (set s (3 * i) (tag x)) (3 * i + 1) (first x)) (3 * i + 2) (3 * i + 1) (second x) 0 (omega arith)
-        ∙ getD-set-same (set s (3 * i) (tag x)) (3 * i + 1) (first x) 0 (simp length-set (omega (arith, words-fit)))
+        getD-set-other (set (set s (3 * i) t) (3 * i + 1) a) (3 * i + 2) (3 * i + 1) b 0 (omega arith)
+        ∙ getD-set-same (set s (3 * i) t) (3 * i + 1) a 0 (simp length-set (omega (arith, words-fit)))
 
-    put-second : getD (put s i x) (3 * i + 2) 0 ≡ second x
-    unfolding put
-    put-second =
-        getD-set-same (set (set s (3 * i) (tag x)) (3 * i + 1) (first x)) (3 * i + 2) (second x) 0 (simp length-set (omega (arith, words-fit)))
+    put-second : getD (putWords s i t a b) (3 * i + 2) 0 ≡ b
+    put-second = getD-set-same (set (set s (3 * i) t) (3 * i + 1) a) (3 * i + 2) b 0 (simp length-set (omega (arith, words-fit)))
 
+    -- another store's words put behind those that agree with it
+    pub put-more : (v : View) → Agree (interleaved s) v i → t ≡ v .tagWord i → a ≡ v .firstWord i → b ≡ v .secondWord i → Agree (interleaved (putWords s i t a b)) v (i + 1)
+    unfolding interleaved
+    put-more v g et ea eb =
+        rw (add-one i)
+        record {
+          tags = below-suc-elim (λ k. interleaved (putWords s i t a b) .tagWord k ≡ v .tagWord k) i (λ k h. sym (put-words-agrees .tags k h) ∙ g .tags k h) (put-tag ∙ et);
+          firsts = below-suc-elim (λ k. interleaved (putWords s i t a b) .firstWord k ≡ v .firstWord k) i (λ k h. sym (put-words-agrees .firsts k h) ∙ g .firsts k h) (put-first ∙ ea);
+          seconds = below-suc-elim (λ k. interleaved (putWords s i t a b) .secondWord k ≡ v .secondWord k) i (λ k h. sym (put-words-agrees .seconds k h) ∙ g .seconds k h) (put-second ∙ eb);
+        }
+
+-- a store with a record written
+module _ (s : List ℕ) (i : ℕ) (x : NodeKind) where
+  pub length-put : length (put s i x) ≡ length s
+  unfolding put
+  length-put = length-put-words s i (tag x) (first x) (second x)
+
+  module _ (fits : i < interleaved s .room) where
     record-put : recordAt (interleaved (put s i x)) i ≡ x
-    unfolding recordAt interleaved
-    record-put = rw (put-tag, put-first, put-second) (decode-words x)
+    unfolding recordAt interleaved put
+    record-put = rw (put-tag s i (tag x) (first x) (second x) fits, put-first s i (tag x) (first x) (second x) fits, put-second s i (tag x) (first x) (second x) fits) (decode-words x)
 
     check-put : (m : Bounds) → Fine (Within m) i x → checkAt m (interleaved (put s i x)) i ≡ Good
-    unfolding checkAt interleaved
-    check-put m f = rw (put-tag, put-first, put-second) (passes m (tag x) (first x) (second x) i (fine-passes m i x f))
+    unfolding checkAt interleaved put
+    check-put m f =
+        rw (put-tag s i (tag x) (first x) (second x) fits, put-first s i (tag x) (first x) (second x) fits, put-second s i (tag x) (first x) (second x) fits)
+        (passes m (tag x) (first x) (second x) i (fine-passes m i x f))
 
 -- the record appended
 module _ (s : List ℕ) (n : ℕ) (x : NodeKind) (fits : n < interleaved s .room) where
   pub put-agrees : Agree (interleaved s) (interleaved (put s n x)) n
-  put-agrees = words-agree s (put s n x) n (λ k h. sym (put-other s n x k (omega arith) (omega arith) (omega arith)))
+  unfolding put
+  put-agrees = put-words-agrees s n (tag x) (first x) (second x)
 
   pub nodes-put : nodes (interleaved (put s n x)) (suc n) ≡ nodes (interleaved s) n ++ (x ∷ [])
   unfolding nodes
