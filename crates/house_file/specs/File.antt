@@ -1,13 +1,16 @@
--- A house file (document 01, 'The installers' listing') as a list of bytes: its tests, and the list of words that it holds.
+-- A house file (document 01, 'The installers' listing') as a list of bytes: its tests, and the list that it holds.
 use Prim.Native.Nat.{ℕ, zero, suc, _+_, _*_}
 use mathlib.Core.Bool.{Bool, _&&_}
-use mathlib.Core.List.{List, [], _∷_, _++_}
+use mathlib.Core.List.{List}
 use lib.Dec.{leb, eqb}
 use lib.ListN.{getD, length}
 use Rattle.field.specs.Fields.{goldilocks}
-use Rattle.dag.specs.Nodes.{filled}
+use Rattle.dag.specs.View.{View, interleaved}
+use Rattle.dag.specs.Nodes.{nodes}
 use Rattle.dag.specs.Refusals.{need, _then_, unlessRefused}
 use Rattle.dag.specs.Check.{roomCheck, listCheck}
+use Rattle.dag.specs.Store.{stored}
+use Rattle.dag.specs.declared.NodeKind.{NodeKind}
 use Rattle.dag.specs.declared.Refusal.the-variants.{FileTooShort, FileVersion, FileCount, FileLength}
 use Rattle.dag.specs.declared.Checked.{Checked}
 use Rattle.house_file.specs.declared.Words.{Words}
@@ -47,13 +50,19 @@ wordsAt file i =
       second = number file (recordPlace i + 9) 8;
     }
 
--- three words a record
-unfoldable pub wordsOfFirst : List ℕ → ℕ → List ℕ
-wordsOfFirst file zero = []
-wordsOfFirst file (suc n) = let w = wordsAt file n in wordsOfFirst file n ++ (w .tag ∷ w .first ∷ w .second ∷ [])
+-- a file as a store of records
+unfoldable pub fileView : List ℕ → View
+fileView file =
+    record {
+      room = fileCount file;
+      tagWord = λ i. wordsAt file i .tag;
+      firstWord = λ i. wordsAt file i .first;
+      secondWord = λ i. wordsAt file i .second;
+    }
 
-unfoldable pub fileWords : List ℕ → List ℕ
-fileWords file = wordsOfFirst file (fileCount file)
+-- the list that it holds
+abbrev pub fileList : List ℕ → List NodeKind
+fileList file = nodes (fileView file) (fileCount file)
 
 -- the tests of the file's head: 21, 22, 23
 unfoldable pub headCheck : List ℕ → Checked
@@ -68,14 +77,14 @@ formCheck file = headCheck file then need (eqb (length file) (recordPlace (fileC
 
 -- the list check of what it holds
 unfoldable pub heldCheck : List ℕ → Checked
-heldCheck file = listCheck (goldilocks .bounds) (fileWords file) (fileCount file) (fileRoot file)
+heldCheck file = listCheck (goldilocks .bounds) (fileView file) (fileCount file) (fileRoot file)
 
 unfoldable pub fileCheck : List ℕ → Checked
 fileCheck file = formCheck file then heldCheck file
 
--- the tests before a file's records: its form, then a store of `room` words, 2
+-- the tests before a file's records: its form, then a store with room for so many, 2
 unfoldable pub storeCheck : List ℕ → ℕ → Checked
-storeCheck file room = formCheck file then roomCheck (3 * fileCount file) room
+storeCheck file room = formCheck file then roomCheck (fileCount file) room
 
 -- reading into a store: the store is tested before the records, as in the list check
 unfoldable pub readCheck : List ℕ → ℕ → Checked
@@ -85,6 +94,6 @@ readCheck file room = storeCheck file room then heldCheck file
 unfoldable pub readAnswer : List ℕ → ℕ → FileAnswer
 readAnswer file room = unlessRefused (readCheck file room) FileAnswer'.Refused (FileAnswer'.Read (fileCount file) (fileRoot file))
 
--- the words, blanks behind them
+-- the list, blanks behind it
 unfoldable pub readList : List ℕ → List ℕ → List ℕ
-readList file list = unlessRefused (readCheck file (length list)) (λ r. list) (filled (length list) (fileWords file))
+readList file list = unlessRefused (readCheck file (interleaved list .room)) (λ r. list) (stored list (fileList file))

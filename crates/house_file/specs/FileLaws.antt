@@ -1,32 +1,33 @@
--- What the tests of a file give, and its words one record after the other.
-use Prim.Native.Nat.{ℕ, zero, suc, _+_, _*_, _-_, _^_, _≤_, _<_}
+-- What the tests of a file give, and what reading it then gives.
+use Prim.Native.Nat.{ℕ, _+_, _*_, _^_, _≤_, _<_}
 use mathlib.Core.Bool.{true}
-use mathlib.Core.List.{List, [], _∷_, _++_, append-assoc}
+use mathlib.Core.List.{List}
 use mathlib.Core.Path.{_≡_, refl, sym, _∙_, ap, ap₂}
 use native.Mathlib.Nat.{pow-suc, pow-le-pow-right}
 use native.Mathlib.Numerals.{add-one}
 use native.Mathlib.Omega.{arith}
-use borrow.Author.Tests.{leb-true, eqb-true, le-leb}
+use borrow.Author.Tests.{leb-true, eqb-true}
 use lib.Dec.{leb, eqb}
-use lib.ListN.{getD, length, take, set, replicate, length-append, length-set}
-use lib.Seq.{take-suc-set}
+use lib.ListN.{getD, length}
 use Rattle.field.specs.Fields.{goldilocks}
-use Rattle.dag.specs.Nodes.{blank, filled}
+use Rattle.dag.specs.View.{interleaved, Agree}
+use Rattle.dag.specs.ViewLaws.{words-room, agree-nodes, agree-list}
+use Rattle.dag.specs.Nodes.{nodes}
 use Rattle.dag.specs.CaseLaws.{and-true}
 use Rattle.dag.specs.Refusals.{need, _then_, unlessRefused}
 use Rattle.dag.specs.Check.{roomCheck, listCheck}
-use Rattle.dag.specs.CheckLaws.{then-good, need-good, room-good}
-use Rattle.dag.specs.BlankLaws.{copied-front}
-use Rattle.dag.specs.Store.{putWords, copied}
+use Rattle.dag.specs.CheckLaws.{then-good, need-good}
+use Rattle.dag.specs.PassLaws.{room-enough as room-fits, enough-room, rooted}
+use Rattle.dag.specs.Store.{stored, copiedRecords, blankedBehind}
+use Rattle.dag.specs.WordLaws.{copied-stored}
 use Rattle.dag.specs.declared.Refusal.{Refusal}
 use Rattle.dag.specs.declared.Refusal.the-variants.{FileTooShort, FileVersion, FileCount, FileLength}
 use Rattle.dag.specs.declared.Checked.{Checked}
 use Rattle.dag.specs.declared.Checked.the-variants.{Good, Refused}
-use Rattle.house_file.specs.declared.Words.{Words}
 use Rattle.house_file.specs.declared.FileAnswer.{FileAnswer}
 use Rattle.house_file.specs.declared.FileAnswer.the-variants as FileAnswer'
 use Rattle.house_file.specs.Contracts.{Headed, Formed, Passed, Done}
-use Rattle.house_file.specs.File.{number, fileCount, fileRoot, mostFiled, recordPlace, wordsAt, wordsOfFirst, fileWords, isCount, headCheck, formCheck, heldCheck, fileCheck, storeCheck, readCheck, readAnswer, readList}
+use Rattle.house_file.specs.File.{number, fileCount, fileRoot, mostFiled, recordPlace, fileView, isCount, headCheck, formCheck, heldCheck, fileCheck, storeCheck, readCheck, readAnswer, readList}
 
 pub count-range : (n : ℕ) → isCount n ≡ true → (1 ≤ n) × (n ≤ mostFiled)
 unfolding isCount
@@ -57,42 +58,14 @@ formed file e =
       whole = eqb-true (length file) (recordPlace (fileCount file)) (need-good whole FileLength (both .1));
     }
 
--- the words of the first n records
-module _ (file : List ℕ) where
-  pub length-words : (n : ℕ) → length (wordsOfFirst file n) ≡ 3 * n
-  unfolding wordsOfFirst
-  length-words zero = refl
-  length-words (suc n) = omega (arith, length-words n, length-append (wordsOfFirst file n) (wordsAt file n .tag ∷ wordsAt file n .first ∷ wordsAt file n .second ∷ []))
-
--- three words put behind the first i records
-put-taken : (s : List ℕ) (i t a b : ℕ) → 3 * i + 2 < length s → take (3 * (i + 1)) (putWords s i t a b) ≡ take (3 * i) s ++ (t ∷ a ∷ b ∷ [])
-put-taken s i t a b h =
-    let u = set s (3 * i) t in
-    let v = set u (3 * i + 1) a in
-    let lu = length-set s (3 * i) t in
-    let lv = length-set u (3 * i + 1) a in
-    let k : 3 * (i + 1) ≡ suc (3 * i + 2) = omega arith in
-    let l : 3 * i + 2 ≡ suc (3 * i + 1) = omega arith in
-    let m : 3 * i + 1 ≡ suc (3 * i) = omega arith in
-    let last = ap (λ j. take j (set v (3 * i + 2) b)) k ∙ take-suc-set v (3 * i + 2) b (omega arith) in
-    let mid = ap (λ j. take j v) l ∙ take-suc-set u (3 * i + 1) a (omega arith) in
-    let first = ap (λ j. take j u) m ∙ take-suc-set s (3 * i) t (omega arith) in
-    last
-    ∙ (ap (λ w. w ++ (b ∷ [])) (mid ∙ (ap (λ w. w ++ (a ∷ [])) first ∙ append-assoc (take (3 * i) s) (t ∷ []) (a ∷ [])))
-    ∙ append-assoc (take (3 * i) s) (t ∷ a ∷ []) (b ∷ []))
-
-pub put-more : (file : List ℕ) (i : ℕ) (list after : List ℕ) (w : Words) → 3 * i + 2 < length list → take (3 * i) list ≡ wordsOfFirst file i → w ≡ wordsAt file i
-    → after ≡ putWords list i (w .tag) (w .first) (w .second) → take (3 * (i + 1)) after ≡ wordsOfFirst file (i + 1)
-unfolding wordsOfFirst
-put-more file i list after w h e f q =
-    ap (take (3 * (i + 1))) q
-    ∙ (put-taken list i (w .tag) (w .first) (w .second) h
-    ∙ rw (add-one i) (ap₂ (λ s v. s ++ (v .tag ∷ v .first ∷ v .second ∷ [])) e f))
+-- the longest file's words have room for every file's records
+pub filed-room : (words : List ℕ) (n : ℕ) → length words ≡ 3072 → n ≤ mostFiled → n ≤ interleaved words .room
+filed-room words n e h = words-room words n (omega (arith, e))
 
 -- a file of good form that fits
-pub fits : (file : List ℕ) (room : ℕ) → storeCheck file room ≡ Good → Formed file × (3 * fileCount file ≤ room)
+pub fits : (file : List ℕ) (room : ℕ) → storeCheck file room ≡ Good → Formed file × (fileCount file ≤ room)
 unfolding storeCheck
-fits file room e = let both = then-good (formCheck file) (roomCheck (3 * fileCount file) room) e in (formed file (both .0), room-good (3 * fileCount file) room (both .1))
+fits file room e = let both = then-good (formCheck file) (roomCheck (fileCount file) room) e in (formed file (both .0), room-fits (fileCount file) room (both .1))
 
 pub passed : (file : List ℕ) (room : ℕ) → readCheck file room ≡ Good → Passed file room
 unfolding readCheck
@@ -102,12 +75,12 @@ passed file room e =
     record { form = store .0; fits = store .1; held-is = both .1 }
 
 -- a store long enough for every file is never too short
-pub room-enough : (file : List ℕ) (room : ℕ) → 3 * mostFiled ≤ room → readCheck file room ≡ fileCheck file
-unfolding readCheck storeCheck fileCheck roomCheck
+pub room-enough : (file : List ℕ) (room : ℕ) → mostFiled ≤ room → readCheck file room ≡ fileCheck file
+unfolding readCheck storeCheck fileCheck
 room-enough file room h = go (formCheck file) refl
   where
-    go : (c : Checked) → formCheck file ≡ c → (c then roomCheck (3 * fileCount file) room) then heldCheck file ≡ c then heldCheck file
-    go Good e = let m = formed file e .head .most in rw (le-leb (3 * fileCount file) room (omega arith))
+    go : (c : Checked) → formCheck file ≡ c → (c then roomCheck (fileCount file) room) then heldCheck file ≡ c then heldCheck file
+    go Good e = let m = formed file e .head .most in rw (enough-room (fileCount file) room (omega arith))
     go (Refused r) e = refl
 
 -- what an answer tells of the tests
@@ -132,36 +105,39 @@ read-done file room count root = go (readCheck file room) refl
     go Good g e = record { good = g; count-is = cc; root-is = cc }
     go (Refused q) g e = let z : _≡_ {A = ℕ} 0 1 = cc in absurd (omega arith)
 
--- the words of a file in a store, and what their list check c says
-module _ (file list words : List ℕ) (n root : ℕ) (en : n ≡ fileCount file) (er : root ≡ fileRoot file) (whole : take (3 * n) words ≡ wordsOfFirst file n) (c : Checked) (ec : c ≡ listCheck (goldilocks .bounds) (take (3 * n) words) n root) where
+-- a store that holds the words of a file's records, and what its list check c says
+module _ (file list words : List ℕ) (n root : ℕ) (en : n ≡ fileCount file) (er : root ≡ fileRoot file) (room : n ≤ interleaved words .room) (whole : Agree (interleaved words) (fileView file) n)
+    (c : Checked) (ec : c ≡ listCheck (goldilocks .bounds) (interleaved words) n root) where
   held : c ≡ heldCheck file
-  unfolding heldCheck fileWords
-  held = ec ∙ rw (whole, en, er)
+  unfolding heldCheck fileView
+  held =
+      ec
+      ∙ (agree-list (interleaved words) (fileView file) n room (omega (arith, en)) whole (goldilocks .bounds) root
+      ∙ ap₂ (listCheck (goldilocks .bounds) (fileView file)) en er)
 
   pub done-refused : (r : Refusal) → c ≡ Refused r → Done file list (FileAnswer'.Refused r) list
   done-refused r e = let h : heldCheck file ≡ Refused r = sym held ∙ e in record { answer = rw h; list-is = rw h }
 
-  pub done-good : (mid after : List ℕ) → c ≡ Good → 3 * n ≤ length words → length mid ≡ length list → mid ≡ copied words list (3 * n)
-      → after ≡ take (3 * n) mid ++ replicate (length mid - 3 * n) blank → Done file list (FileAnswer'.Read n root) after
-  unfolding fileWords filled
-  done-good mid after e h k em ea =
+  pub done-good : (mid after : List ℕ) → c ≡ Good → n ≤ interleaved list .room → mid ≡ copiedRecords words list n → after ≡ blankedBehind mid n → Done file list (FileAnswer'.Read n root) after
+  done-good mid after e h em ea =
       let good : heldCheck file ≡ Good = sym held ∙ e in
-      let start : take (3 * n) mid ≡ wordsOfFirst file n = copied-front words list (3 * n) h em ∙ whole in
+      let sound = rooted (goldilocks .bounds) (interleaved words) n root (sym ec ∙ e) .list .sound in
+      let same = agree-nodes (interleaved words) (fileView file) n whole ∙ ap (nodes (fileView file)) en in
       record {
         answer = rw good (ap₂ FileAnswer'.Read en er);
-        list-is = rw (good, ea, start, k, ← en, length-words file n);
+        list-is = rw good (ea ∙ (ap (λ l. blankedBehind l n) em ∙ (copied-stored (goldilocks .bounds) words list n sound h ∙ ap (stored list) same)));
       }
 
 -- what reading gives, refused or not
 pub record Told (file list : List ℕ) (a : FileAnswer) (after : List ℕ) : Type 0 where
-  pub answer : a ≡ readAnswer file (length list)
+  pub answer : a ≡ readAnswer file (interleaved list .room)
   pub list-is : after ≡ readList file list
 
-pub told-refused : (file list : List ℕ) (r : Refusal) → storeCheck file (length list) ≡ Refused r → Told file list (FileAnswer'.Refused r) list
+pub told-refused : (file list : List ℕ) (r : Refusal) → storeCheck file (interleaved list .room) ≡ Refused r → Told file list (FileAnswer'.Refused r) list
 unfolding readAnswer readList readCheck
 told-refused file list r e = record { answer = rw e; list-is = rw e }
 
-pub told-done : (file list : List ℕ) (a : FileAnswer) (after : List ℕ) → storeCheck file (length list) ≡ Good → Done file list a after → Told file list a after
+pub told-done : (file list : List ℕ) (a : FileAnswer) (after : List ℕ) → storeCheck file (interleaved list .room) ≡ Good → Done file list a after → Told file list a after
 unfolding readAnswer readList readCheck
 told-done file list a after e d = record { answer = rw e (d .answer); list-is = rw e (d .list-is) }
 

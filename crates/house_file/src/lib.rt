@@ -2,15 +2,16 @@
 use dag::Checked;
 use dag::Refusal;
 ghost use mathlib.Core.Path.{_≡_};
-ghost use Prim.Native.Nat.{_+_, _*_, _<_, _≤_};
-ghost use lib.ListN.{length, take};
+ghost use Prim.Native.Nat.{_+_, _<_, _≤_};
+ghost use lib.ListN.{length};
+ghost use Rattle.dag.specs.View.{interleaved, Agree};
 ghost use Rattle.house_file.specs.File as File;
 ghost use Rattle.house_file.specs.Contracts as Contracts;
 
 // The most records that a file has.
 pub const MOST_FILED: u64 = 1024;
 
-// The words of as many records.
+// The words of the longest file's records.
 const FILED_WORDS: usize = 3072;
 
 // The three words of a record.
@@ -116,7 +117,7 @@ fn form_check(file: &[u8]) -> Checked
     Checked::Good
 }
 
-// The tests of the file's form, then of a store of this many words.
+// The tests of the file's form, then of a store with room for so many records.
 fn store_check(file: &[u8], room: usize) -> Checked
     ensures { λ r. ⌜ r ≡ File.storeCheck (now (file .entry)) room ⌝ }
 {
@@ -124,13 +125,13 @@ fn store_check(file: &[u8], room: usize) -> Checked
     if dag::is_refused(formed) {
         return formed;
     }
-    dag::room_check(3 * file_count(file), room)
+    dag::room_check(file_count(file), room)
 }
 
 // Writes the words of a file's first n records at the start of a store.
 fn put_records(file: &[u8], n: usize, list: &mut [u64])
-    requires { ⌜ (File.recordPlace n ≤ length (now file)) × (3 * n ≤ length (now list)) ⌝ }
-    ensures { λ _. ⌜ take (3 * n) (now (list .exit)) ≡ File.wordsOfFirst (now (file .entry)) n ⌝ }
+    requires { ⌜ (File.recordPlace n ≤ length (now file)) × (n ≤ interleaved (now list) .room) ⌝ }
+    ensures { λ _. ⌜ Agree (interleaved (now (list .exit))) (File.fileView (now (file .entry))) n ⌝ }
 {
     let mut i = 0;
     while i < n {
@@ -142,30 +143,30 @@ fn put_records(file: &[u8], n: usize, list: &mut [u64])
 
 // Reads a file that has passed those tests: its words are tested before they are copied to the store.
 fn read_held(file: &[u8], list: &mut [u64]) -> FileAnswer
-    requires { ⌜ Contracts.Formed (now file) × (3 * File.fileCount (now file) ≤ length (now list)) ⌝ }
+    requires { ⌜ Contracts.Formed (now file) × (File.fileCount (now file) ≤ interleaved (now list) .room) ⌝ }
     ensures { λ r. ⌜ Contracts.Done (now (file .entry)) (now (list .entry)) r (now (list .exit)) ⌝ }
 {
     let n = file_count(file);
     let root = file_root(file);
     let mut words = [0u64; FILED_WORDS];
     put_records(file, n, &mut words);
-    let checked = dag::list_check(&words[..3 * n], n, root);
+    let checked = dag::list_check(&words, n, root);
     match checked {
         Checked::Refused(r) => FileAnswer::Refused(r),
         Checked::Good => {
-            dag::copy_words(&words, 3 * n, list);
-            dag::blank_from(list, 3 * n);
+            dag::copy_records(&words, n, list);
+            dag::blank_records(list, n);
             FileAnswer::Read { count: n, root }
         }
     }
 }
 
-// Reads a file: the words of its list, blanks behind them, or why not.
+// Reads a file: its list, blanks behind it, or why not.
 pub fn read_file(file: &[u8], list: &mut [u64]) -> FileAnswer
-    ensures answer { λ r. ⌜ r ≡ File.readAnswer (now (file .entry)) (length (now (list .entry))) ⌝ }
+    ensures answer { λ r. ⌜ r ≡ File.readAnswer (now (file .entry)) (interleaved (now (list .entry)) .room) ⌝ }
     ensures list { λ _. ⌜ now (list .exit) ≡ File.readList (now (file .entry)) (now (list .entry)) ⌝ }
 {
-    let checked = store_check(file, list.len());
+    let checked = store_check(file, dag::room(list));
     match checked {
         Checked::Refused(r) => FileAnswer::Refused(r),
         Checked::Good => read_held(file, list),

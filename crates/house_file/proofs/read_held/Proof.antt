@@ -1,6 +1,7 @@
-use mathlib.Core.Path.{sym}
-use lib.Seq.{length-take-le}
-use Rattle.house_file.specs.FileLaws.{done-refused, done-good}
+use Prim.Native.Nat.{ℕ}
+use lib.ListN.{length-replicate}
+use Rattle.dag.specs.ViewLaws.{same-room}
+use Rattle.house_file.specs.FileLaws.{filed-room, done-refused, done-good}
 use native.Mathlib.Omega.{arith}
 use borrow.Author.Needs.{needs}
 use Rattle.house_file.proofs.read_held.Statement.{statement}
@@ -16,20 +17,14 @@ slice-aggregate-put-records : tie.Need-slice-aggregate-put-records
 slice-aggregate-put-records c = search needs
 
 put-records-requires : tie.Need-put-records-requires
-put-records-requires c κs = search needs
-
-mul-words : tie.Need-mul-words
-mul-words c = search needs
-
-array-share-prefix-words : tie.Need-array-share-prefix-words
-array-share-prefix-words c = search needs
+put-records-requires c κs =
+    let at-file-count = c .before .before in
+    let form = at-file-count .before .before .before .pre .0 in
+    let counted = at-file-count .file-count .ensures in
+    (omega (arith, form .whole, counted), filed-room _ _ (length-replicate {A = ℕ} 3072 0) (omega (arith, form .head .most, counted)))
 
 slice-aggregate-list-check : tie.Need-slice-aggregate-list-check
-slice-aggregate-list-check c =
-    let at-put-records = c .before .before in
-    let at-file-count = at-put-records .before .before .before in
-    let start = at-file-count .before .before .before in
-    sym (length-take-le _ _ (omega (arith, start .pre .0 .head .most, at-file-count .file-count .ensures, at-put-records .put-records .kept .1 .1 .0)))
+slice-aggregate-list-check c = search needs
 
 list-check-requires : tie.Need-list-check-requires
 list-check-requires c κs = search needs
@@ -40,20 +35,25 @@ enum-known-checked c = search needs
 enum-told : tie.Need-enum-told
 enum-told c = search needs
 
-slice-aggregate-copy-words : tie.Need-slice-aggregate-copy-words
-slice-aggregate-copy-words c = search needs
+slice-aggregate-copy-records : tie.Need-slice-aggregate-copy-records
+slice-aggregate-copy-records c = search needs
 
-mul-copy-words : tie.Need-mul-copy-words
-mul-copy-words c = search needs
+copy-records-requires : tie.Need-copy-records-requires
+copy-records-requires c κs =
+    let at-put-records = c .before .before .before .before .before .before .before in
+    let at-file-count = at-put-records .before .before .before in
+    let start = at-file-count .before .before .before in
+    let counted = at-file-count .file-count .ensures in
+    (filed-room _ _ (at-put-records .put-records .kept .1 .1 .0) (omega (arith, start .pre .0 .head .most, counted)), omega (arith, start .pre .1, counted))
 
-copy-words-requires : tie.Need-copy-words-requires
-copy-words-requires c κs = search needs
-
-mul-blank-from : tie.Need-mul-blank-from
-mul-blank-from c = search needs
-
-blank-from-requires : tie.Need-blank-from-requires
-blank-from-requires c κs = search needs
+blank-records-requires : tie.Need-blank-records-requires
+blank-records-requires c κs =
+    let at-copy-records = c .before .before .before in
+    let at-list-check = at-copy-records .before .before .before .before .before in
+    let at-file-count = at-list-check .before .before .before .before .before .before in
+    let start = at-file-count .before .before .before in
+    let room = same-room (at-copy-records .copy-records .last .1 .1 .0) (start .args .list .now) (at-copy-records .copy-records .kept .1 .1 .0) in
+    omega (arith, start .pre .1, room, at-file-count .file-count .ensures)
 
 returns : tie.Need-returns
 returns c =
@@ -63,25 +63,29 @@ returns c =
     let at-file-root = at-put-records .before .before in
     let at-file-count = at-file-root .before in
     let start = at-file-count .before .before .before in
-    done-refused (start .args .file .now) (start .args .list .now) _ _ _ (at-file-count .file-count .ensures) (at-file-root .file-root .ensures)
-    (at-put-records .put-records .ensures) _ (at-list-check .list-check .ensures) _ (at-checked .checked .given .1)
+    let counted = at-file-count .file-count .ensures in
+    let room = filed-room _ (at-file-count .file-count .result) (at-put-records .put-records .kept .1 .1 .0) (omega (arith, start .pre .0 .head .most, counted)) in
+    done-refused (start .args .file .now) (start .args .list .now) _ _ _ counted (at-file-root .file-root .ensures) room (at-put-records .put-records .ensures) _
+    (at-list-check .list-check .ensures) _ (at-checked .checked .given .1)
 
 same-length : tie.Need-same-length
 same-length c = search needs
 
 returns-2 : tie.Need-returns-2
 returns-2 c =
-    let at-blank-from = c .before .before in
-    let at-copy-words = at-blank-from .before .before .before .before in
-    let at-enum-told = at-copy-words .before .before .before in
+    let at-blank-records = c .before .before in
+    let at-copy-records = at-blank-records .before .before .before .before in
+    let at-enum-told = at-copy-records .before .before .before in
     let at-list-check = at-enum-told .before .before in
     let at-put-records = at-list-check .before .before .before in
     let at-file-root = at-put-records .before .before in
     let at-file-count = at-file-root .before in
     let start = at-file-count .before .before .before in
-    done-good (start .args .file .now) (start .args .list .now) _ _ _ (at-file-count .file-count .ensures) (at-file-root .file-root .ensures)
-    (at-put-records .put-records .ensures) _ (at-list-check .list-check .ensures) _ _ (at-enum-told .enum-told .given .1)
-    (search needs) (at-copy-words .copy-words .kept .1 .1 .0) (at-copy-words .copy-words .ensures) (at-blank-from .blank-from .ensures)
+    let counted = at-file-count .file-count .ensures in
+    let room = filed-room _ (at-file-count .file-count .result) (at-put-records .put-records .kept .1 .1 .0) (omega (arith, start .pre .0 .head .most, counted)) in
+    done-good (start .args .file .now) (start .args .list .now) _ _ _ counted (at-file-root .file-root .ensures) room (at-put-records .put-records .ensures) _
+    (at-list-check .list-check .ensures) _ _ (at-enum-told .enum-told .given .1) (omega (arith, start .pre .1, counted)) (at-copy-records .copy-records .ensures)
+    (at-blank-records .blank-records .ensures)
 
 pub read-held-spec : {M : Type 1} → statement M
 read-held-spec =
@@ -91,17 +95,13 @@ read-held-spec =
     file-root-requires
     slice-aggregate-put-records
     put-records-requires
-    mul-words
-    array-share-prefix-words
     slice-aggregate-list-check
     list-check-requires
     enum-known-checked
     enum-told
-    slice-aggregate-copy-words
-    mul-copy-words
-    copy-words-requires
-    mul-blank-from
-    blank-from-requires
+    slice-aggregate-copy-records
+    copy-records-requires
+    blank-records-requires
     returns
     same-length
     returns-2)

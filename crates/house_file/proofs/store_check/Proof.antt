@@ -20,14 +20,6 @@ returns c = c .before .before .form-check .ensures ∙ refused-then _ _ (bad-tol
 file-count-requires : tie.Need-file-count-requires
 file-count-requires c κs = let f = formed _ (good-told (c .before .before .form-check .ensures) (c .before .is-refused .ensures) (c .if1 .left)) in omega (arith, f .whole)
 
-mul-room-check : tie.Need-mul-room-check
-mul-room-check c =
-    let at-if1 = c .before in
-    let at-is-refused = at-if1 .before in
-    let at-form-check = at-is-refused .before in
-    let f = formed _ (good-told (at-form-check .form-check .ensures) (at-is-refused .is-refused .ensures) (at-if1 .if1 .left)) in omega
-    (arith, f .head .most, c .file-count .ensures)
-
 room-check-requires : tie.Need-room-check-requires
 room-check-requires c κs = search needs
 
@@ -49,6 +41,5 @@ store-check-spec =
     is-refused-requires
     returns
     file-count-requires
-    mul-room-check
     room-check-requires
     returns-2)
