@@ -52,6 +52,18 @@ module _ (m : Bounds) (s : View) (n : ℕ) (sound : Sound m s n) where
   lookup-words : (x : NodeKind) → lookupWords s (tag x) (first x) (second x) n ≡ lookup (nodes s n) x n
   lookup-words x = greatest-same (λ i. wordsAre s i (tag x) (first x) (second x)) (λ i. sameNode (at (nodes s n) i) x) n (words-are-same x)
 
+-- stores that pass with the same list hold the same words
+pub same-list-agree : (m : Bounds) (u v : View) (n : ℕ) → Sound m u n → Sound m v n → nodes u n ≡ nodes v n → Agree u v n
+same-list-agree m u v n left right e =
+    record {
+      tags = λ i h. sym (tag-word m u n left i h) ∙ (ap tag (same i h) ∙ tag-word m v n right i h);
+      firsts = λ i h. sym (first-word m u n left i h) ∙ (ap first (same i h) ∙ first-word m v n right i h);
+      seconds = λ i h. sym (second-word m u n left i h) ∙ (ap second (same i h) ∙ second-word m v n right i h);
+    }
+  where
+    same : (i : ℕ) → i < n → recordAt u i ≡ recordAt v i
+    same i h = sym (at-nodes u n i h) ∙ (ap (λ l. at l i) e ∙ at-nodes v n i h)
+
 -- a store with the words t, a, b written at place i
 module _ (s : List ℕ) (i t a b : ℕ) where
   length-put-words : length (putWords s i t a b) ≡ length s

@@ -3,7 +3,7 @@ use Prim.Native.Nat.{ℕ, zero, suc, _+_, _*_, _≤_, _<_}
 use mathlib.Core.List.{List, [], _∷_, _++_}
 use mathlib.Core.Path.{_≡_, refl, sym, _∙_, ap, ap₂}
 use native.Mathlib.Omega.{arith}
-use lib.ListN.{getD, length, take}
+use lib.ListN.{getD, length}
 use lib.Seq.{getD-take}
 use Rattle.field.specs.Fields.{Bounds}
 use Rattle.dag.specs.View.{View, interleaved, Agree}

@@ -1,6 +1,6 @@
 -- Entries of keys (document 01, Evaluate): `width` words each, a key number and then coordinates; of a key's entries the last counts.
 use Prim.Native.Nat.{ℕ, zero, suc, _+_, _*_, _-_, _<_, _≤_}
-use mathlib.Core.Bool.{Bool, true, false, cond, _&&_}
+use mathlib.Core.Bool.{Bool, true, false, _&&_}
 use mathlib.Core.List.{List}
 use lib.Dec.{leb, ltb, eqb}
 use lib.ListN.{getD, length}
@@ -15,7 +15,6 @@ use Rattle.dag.specs.declared.Found.{Found}
 use Rattle.dag.specs.declared.Found.the-variants.{At, Missing}
 use Rattle.dag.specs.declared.Refusal.the-variants.{StoreTooShort, Malformed, TooManyEntries, Unassigned}
 use Rattle.dag.specs.declared.Checked.{Checked}
-use Rattle.dag.specs.declared.Checked.the-variants.{Good}
 
 -- the most entries
 abbrev pub mostEntries : ℕ

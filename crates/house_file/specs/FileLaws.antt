@@ -13,13 +13,15 @@ use Rattle.field.specs.Fields.{goldilocks}
 use Rattle.dag.specs.View.{interleaved, Agree}
 use Rattle.dag.specs.ViewLaws.{words-room, agree-nodes, agree-list}
 use Rattle.dag.specs.Nodes.{nodes}
+use Rattle.dag.specs.NodeLaws.{length-nodes}
 use Rattle.dag.specs.CaseLaws.{and-true}
 use Rattle.dag.specs.Refusals.{need, _then_, unlessRefused}
 use Rattle.dag.specs.Check.{roomCheck, listCheck}
 use Rattle.dag.specs.CheckLaws.{then-good, need-good}
 use Rattle.dag.specs.PassLaws.{room-enough as room-fits, enough-room, rooted}
 use Rattle.dag.specs.Store.{stored, copiedRecords, blankedBehind}
-use Rattle.dag.specs.WordLaws.{copied-stored}
+use Rattle.dag.specs.StoreLaws.{sound-well-formed, same-list-agree}
+use Rattle.dag.specs.WordLaws.{nodes-stored, sound-stored, copied-stored}
 use Rattle.dag.specs.declared.Refusal.{Refusal}
 use Rattle.dag.specs.declared.Refusal.the-variants.{FileTooShort, FileVersion, FileCount, FileLength}
 use Rattle.dag.specs.declared.Checked.{Checked}
@@ -27,7 +29,7 @@ use Rattle.dag.specs.declared.Checked.the-variants.{Good, Refused}
 use Rattle.house_file.specs.declared.FileAnswer.{FileAnswer}
 use Rattle.house_file.specs.declared.FileAnswer.the-variants as FileAnswer'
 use Rattle.house_file.specs.Contracts.{Headed, Formed, Passed, Done}
-use Rattle.house_file.specs.File.{number, fileCount, fileRoot, mostFiled, recordPlace, fileView, isCount, headCheck, formCheck, heldCheck, fileCheck, storeCheck, readCheck, readAnswer, readList}
+use Rattle.house_file.specs.File.{number, fileCount, fileRoot, mostFiled, recordPlace, fileView, fileList, isCount, headCheck, formCheck, heldCheck, fileCheck, storeCheck, readCheck, readAnswer, readList}
 
 pub count-range : (n : ℕ) → isCount n ≡ true → (1 ≤ n) × (n ≤ mostFiled)
 unfolding isCount
@@ -140,6 +142,17 @@ told-refused file list r e = record { answer = rw e; list-is = rw e }
 pub told-done : (file list : List ℕ) (a : FileAnswer) (after : List ℕ) → storeCheck file (interleaved list .room) ≡ Good → Done file list a after → Told file list a after
 unfolding readAnswer readList readCheck
 told-done file list a after e d = record { answer = rw e (d .answer); list-is = rw e (d .list-is) }
+
+-- the store that a file is read into holds the file's words
+pub read-agrees : (file list : List ℕ) → readCheck file (interleaved list .room) ≡ Good → Agree (interleaved (readList file list)) (fileView file) (fileCount file)
+unfolding readList heldCheck
+read-agrees file list e =
+    let m = goldilocks .bounds in
+    let n = fileCount file in
+    let sound = rooted m (fileView file) n (fileRoot file) (passed file (interleaved list .room) e .held-is) .list .sound in
+    let long = length-nodes (fileView file) n in
+    let there = rw long at (sound-stored list (fileList file) m (sound-well-formed m (fileView file) n sound)) in
+    rw e (same-list-agree m (interleaved (stored list (fileList file))) (fileView file) n there sound (rw long at (nodes-stored list (fileList file))))
 
 -- a number's bytes so far
 pub number-small : (v i : ℕ) → i < 8 → v < 256 ^ i → v < 72057594037927936
