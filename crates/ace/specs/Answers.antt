@@ -2,9 +2,10 @@
 use Prim.Native.Nat.{ℕ}
 use mathlib.Core.List.{List, [], _∷_}
 use Rattle.dag.specs.Refusals.{number, place}
-use lib.ListN.{replicate}
+use lib.ListN.{getD, replicate}
 use Rattle.dag.specs.declared.Refusal.{Refusal}
 use Rattle.dag.specs.declared.Checked.{Checked}
+use Rattle.dag.specs.declared.Roots.{Roots}
 use Rattle.compact.specs.declared.CompactAnswer.{CompactAnswer}
 use Rattle.normalize.specs.declared.NormalizeAnswer.{NormalizeAnswer}
 use Rattle.evaluate.specs.declared.EvaluateAnswer.{EvaluateAnswer}
@@ -20,21 +21,26 @@ abbrev pub stepWords : StepAnswer → List ℕ
 stepWords (StepAnswer.Done place count) = 0 ∷ place ∷ count ∷ 0 ∷ []
 stepWords (StepAnswer.Refused r) = refusedWords r
 
+-- 0 and three values, or the refusal's words
+abbrev pub answerWords : Checked → ℕ → ℕ → ℕ → List ℕ
+answerWords Checked.Good a b c = 0 ∷ a ∷ b ∷ c ∷ []
+answerWords (Checked.Refused r) a b c = refusedWords r
+
+-- the first root's place, 0 where there is none
+abbrev pub firstRoot : Roots → ℕ
+firstRoot roots = getD (roots .places) 0 0
+
 abbrev pub buildWords : BuildAnswer → List ℕ
-buildWords (BuildAnswer.Done count root) = 0 ∷ count ∷ root ∷ 0 ∷ []
-buildWords (BuildAnswer.Refused r) = refusedWords r
+buildWords a = answerWords (a .checked) (a .count) (firstRoot (a .roots)) 0
 
 abbrev pub compactWords : CompactAnswer → List ℕ
-compactWords (CompactAnswer.Done count root) = 0 ∷ count ∷ root ∷ 0 ∷ []
-compactWords (CompactAnswer.Refused r) = refusedWords r
+compactWords a = answerWords (a .checked) (a .count) (firstRoot (a .roots)) 0
 
 abbrev pub normalizeWords : NormalizeAnswer → List ℕ
-normalizeWords (NormalizeAnswer.Done count root rounds) = 0 ∷ count ∷ root ∷ rounds ∷ []
-normalizeWords (NormalizeAnswer.Refused r) = refusedWords r
+normalizeWords a = answerWords (a .checked) (a .count) (firstRoot (a .roots)) (a .rounds)
 
 abbrev pub evaluateWords : EvaluateAnswer → List ℕ
-evaluateWords (EvaluateAnswer.Value v) = 0 ∷ v .c0 ∷ v .c1 ∷ 0 ∷ []
-evaluateWords (EvaluateAnswer.Refused r) = refusedWords r
+evaluateWords a = answerWords (a .checked) (a .value .c0) (a .value .c1) 0
 
 abbrev pub checkedWords : Checked → ℕ → List ℕ → List ℕ
 checkedWords Checked.Good count forms = 0 ∷ count ∷ forms

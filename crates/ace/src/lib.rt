@@ -12,6 +12,7 @@ ghost use mathlib.Core.Path.{_≡_};
 ghost use mathlib.Core.List.{_∷_};
 ghost use lib.ListN.{length};
 ghost use Rattle.field.specs.Fields.{goldilocks};
+ghost use Rattle.dag.specs.View.{interleaved};
 ghost use Rattle.builder.specs.Calls as Calls;
 ghost use Rattle.columns.specs.Prepare as Prepare;
 ghost use Rattle.compact.specs.Calls as Compaction;
@@ -38,48 +39,55 @@ fn step_words(a: StepAnswer) -> [u64; 4]
     }
 }
 
+// 0 and three values, or the refusal's words.
+fn answer_words(checked: Checked, a: u64, b: u64, c: u64) -> [u64; 4]
+    ensures { λ w. ⌜ w ≡ Answers.answerWords checked a b c ⌝ }
+{
+    match checked {
+        Checked::Good => [0, a, b, c],
+        Checked::Refused(r) => refused_words(r),
+    }
+}
+
 // The words of Build's answer.
 fn build_words(a: BuildAnswer) -> [u64; 4]
     ensures { λ w. ⌜ w ≡ Answers.buildWords a ⌝ }
 {
-    match a {
-        BuildAnswer::Done { count, root } => [0, count as u64, root as u64, 0],
-        BuildAnswer::Refused(r) => refused_words(r),
-    }
+    let checked = a.checked;
+    let roots = a.roots;
+    answer_words(checked, a.count as u64, dag::first_root(roots), 0)
 }
 
 // The words of Compact's answer.
 fn compact_words(a: CompactAnswer) -> [u64; 4]
     ensures { λ w. ⌜ w ≡ Answers.compactWords a ⌝ }
 {
-    match a {
-        CompactAnswer::Done { count, root } => [0, count as u64, root as u64, 0],
-        CompactAnswer::Refused(r) => refused_words(r),
-    }
+    let checked = a.checked;
+    let roots = a.roots;
+    answer_words(checked, a.count as u64, dag::first_root(roots), 0)
 }
 
 // The words of Normalise's answer.
 fn normalize_words(a: NormalizeAnswer) -> [u64; 4]
     ensures { λ w. ⌜ w ≡ Answers.normalizeWords a ⌝ }
 {
-    match a {
-        NormalizeAnswer::Done {
-            count,
-            root,
-            rounds,
-        } => [0, count as u64, root as u64, rounds as u64],
-        NormalizeAnswer::Refused(r) => refused_words(r),
-    }
+    let checked = a.checked;
+    let roots = a.roots;
+    answer_words(
+        checked,
+        a.count as u64,
+        dag::first_root(roots),
+        a.rounds as u64,
+    )
 }
 
 // The words of Evaluate's answer.
 fn evaluate_words(a: EvaluateAnswer) -> [u64; 4]
     ensures { λ w. ⌜ w ≡ Answers.evaluateWords a ⌝ }
 {
-    match a {
-        EvaluateAnswer::Value(v) => [0, v.c0, v.c1, 0],
-        EvaluateAnswer::Refused(r) => refused_words(r),
-    }
+    let checked = a.checked;
+    let value = a.value;
+    answer_words(checked, value.c0, value.c1, 0)
 }
 
 // Two words and a form for each column.
@@ -132,7 +140,7 @@ pub extern "C" fn ace_step(
     answer: &mut [u64; 4],
 )
     ensures store { λ _. ⌜ now (list .exit) ≡ Calls.stepStore goldilocks (now (list .entry)) n tag first second ⌝ }
-    ensures answer { λ _. ⌜ now (answer .exit) ≡ Answers.stepWords (Calls.stepAnswer goldilocks (now (list .entry)) n tag first second) ⌝ }
+    ensures answer { λ _. ⌜ now (answer .exit) ≡ Answers.stepWords (Calls.stepAnswer goldilocks (interleaved (now (list .entry))) n tag first second) ⌝ }
 {
     *answer = step_words(builder::step(list, n, tag, first, second));
 }
@@ -147,9 +155,9 @@ pub extern "C" fn ace_build(
     map: &mut [u64],
     answer: &mut [u64; 4],
 )
-    ensures result { λ _. ⌜ now (result .exit) ≡ Calls.buildResult goldilocks (now (list .entry)) n root (now (result .entry)) (length (now (map .entry))) ⌝ }
-    ensures map { λ _. ⌜ now (map .exit) ≡ Calls.buildMap goldilocks (now (list .entry)) n root (length (now (result .entry))) (now (map .entry)) ⌝ }
-    ensures answer { λ _. ⌜ now (answer .exit) ≡ Answers.buildWords (Calls.buildAnswer goldilocks (now (list .entry)) n root (length (now (result .entry))) (length (now (map .entry)))) ⌝ }
+    ensures result { λ _. ⌜ now (result .exit) ≡ Calls.buildResult goldilocks (interleaved (now (list .entry))) n root (now (result .entry)) (length (now (map .entry))) ⌝ }
+    ensures map { λ _. ⌜ now (map .exit) ≡ Calls.buildMap goldilocks (interleaved (now (list .entry))) n root (interleaved (now (result .entry)) .room) (now (map .entry)) ⌝ }
+    ensures answer { λ _. ⌜ now (answer .exit) ≡ Answers.buildWords (Calls.buildAnswer goldilocks (interleaved (now (list .entry))) n root (interleaved (now (result .entry)) .room) (length (now (map .entry)))) ⌝ }
 {
     *answer = build_words(builder::build(list, n, root, result, map));
 }
@@ -163,8 +171,8 @@ pub extern "C" fn ace_compact(
     result: &mut [u64],
     answer: &mut [u64; 4],
 )
-    ensures result { λ _. ⌜ now (result .exit) ≡ Compaction.compactResult goldilocks (now (list .entry)) n root (now (result .entry)) ⌝ }
-    ensures answer { λ _. ⌜ now (answer .exit) ≡ Answers.compactWords (Compaction.compactAnswer goldilocks (now (list .entry)) n root (length (now (result .entry)))) ⌝ }
+    ensures result { λ _. ⌜ now (result .exit) ≡ Compaction.compactResult goldilocks (interleaved (now (list .entry))) n root (now (result .entry)) ⌝ }
+    ensures answer { λ _. ⌜ now (answer .exit) ≡ Answers.compactWords (Compaction.compactAnswer goldilocks (interleaved (now (list .entry))) n root (interleaved (now (result .entry)) .room)) ⌝ }
 {
     *answer = compact_words(compact::compact(list, n, root, result));
 }
@@ -179,9 +187,9 @@ pub extern "C" fn ace_normalize(
     work: &mut [u64],
     answer: &mut [u64; 4],
 )
-    ensures result { λ _. ⌜ now (result .exit) ≡ Normalising.normalizeResult goldilocks (now (list .entry)) n root (now (result .entry)) (length (now (work .entry))) ⌝ }
-    ensures work { λ _. ⌜ now (work .exit) ≡ Normalising.normalizeWork goldilocks (now (list .entry)) n root (length (now (result .entry))) (now (work .entry)) ⌝ }
-    ensures answer { λ _. ⌜ now (answer .exit) ≡ Answers.normalizeWords (Normalising.normalizeAnswer goldilocks (now (list .entry)) n root (length (now (result .entry))) (length (now (work .entry)))) ⌝ }
+    ensures result { λ _. ⌜ now (result .exit) ≡ Normalising.normalizeResult goldilocks (interleaved (now (list .entry))) n root (now (result .entry)) (interleaved (now (work .entry)) .room) ⌝ }
+    ensures work { λ _. ⌜ now (work .exit) ≡ Normalising.normalizeWork goldilocks (interleaved (now (list .entry))) n root (interleaved (now (result .entry)) .room) (now (work .entry)) ⌝ }
+    ensures answer { λ _. ⌜ now (answer .exit) ≡ Answers.normalizeWords (Normalising.normalizeAnswer goldilocks (interleaved (now (list .entry))) n root (interleaved (now (result .entry)) .room) (interleaved (now (work .entry)) .room)) ⌝ }
 {
     *answer = normalize_words(normalize::normalize(list, n, root, result, work));
 }
@@ -196,7 +204,7 @@ pub extern "C" fn ace_evaluate(
     m: usize,
     answer: &mut [u64; 4],
 )
-    ensures answer { λ _. ⌜ now (answer .exit) ≡ Answers.evaluateWords (Evaluation.evaluateAnswer goldilocks (now (list .entry)) n root (now (assignment .entry)) m) ⌝ }
+    ensures answer { λ _. ⌜ now (answer .exit) ≡ Answers.evaluateWords (Evaluation.evaluateAnswer goldilocks (interleaved (now (list .entry))) n root (now (assignment .entry)) m) ⌝ }
 {
     *answer = evaluate_words(evaluate::evaluate(list, n, root, assignment, m));
 }
@@ -222,10 +230,10 @@ pub extern "C" fn ace_lower(
     places: &mut [u64],
     answer: &mut [u64; 4],
 )
-    ensures result { λ _. ⌜ now (result .exit) ≡ Lowering.lowerResult goldilocks (now (list .entry)) n (now (lengths .entry)) (now (entries .entry)) period (now (result .entry)) (now (work .entry)) (now (places .entry)) ⌝ }
-    ensures work { λ _. ⌜ now (work .exit) ≡ Lowering.lowerWork goldilocks (now (list .entry)) n (now (lengths .entry)) (now (entries .entry)) period (now (result .entry)) (now (work .entry)) (now (places .entry)) ⌝ }
-    ensures places { λ _. ⌜ now (places .exit) ≡ Lowering.lowerPlaces goldilocks (now (list .entry)) n (now (lengths .entry)) (now (entries .entry)) period (now (result .entry)) (now (work .entry)) (now (places .entry)) ⌝ }
-    ensures answer { λ _. ⌜ now (answer .exit) ≡ Answers.lowerWords (Lowering.lowerAnswer goldilocks (now (list .entry)) n (now (lengths .entry)) (now (entries .entry)) period (now (result .entry)) (now (work .entry)) (now (places .entry))) ⌝ }
+    ensures result { λ _. ⌜ now (result .exit) ≡ Lowering.lowerResult goldilocks (interleaved (now (list .entry))) n (now (lengths .entry)) (now (entries .entry)) period (now (result .entry)) (now (work .entry)) (now (places .entry)) ⌝ }
+    ensures work { λ _. ⌜ now (work .exit) ≡ Lowering.lowerWork goldilocks (interleaved (now (list .entry))) n (now (lengths .entry)) (now (entries .entry)) period (now (result .entry)) (now (work .entry)) (now (places .entry)) ⌝ }
+    ensures places { λ _. ⌜ now (places .exit) ≡ Lowering.lowerPlaces goldilocks (interleaved (now (list .entry))) n (now (lengths .entry)) (now (entries .entry)) period (now (result .entry)) (now (work .entry)) (now (places .entry)) ⌝ }
+    ensures answer { λ _. ⌜ now (answer .exit) ≡ Answers.lowerWords (Lowering.lowerAnswer goldilocks (interleaved (now (list .entry))) n (now (lengths .entry)) (now (entries .entry)) period (now (result .entry)) (now (work .entry)) (now (places .entry))) ⌝ }
 {
     *answer = lower_words(lower::lower(list, n, lengths, entries, period, result, work, places));
 }

@@ -437,6 +437,14 @@ pub fn root_at(roots: Roots, j: usize) -> usize
     places[j] as usize
 }
 
+// The first root, 0 where there is none.
+pub fn first_root(roots: Roots) -> u64
+    ensures { λ r. ⌜ r ≡ getD (roots .places) 0 0 ⌝ }
+{
+    let places = roots.places;
+    places[0]
+}
+
 // The new places of a list's roots.
 pub fn renamed_roots(map: &[u64], roots: Roots) -> Roots
     requires { ⌜ Inside (length (now map)) roots ⌝ }

@@ -8,7 +8,7 @@ use native.Mathlib.Numerals.{add-one}
 use native.Mathlib.Omega.{arith}
 use lib.ListN.{length, take, replicate}
 use Rattle.field.specs.Fields.{Field, elementLaws}
-use Rattle.dag.specs.View.{interleaved}
+use Rattle.dag.specs.View.{View, interleaved}
 use Rattle.dag.specs.Nodes.{mostRecords, nodes, blank}
 use Rattle.dag.specs.NodeLaws.{length-nodes}
 use Rattle.dag.specs.Refusals.{isRefused, unlessRefused}
@@ -183,9 +183,9 @@ module _ (field : Field) where
         }
 
   -- what the answer says of the tests
-  pub answer-checked : (s : List ℕ) (n root resultWords workWords : ℕ) → normalizeAnswer field s n root resultWords workWords .checked ≡ normalizeCheck field s n root resultWords workWords
+  pub answer-checked : (s : View) (n root resultRoom workRoom : ℕ) → normalizeAnswer field s n root resultRoom workRoom .checked ≡ normalizeCheck field s n root resultRoom workRoom
   unfolding normalizeAnswer
-  answer-checked s n root resultWords workWords = go (normalizeCheck field s n root resultWords workWords)
+  answer-checked s n root resultRoom workRoom = go (normalizeCheck field s n root resultRoom workRoom)
     where
       go : (c : Checked) → unlessRefused c (λ r. record { checked = Refused r; count = 0; roots = rootsFrom []; rounds = 0 }) (answerOf (normalized field s n (root ∷ []))) .checked ≡ c
       go Good = refl
