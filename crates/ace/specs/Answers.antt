@@ -30,14 +30,18 @@ answerWords (Checked.Refused r) a b c = refusedWords r
 abbrev pub firstRoot : Roots → ℕ
 firstRoot roots = getD (roots .places) 0 0
 
+-- a count, the root and rounds
+abbrev pub listWords : Checked → ℕ → Roots → ℕ → List ℕ
+listWords c count roots rounds = answerWords c count (firstRoot roots) rounds
+
 abbrev pub buildWords : BuildAnswer → List ℕ
-buildWords a = answerWords (a .checked) (a .count) (firstRoot (a .roots)) 0
+buildWords a = listWords (a .checked) (a .count) (a .roots) 0
 
 abbrev pub compactWords : CompactAnswer → List ℕ
-compactWords a = answerWords (a .checked) (a .count) (firstRoot (a .roots)) 0
+compactWords a = listWords (a .checked) (a .count) (a .roots) 0
 
 abbrev pub normalizeWords : NormalizeAnswer → List ℕ
-normalizeWords a = answerWords (a .checked) (a .count) (firstRoot (a .roots)) (a .rounds)
+normalizeWords a = listWords (a .checked) (a .count) (a .roots) (a .rounds)
 
 abbrev pub evaluateWords : EvaluateAnswer → List ℕ
 evaluateWords a = answerWords (a .checked) (a .value .c0) (a .value .c1) 0

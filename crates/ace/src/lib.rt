@@ -5,6 +5,7 @@ use columns::PrepareAnswer;
 use compact::CompactAnswer;
 use dag::Checked;
 use dag::Refusal;
+use dag::Roots;
 use evaluate::EvaluateAnswer;
 use lower::LowerAnswer;
 use normalize::NormalizeAnswer;
@@ -49,13 +50,20 @@ fn answer_words(checked: Checked, a: u64, b: u64, c: u64) -> [u64; 4]
     }
 }
 
+// The words of an answer of a count, roots and rounds.
+fn list_words(checked: Checked, count: usize, roots: Roots, rounds: usize) -> [u64; 4]
+    ensures { λ w. ⌜ w ≡ Answers.listWords checked count roots rounds ⌝ }
+{
+    answer_words(checked, count as u64, dag::first_root(roots), rounds as u64)
+}
+
 // The words of Build's answer.
 fn build_words(a: BuildAnswer) -> [u64; 4]
     ensures { λ w. ⌜ w ≡ Answers.buildWords a ⌝ }
 {
     let checked = a.checked;
     let roots = a.roots;
-    answer_words(checked, a.count as u64, dag::first_root(roots), 0)
+    list_words(checked, a.count, roots, 0)
 }
 
 // The words of Compact's answer.
@@ -64,7 +72,7 @@ fn compact_words(a: CompactAnswer) -> [u64; 4]
 {
     let checked = a.checked;
     let roots = a.roots;
-    answer_words(checked, a.count as u64, dag::first_root(roots), 0)
+    list_words(checked, a.count, roots, 0)
 }
 
 // The words of Normalise's answer.
@@ -73,12 +81,7 @@ fn normalize_words(a: NormalizeAnswer) -> [u64; 4]
 {
     let checked = a.checked;
     let roots = a.roots;
-    answer_words(
-        checked,
-        a.count as u64,
-        dag::first_root(roots),
-        a.rounds as u64,
-    )
+    list_words(checked, a.count, roots, a.rounds)
 }
 
 // The words of Evaluate's answer.
