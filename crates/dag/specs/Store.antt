@@ -6,9 +6,9 @@ use lib.Dec.{eqb}
 use mathlib.Core.Path.{_≡_}
 use lib.ListN.{length, set, take, drop, replicate}
 use Rattle.field.specs.Fields.{Bounds}
-use Rattle.dag.specs.View.{View}
+use Rattle.dag.specs.View.{View, Agree}
 use Rattle.dag.specs.Nodes.{tag, first, second, wordsOf, filled, blank}
-use Rattle.dag.specs.Check.{recordsCheck}
+use Rattle.dag.specs.Check.{roomCheck, recordsCheck}
 use Rattle.dag.specs.Lookup.{greatest}
 use Rattle.dag.specs.declared.NodeKind.{NodeKind}
 use Rattle.dag.specs.declared.Found.{Found}
@@ -49,6 +49,11 @@ copiedRecords s d n = copied s d (3 * n)
 -- a store with blanks behind its first n records
 unfoldable pub blankedBehind : List ℕ → ℕ → List ℕ
 blankedBehind s n = take (3 * n) s ++ replicate (length s - 3 * n) blank
+
+-- two stores, of whatever layout, that are alike as far as n records: both have room for them or neither has, and they hold the same words
+pub record Alike (u v : View) (n : ℕ) : Type 0 where
+  pub rooms : roomCheck n (u .room) ≡ roomCheck n (v .room)
+  pub words : Agree u v n
 
 -- the record at place i has the words t, a, b
 unfoldable pub wordsAre : View → ℕ → ℕ → ℕ → ℕ → Bool

@@ -3,8 +3,8 @@ use Prim.Native.Nat.{ℕ, zero, suc, _+_, _*_, _≤_, _<_}
 use mathlib.Core.List.{List, [], _∷_, _++_}
 use mathlib.Core.Path.{_≡_, refl, sym, _∙_, ap, ap₂}
 use native.Mathlib.Omega.{arith}
-use lib.ListN.{getD, length}
-use lib.Seq.{getD-take}
+use lib.ListN.{getD, length, take}
+use lib.Seq.{getD-take, length-take-le}
 use Rattle.field.specs.Fields.{Bounds}
 use Rattle.dag.specs.View.{View, interleaved, Agree}
 use Rattle.dag.specs.Nodes.{recordAt, nodes}
@@ -12,7 +12,7 @@ use Rattle.dag.specs.Refusals.{firstRefused, _then_}
 use Rattle.dag.specs.Check.{checkAt, recordsCheck, rootlessCheck, listCheck}
 use Rattle.dag.specs.PassLaws.{enough-room}
 use Rattle.dag.specs.BlankLaws.{copied-front}
-use Rattle.dag.specs.Store.{front, copiedRecords, Sound}
+use Rattle.dag.specs.Store.{Alike, front, copiedRecords, Sound}
 
 -- room for n records is three words for each
 pub room-words : (s : List ℕ) (n : ℕ) → n ≤ interleaved s .room → 3 * n ≤ length s
@@ -57,15 +57,22 @@ module _ (u v : View) where
   pub agree-sound : (m : Bounds) (n : ℕ) → n ≤ v .room → Agree u v n → Sound m u n → Sound m v n
   agree-sound m n room a sound = record { room = room; good = sym (agree-checks m n a) ∙ sound .good }
 
-  -- they pass the same tests, each with room for n records
-  module _ (n : ℕ) (left : n ≤ u .room) (right : n ≤ v .room) (a : Agree u v n) where
-    pub agree-rootless : (m : Bounds) (least : ℕ) → rootlessCheck m least u n ≡ rootlessCheck m least v n
-    unfolding rootlessCheck
-    agree-rootless m least = rw (enough-room n (u .room) left, enough-room n (v .room) right, agree-checks m n a)
+  -- stores that are alike hold the same list and pass the same tests
+  module _ (n : ℕ) (a : Alike u v n) where
+    pub alike-nodes : nodes u n ≡ nodes v n
+    alike-nodes = agree-nodes n (a .words)
 
-    pub agree-list : (m : Bounds) (root : ℕ) → listCheck m u n root ≡ listCheck m v n root
+    pub alike-rootless : (m : Bounds) (least : ℕ) → rootlessCheck m least u n ≡ rootlessCheck m least v n
+    unfolding rootlessCheck
+    alike-rootless m least = rw (a .rooms, agree-checks m n (a .words))
+
+    pub alike-list : (m : Bounds) (root : ℕ) → listCheck m u n root ≡ listCheck m v n root
     unfolding listCheck
-    agree-list m root = rw (agree-rootless m 1)
+    alike-list m root = rw (alike-rootless m 1)
+
+-- stores with room for n records that agree in these
+pub alike : (u v : View) (n : ℕ) → n ≤ u .room → n ≤ v .room → Agree u v n → Alike u v n
+alike u v n left right a = record { rooms = enough-room n (u .room) left ∙ sym (enough-room n (v .room) right); words = a }
 
 -- interleaved stores that agree word by word agree
 module _ (s u : List ℕ) (n : ℕ) where
@@ -82,3 +89,13 @@ module _ (s u : List ℕ) (n : ℕ) where
 pub copied-agrees : (s d : List ℕ) (n : ℕ) → n ≤ interleaved s .room → Agree (interleaved s) (interleaved (copiedRecords s d n)) n
 unfolding copiedRecords front
 copied-agrees s d n h = front-agree s (copiedRecords s d n) n (sym (copied-front s d (3 * n) (room-words s n h) refl))
+
+-- a store that begins with another's n records has room for them
+pub front-room : (s u : List ℕ) (n : ℕ) → n ≤ interleaved s .room → front n u ≡ front n s → n ≤ interleaved u .room
+unfolding front
+front-room s u n room e = words-room u n (long-enough (3 * n) u (ap length e ∙ length-take-le (3 * n) s (room-words s n room)))
+  where
+    long-enough : (k : ℕ) (t : List ℕ) → length (take k t) ≡ k → k ≤ length t
+    long-enough zero t e = omega arith
+    long-enough (suc k) [] e = absurd (omega arith)
+    long-enough (suc k) (x ∷ t) e = let h = long-enough k t (omega arith) in omega arith

@@ -4,7 +4,7 @@ use mathlib.Core.List.{List, [], _∷_, _++_, append-assoc}
 use mathlib.Core.Path.{_≡_, refl, sym, _∙_, ap}
 use native.Mathlib.Omega.{arith}
 use lib.ListN.{getD, length, take, drop, set, replicate, length-append, length-drop, length-replicate, take-append-drop}
-use lib.Seq.{drop-cons, set-at, take-at, append-snoc, ext-getD, length-take-le}
+use lib.Seq.{drop-cons, set-at, take-at, append-snoc, ext-getD, length-take-le, drop-at}
 use borrow.Author.Tests.{le-leb, lt-ltb}
 use Rattle.field.specs.Fields.{Bounds, Within}
 use Rattle.dag.specs.View.{interleaved}
@@ -120,6 +120,14 @@ module _ (s : List ℕ) (l : List NodeKind) (h : length l ≤ interleaved s .roo
     where
       front-written : take (3 * length l) (wordsOf l ++ drop (3 * length l) s) ≡ wordsOf l
       front-written = take-at (wordsOf l) (drop (3 * length l) s) (3 * length l) (length-words l)
+
+pub front-written : (s : List ℕ) (l : List NodeKind) → front (length l) (written s l) ≡ wordsOf l
+unfolding written front
+front-written s l = take-at (wordsOf l) (behind (length l) s) (3 * length l) (length-words l)
+
+pub behind-written : (s : List ℕ) (l : List NodeKind) → behind (length l) (written s l) ≡ behind (length l) s
+unfolding written behind
+behind-written s l = drop-at (wordsOf l) (drop (3 * length l) s) (3 * length l) (length-words l)
 
 pub nodes-written : (s : List ℕ) (l : List NodeKind) → nodes (interleaved (written s l)) (length l) ≡ l
 unfolding written

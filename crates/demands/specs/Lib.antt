@@ -1,6 +1,7 @@
 pub mod Inputs
 pub mod Repeated
 pub mod Stepping
+pub mod Views
 pub mod Behind
 pub mod Lowering
 pub mod NoTrace

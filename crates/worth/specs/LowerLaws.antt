@@ -7,6 +7,7 @@ use lib.ListN.{getD, length}
 use Rattle.field.specs.Fields.{Field, Low, elementLaws}
 use Rattle.field.specs.declared.QuadFelt.{QuadFelt}
 use Rattle.dag.specs.Keys.{ZK}
+use Rattle.dag.specs.View.{View}
 use Rattle.dag.specs.Nodes.{nodes}
 use Rattle.dag.specs.StoreLaws.{sound-well-formed}
 use Rattle.dag.specs.WellFormed.{WellFormed}
@@ -24,7 +25,7 @@ use Rattle.worth.specs.Worth.{nodeWorth}
 use Rattle.worth.specs.PeriodicLaws.{nodes-keep}
 
 module _ (field : Field) where
-  module _ (s : List ℕ) (n : ℕ) (ls es : List ℕ) (period : ℕ) where
+  module _ (s : View) (n : ℕ) (ls es : List ℕ) (period : ℕ) where
     -- the given records stand in front
     pub lowered-extends : Extends (nodes s n) (lowered field s n ls es period .list)
     unfolding lowered
