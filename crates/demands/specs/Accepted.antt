@@ -5,6 +5,8 @@ use mathlib.Core.Logic.{_↔_}
 use mathlib.Core.Path.{_≡_, refl}
 use lib.ListN.{getD, length}
 use Rattle.field.specs.Fields.{Field, modulus}
+use Rattle.dag.specs.View.{View}
+use Rattle.dag.specs.Roots.{rootsFrom}
 use Rattle.dag.specs.Refusals.{unlessRefused}
 use Rattle.dag.specs.RefusalLaws.{zero-accepts}
 use Rattle.dag.specs.declared.Refusal.{Refusal}
@@ -13,13 +15,9 @@ use Rattle.dag.specs.declared.Checked.the-variants.{Good}
 use Rattle.dag.specs.declared.Checked.the-variants as Checked'
 use Rattle.builder.specs.Calls.{stepped, stepWholeCheck, stepAnswer, buildCheck, buildAnswer}
 use Rattle.builder.specs.declared.StepAnswer.the-variants as StepAnswer'
-use Rattle.builder.specs.declared.BuildAnswer.the-variants as BuildAnswer'
 use Rattle.compact.specs.Calls.{compactCheck, compactAnswer}
-use Rattle.compact.specs.declared.CompactAnswer.the-variants as CompactAnswer'
 use Rattle.normalize.specs.Calls.{normalizeCheck, normalizeAnswer}
-use Rattle.normalize.specs.declared.NormalizeAnswer.the-variants as NormalizeAnswer'
-use Rattle.evaluate.specs.Calls.{evaluateCheck, evaluateAnswer}
-use Rattle.evaluate.specs.declared.EvaluateAnswer.the-variants as EvaluateAnswer'
+use Rattle.evaluate.specs.Calls.{refused, evaluateCheck, evaluateAnswer}
 use Rattle.columns.specs.Prepare.{columns, prepareCheck, answer, prepare}
 use Rattle.lower.specs.Lower.{wholeCheck, lowerAnswer}
 use Rattle.lower.specs.declared.LowerAnswer.the-variants as LowerAnswer'
@@ -30,28 +28,28 @@ abbrev pub outcome : List ℕ → ℕ
 outcome ws = getD ws 0 0
 
 module _ (field : Field) where
-  module _ (s : List ℕ) (n : ℕ) where
+  module _ (s : View) (n : ℕ) where
     pub step-accepts : (t a b : ℕ) → (outcome (stepWords (stepAnswer field s n t a b)) ≡ 0) ↔ (stepWholeCheck field s n t a b ≡ Good)
     unfolding stepAnswer
     step-accepts t a b = zero-accepts (λ w. outcome (stepWords w)) StepAnswer'.Refused _ (λ r. refl) refl (stepWholeCheck field s n t a b)
 
-    module _ (root resultWords : ℕ) where
-      pub build-accepts : (mapWords : ℕ) → (outcome (buildWords (buildAnswer field s n root resultWords mapWords)) ≡ 0) ↔ (buildCheck field s n root resultWords mapWords ≡ Good)
+    module _ (root resultRoom : ℕ) where
+      pub build-accepts : (mapWords : ℕ) → (outcome (buildWords (buildAnswer field s n root resultRoom mapWords)) ≡ 0) ↔ (buildCheck field s n root resultRoom mapWords ≡ Good)
       unfolding buildAnswer
-      build-accepts mapWords = zero-accepts (λ w. outcome (buildWords w)) BuildAnswer'.Refused _ (λ r. refl) refl (buildCheck field s n root resultWords mapWords)
+      build-accepts mapWords = zero-accepts (λ w. outcome (buildWords w)) (λ r. record { checked = Checked'.Refused r; count = 0; roots = rootsFrom [] }) _ (λ r. refl) refl (buildCheck field s n root resultRoom mapWords)
 
-      pub compact-accepts : (outcome (compactWords (compactAnswer field s n root resultWords)) ≡ 0) ↔ (compactCheck field s n root resultWords ≡ Good)
+      pub compact-accepts : (outcome (compactWords (compactAnswer field s n root resultRoom)) ≡ 0) ↔ (compactCheck field s n root resultRoom ≡ Good)
       unfolding compactAnswer
-      compact-accepts = zero-accepts (λ w. outcome (compactWords w)) CompactAnswer'.Refused _ (λ r. refl) refl (compactCheck field s n root resultWords)
+      compact-accepts = zero-accepts (λ w. outcome (compactWords w)) (λ r. record { checked = Checked'.Refused r; count = 0; roots = rootsFrom [] }) _ (λ r. refl) refl (compactCheck field s n root resultRoom)
 
-      pub normalize-accepts : (workWords : ℕ) → (outcome (normalizeWords (normalizeAnswer field s n root resultWords workWords)) ≡ 0) ↔ (normalizeCheck field s n root resultWords workWords ≡ Good)
+      pub normalize-accepts : (workRoom : ℕ) → (outcome (normalizeWords (normalizeAnswer field s n root resultRoom workRoom)) ≡ 0) ↔ (normalizeCheck field s n root resultRoom workRoom ≡ Good)
       unfolding normalizeAnswer
-      normalize-accepts workWords =
-          zero-accepts (λ w. outcome (normalizeWords w)) NormalizeAnswer'.Refused _ (λ r. refl) refl (normalizeCheck field s n root resultWords workWords)
+      normalize-accepts workRoom =
+          zero-accepts (λ w. outcome (normalizeWords w)) (λ r. record { checked = Checked'.Refused r; count = 0; roots = rootsFrom []; rounds = 0 }) _ (λ r. refl) refl (normalizeCheck field s n root resultRoom workRoom)
 
     pub evaluate-accepts : (root : ℕ) (a : List ℕ) (m : ℕ) → (outcome (evaluateWords (evaluateAnswer field s n root a m)) ≡ 0) ↔ (evaluateCheck field s n root a m ≡ Good)
     unfolding evaluateAnswer
-    evaluate-accepts root a m = zero-accepts (λ w. outcome (evaluateWords w)) EvaluateAnswer'.Refused _ (λ r. refl) refl (evaluateCheck field s n root a m)
+    evaluate-accepts root a m = zero-accepts (λ w. outcome (evaluateWords w)) refused _ (λ r. refl) refl (evaluateCheck field s n root a m)
 
     pub lower-accepts : (ls es : List ℕ) (period : ℕ) (result work places : List ℕ)
         → (outcome (lowerWords (lowerAnswer field s n ls es period result work places)) ≡ 0) ↔ (wholeCheck field s n ls es period result work places ≡ Good)

@@ -1,14 +1,15 @@
 -- Where Evaluate accepts a list, it accepts what Normalise, Compact or Build made of it, and answers the same.
-use Prim.Native.Nat.{ℕ, zero, suc, _*_, _-_, _<_, _≤_}
-use mathlib.Core.Bool.{true, _&&_}
-use mathlib.Core.List.{List, [], _∷_, _++_}
+use Prim.Native.Nat.{ℕ, zero, suc, _<_, _≤_}
+use mathlib.Core.Bool.{true}
+use mathlib.Core.List.{List, [], _∷_}
 use mathlib.Core.Path.{_≡_, refl, sym, _∙_, ap}
 use native.Mathlib.Omega.{arith}
-use lib.Dec.{leb}
-use lib.ListN.{length, take, replicate}
+use lib.ListN.{getD, length}
 use Rattle.field.specs.Fields.{Field, Low, elementLaws}
 use Rattle.field.specs.declared.QuadFelt.{QuadFelt}
-use Rattle.dag.specs.Nodes.{blank, nodes, at, wordsOf, filled}
+use Rattle.dag.specs.View.{View, interleaved}
+use Rattle.dag.specs.Nodes.{nodes, at}
+use Rattle.dag.specs.Store.{Alike, stored}
 use Rattle.dag.specs.NodeLaws.{length-nodes}
 use Rattle.dag.specs.Refusals.{firstRefused, need, _then_, unlessRefused}
 use Rattle.dag.specs.Check.{listCheck}
@@ -19,23 +20,23 @@ use Rattle.dag.specs.WellFormed.{WellFormed}
 use Rattle.dag.specs.declared.NodeKind.{NodeKind}
 use Rattle.dag.specs.declared.NodeKind.the-variants.{Input, Constant, Add, Sub, Mul, Neg}
 use Rattle.dag.specs.declared.Found.{Found}
-use Rattle.dag.specs.declared.Refusal.the-variants.{StoreTooShort, Unassigned}
+use Rattle.dag.specs.declared.Refusal.the-variants.{Unassigned}
 use Rattle.dag.specs.declared.Checked.{Checked}
 use Rattle.dag.specs.declared.Checked.the-variants as Checked'
 use Rattle.meaning.specs.Values.{value}
 use Rattle.builder.specs.Steps.{Replay, placeOf, replay}
 use Rattle.builder.specs.ReplayLaws.{Replayed, replay-replayed, replay-short, replay-faithful}
-use Rattle.builder.specs.Calls.{buildCheck, buildResult}
-use Rattle.dag.specs.WordLaws.{nodes-words, words-pass}
+use Rattle.builder.specs.Calls.{buildStores, buildCheck, buildResult}
+use Rattle.dag.specs.WordLaws.{nodes-stored, stored-pass}
 use Rattle.compact.specs.Calls.{compacted, keptOf, compactCheck, compactResult}
 use Rattle.compact.specs.AnswerLaws as Compacted
 use Rattle.evaluate.specs.Entries.{entriesCheck, entryOf, isFound, hasEntry, inputsCheck}
-use Rattle.evaluate.specs.Calls.{entryWords, given, evaluateCheck, evaluateAnswer}
+use Rattle.evaluate.specs.Calls.{entryWords, given, refused, evaluateCheck, evaluateAnswer}
 use Rattle.evaluate.specs.CallLaws.{entries-pass}
 use Rattle.evaluate.specs.ValueStepLaws.{given-low}
-use Rattle.evaluate.specs.declared.EvaluateAnswer.the-variants.{Value, Refused}
+use Rattle.evaluate.specs.declared.EvaluateAnswer.{EvaluateAnswer}
 use Rattle.normalize.specs.Calls.{normalizeCheck, normalized, normalizeResult}
-use Rattle.demands.specs.Behind.{same-front, same-nodes, same-check}
+use Rattle.demands.specs.Views.{same-nodes, same-check}
 use Rattle.demands.specs.Inputs.{Keyed, Inputs, KeyOf, own-keys, inputs-through, replay-inputs, compact-inputs, normalize-inputs}
 use Rattle.demands.specs.Normalising.{countOf, rootOf, answer-list, answer-passes, answer-value}
 
@@ -77,16 +78,15 @@ module _ (find : ℕ → Found) where
 
 module _ (field : Field) where
   -- t, count and root' in place of s, n and root: the list passes the list check, brings no new inputs, and its root has the same value
-  pub record InPlaceOf (s : List ℕ) (n root : ℕ) (t : List ℕ) (count root' : ℕ) : Type 0 where
+  pub record InPlaceOf (s : View) (n root : ℕ) (t : View) (count root' : ℕ) : Type 0 where
     pub passes : listCheck (field .bounds) t count root' ≡ Checked'.Good
     pub no-new : Inputs (KeyOf (nodes s n)) (nodes t count)
     pub worth : (given : ℕ → QuadFelt) → ((k : ℕ) → Low field (given k)) → value (field .elements) given (nodes t count) root' ≡ value (field .elements) given (nodes s n) root
 
   -- so does every store that begins with t's records
-  in-place-front : (s : List ℕ) (n root : ℕ) (t : List ℕ) (count root' : ℕ) → InPlaceOf s n root t count root' → (u : List ℕ) → take (3 * count) u ≡ take (3 * count) t
+  in-place-front : (s : View) (n root : ℕ) (t : View) (count root' : ℕ) → InPlaceOf s n root t count root' → (u : View) → Alike t u count
       → InPlaceOf s n root u count root'
-  in-place-front s n root t count root' h u front =
-      let same = same-front t u count (rooted (field .bounds) t count root' (h .passes) .list .sound .room) front in
+  in-place-front s n root t count root' h u same =
       let records = same-nodes field t u count same in
       record {
         passes = sym (same-check field t u count same root') ∙ h .passes;
@@ -94,13 +94,17 @@ module _ (field : Field) where
         worth = λ given low. rw (← records) (h .worth given low);
       }
 
--- an answer that is a value was accepted
-accepts : (c : Checked) (w v : QuadFelt) → unlessRefused c Refused (Value w) ≡ Value v → c ≡ Checked'.Good
+-- an answer that is a value
+abbrev pub Value : QuadFelt → EvaluateAnswer
+Value v = record { checked = Checked'.Good; value = v }
+
+-- it was accepted
+accepts : (c : Checked) (w v : QuadFelt) → unlessRefused c refused (Value w) ≡ Value v → c ≡ Checked'.Good
 accepts Checked'.Good w v e = refl
-accepts (Checked'.Refused r) w v e = let z : _≡_ {A = ℕ} 0 1 = cc in absurd (omega arith)
+accepts (Checked'.Refused r) w v e = let q : Checked'.Refused r ≡ Checked'.Good = ap (λ d. d .checked) e in let z : _≡_ {A = ℕ} 0 1 = cc in absurd (omega arith)
 
 module _ (field : Field) where
-  module _ (s : List ℕ) (n root : ℕ) (t : List ℕ) (count root' : ℕ) (h : InPlaceOf field s n root t count root') (a : List ℕ) (m : ℕ) where
+  module _ (s : View) (n root : ℕ) (t : View) (count root' : ℕ) (h : InPlaceOf field s n root t count root') (a : List ℕ) (m : ℕ) where
     module _ (e : evaluateCheck field s n root a m ≡ Checked'.Good) where
       find : ℕ → Found
       find = entryOf entryWords a m
@@ -130,32 +134,39 @@ module _ (field : Field) where
     evaluates-alike v e = same-answer (accepts (evaluateCheck field s n root a m) (value (field .elements) (given a m) (nodes s n) root) v e) ∙ e
 
   -- where Evaluate answers a value for the list, it answers the same for what stands in its place, from any store that begins with it
-  pub evaluates-front : (s : List ℕ) (n root : ℕ) (t : List ℕ) (count root' : ℕ) → InPlaceOf field s n root t count root' → (u : List ℕ) → take (3 * count) u ≡ take (3 * count) t
+  pub evaluates-front : (s : View) (n root : ℕ) (t : View) (count root' : ℕ) → InPlaceOf field s n root t count root' → (u : View) → Alike t u count
       → (a : List ℕ) (m : ℕ) (v : QuadFelt) → evaluateAnswer field s n root a m ≡ Value v → evaluateAnswer field u count root' a m ≡ Value v
   evaluates-front s n root t count root' h u front = evaluates-alike s n root u count root' (in-place-front field s n root t count root' h u front)
 
   -- Normalise: its answer stands in place of the list
-  pub normalized-in-place : (s : List ℕ) (n root : ℕ) (result : List ℕ) (workWords : ℕ) → normalizeCheck field s n root (length result) workWords ≡ Checked'.Good
-      → InPlaceOf field s n root (normalizeResult field s n root result workWords) (countOf field s n root) (rootOf field s n root)
+  pub normalized-in-place : (s : View) (n root : ℕ) (result : List ℕ) (workRoom : ℕ) → normalizeCheck field s n root (interleaved result .room) workRoom ≡ Checked'.Good
+      → InPlaceOf field s n root (interleaved (normalizeResult field s n root result workRoom)) (countOf field s n root) (rootOf field s n root)
   unfolding normalized
-  normalized-in-place s n root result workWords e =
+  normalized-in-place s n root result workRoom e =
       record {
-        passes = answer-passes field s n root result workWords e;
-        no-new = rw (answer-list field s n root result workWords e) (normalize-inputs (KeyOf (nodes s n)) (field .elements) (nodes s n) (root ∷ []) (own-keys (nodes s n)));
-        worth = answer-value field s n root result workWords e;
+        passes = answer-passes field s n root result workRoom e;
+        no-new = rw (answer-list field s n root result workRoom e) (normalize-inputs (KeyOf (nodes s n)) (field .elements) (nodes s n) (root ∷ []) (own-keys (nodes s n)));
+        worth = answer-value field s n root result workRoom e;
       }
 
   -- where Normalise accepts a list and Evaluate answers a value for it, Evaluate answers the same for the list answered, in any store that begins with it
-  pub evaluate-same : (s : List ℕ) (n root : ℕ) (result : List ℕ) (workWords : ℕ) → normalizeCheck field s n root (length result) workWords ≡ Checked'.Good
-      → (u : List ℕ) → take (3 * countOf field s n root) u ≡ take (3 * countOf field s n root) (normalizeResult field s n root result workWords)
+  pub evaluate-same : (s : View) (n root : ℕ) (result : List ℕ) (workRoom : ℕ) → normalizeCheck field s n root (interleaved result .room) workRoom ≡ Checked'.Good
+      → (u : View) → Alike (interleaved (normalizeResult field s n root result workRoom)) u (countOf field s n root)
       → (a : List ℕ) (m : ℕ) (v : QuadFelt) → evaluateAnswer field s n root a m ≡ Value v → evaluateAnswer field u (countOf field s n root) (rootOf field s n root) a m ≡ Value v
-  evaluate-same s n root result workWords e =
-      evaluates-front s n root (normalizeResult field s n root result workWords) (countOf field s n root) (rootOf field s n root) (normalized-in-place s n root result workWords e)
+  evaluate-same s n root result workRoom e =
+      evaluates-front s n root (interleaved (normalizeResult field s n root result workRoom)) (countOf field s n root) (rootOf field s n root) (normalized-in-place s n root result workRoom e)
+
+  -- Compact's count and root
+  abbrev pub keptCount : View → ℕ → ℕ → ℕ
+  keptCount s n root = length (compacted s n (root ∷ []) .list)
+
+  abbrev pub keptRoot : View → ℕ → ℕ → ℕ
+  keptRoot s n root = getD (compacted s n (root ∷ []) .roots) 0 0
 
   -- Compact: its answer stands in place of the list
-  pub compacted-in-place : (s : List ℕ) (n root : ℕ) (result : List ℕ) → compactCheck field s n root (length result) ≡ Checked'.Good
-      → InPlaceOf field s n root (compactResult field s n root result) (keptOf (compacted s n root) .count) (keptOf (compacted s n root) .root)
-  unfolding compacted
+  pub compacted-in-place : (s : View) (n root : ℕ) (result : List ℕ) → compactCheck field s n root (interleaved result .room) ≡ Checked'.Good
+      → InPlaceOf field s n root (interleaved (compactResult field s n root result)) (keptCount s n root) (keptRoot s n root)
+  unfolding compacted keptOf
   compacted-in-place s n root result e =
       record {
         passes = Compacted.answer-passes field s n root result e;
@@ -163,21 +174,21 @@ module _ (field : Field) where
         worth = λ given low. Compacted.answer-value field s n root result e (field .elements) given;
       }
 
-  pub compact-evaluates : (s : List ℕ) (n root : ℕ) (result : List ℕ) → compactCheck field s n root (length result) ≡ Checked'.Good
-      → (u : List ℕ) → take (3 * keptOf (compacted s n root) .count) u ≡ take (3 * keptOf (compacted s n root) .count) (compactResult field s n root result)
+  pub compact-evaluates : (s : View) (n root : ℕ) (result : List ℕ) → compactCheck field s n root (interleaved result .room) ≡ Checked'.Good
+      → (u : View) → Alike (interleaved (compactResult field s n root result)) u (keptCount s n root)
       → (a : List ℕ) (m : ℕ) (v : QuadFelt) → evaluateAnswer field s n root a m ≡ Value v
-      → evaluateAnswer field u (keptOf (compacted s n root) .count) (keptOf (compacted s n root) .root) a m ≡ Value v
+      → evaluateAnswer field u (keptCount s n root) (keptRoot s n root) a m ≡ Value v
   compact-evaluates s n root result e =
-      evaluates-front s n root (compactResult field s n root result) (keptOf (compacted s n root) .count) (keptOf (compacted s n root) .root) (compacted-in-place s n root result e)
+      evaluates-front s n root (interleaved (compactResult field s n root result)) (keptCount s n root) (keptRoot s n root) (compacted-in-place s n root result e)
 
   -- Build: its answer stands in place of the list of requests
-  module _ (s : List ℕ) (n root : ℕ) (result : List ℕ) (mapWords : ℕ) (e : buildCheck field s n root (length result) mapWords ≡ Checked'.Good) where
+  module _ (s : View) (n root : ℕ) (result : List ℕ) (mapWords : ℕ) (e : buildCheck field s n root (interleaved result .room) mapWords ≡ Checked'.Good) where
     abbrev built : Replay
     built = replay (field .elements) (nodes s n) n
 
     passed : Rooted (field .bounds) s n root
     unfolding buildCheck
-    passed = rooted (field .bounds) s n root (then-good (listCheck (field .bounds) s n root) (need (leb (3 * n) (length result) && leb n mapWords) StoreTooShort) e .0)
+    passed = rooted (field .bounds) s n root (then-good (listCheck (field .bounds) s n root) (buildStores n (interleaved result .room) mapWords) e .0)
 
     well-formed : WellFormed (Low field) (nodes s n)
     well-formed = sound-well-formed (field .bounds) s n (passed .list .sound)
@@ -185,27 +196,24 @@ module _ (field : Field) where
     replayed : Replayed (Low field) n built
     replayed = replay-replayed (field .elements) (elementLaws field) (nodes s n) well-formed n
 
-    behind : List ℕ
-    behind = replicate (length result - length (wordsOf (built .list))) blank
-
-    begins : buildResult field s n root result mapWords ≡ wordsOf (built .list) ++ behind
-    unfolding buildResult filled behind
+    begins : buildResult field s n root result mapWords ≡ stored result (built .list)
+    unfolding buildResult
     begins = rw e
 
-    holds : nodes (buildResult field s n root result mapWords) (length (built .list)) ≡ built .list
-    holds = rw begins (nodes-words behind (built .list))
+    holds : nodes (interleaved (buildResult field s n root result mapWords)) (length (built .list)) ≡ built .list
+    holds = rw begins (nodes-stored result (built .list))
 
-    pub built-in-place : InPlaceOf field s n root (buildResult field s n root result mapWords) (length (built .list)) (placeOf built root)
+    pub built-in-place : InPlaceOf field s n root (interleaved (buildResult field s n root result mapWords)) (length (built .list)) (placeOf built root)
     built-in-place =
         let same : n ≤ length (nodes s n) = omega (arith, length-nodes s n) in
         record {
           passes = rw begins
-              (words-pass behind (field .bounds) (built .list) (replayed .well-formed) (placeOf built root) (replayed .inside root (passed .inside))
+              (stored-pass result (built .list) (field .bounds) (replayed .well-formed) (placeOf built root) (replayed .inside root (passed .inside))
               (omega (arith, replay-short (field .elements) (elementLaws field) (nodes s n) well-formed n, passed .list .most)));
           no-new = rw holds (replay-inputs (KeyOf (nodes s n)) (field .elements) (nodes s n) (own-keys (nodes s n)) n same);
           worth = λ given low. rw holds (replay-faithful (field .elements) (elementLaws field) (nodes s n) well-formed given low n same root (passed .inside));
         }
 
-    pub build-evaluates : (u : List ℕ) → take (3 * length (built .list)) u ≡ take (3 * length (built .list)) (buildResult field s n root result mapWords)
+    pub build-evaluates : (u : View) → Alike (interleaved (buildResult field s n root result mapWords)) u (length (built .list))
         → (a : List ℕ) (m : ℕ) (v : QuadFelt) → evaluateAnswer field s n root a m ≡ Value v → evaluateAnswer field u (length (built .list)) (placeOf built root) a m ≡ Value v
-    build-evaluates = evaluates-front s n root (buildResult field s n root result mapWords) (length (built .list)) (placeOf built root) built-in-place
+    build-evaluates = evaluates-front s n root (interleaved (buildResult field s n root result mapWords)) (length (built .list)) (placeOf built root) built-in-place
