@@ -39,6 +39,25 @@ alike false true e = sym e
 alike true false e = e
 alike true true e = refl
 
+-- a list of places from its end
+pub backwards-is : (ps turned : List ℕ) (n : ℕ) → turned ≡ padded 0 128 (backwards ps) → length ps ≡ n → take n turned ≡ backwards ps
+unfolding backwards padded
+backwards-is ps turned n e h =
+    rw e (take-at (upTo (λ i. getD ps (length ps - (i + 1)) 0) (length ps)) (replicate (128 - length (upTo (λ i. getD ps (length ps - (i + 1)) 0) (length ps))) 0) n (length-upTo (λ i. getD ps (length ps - (i + 1)) 0) (length ps) ∙ h))
+
+pub backwards-inside : (n : ℕ) (ps : List ℕ) → AllInside n ps → AllInside n (backwards ps)
+unfolding backwards
+backwards-inside n ps a =
+    record {
+      at = λ i h.
+          let k : i < length ps = subst (λ x. i < x) (length-upTo (λ i. getD ps (length ps - (i + 1)) 0) (length ps)) h in
+          rw (getD-upTo (λ i. getD ps (length ps - (i + 1)) 0) 0 (length ps) i k) (a .at (length ps - (i + 1)) (omega arith));
+    }
+
+pub length-backwards : (ps : List ℕ) → length (backwards ps) ≡ length ps
+unfolding backwards
+length-backwards ps = length-upTo (λ i. getD ps (length ps - (i + 1)) 0) (length ps)
+
 module _ (field : Field) where
   pub entered-done : (s : List ℕ) (n a : ℕ) → Inside n a → Entering field s n (done a) s (record { place = a; count = n })
   entered-done s n a h = record { ran = ran-done field s n a; inside = h }
@@ -116,25 +135,5 @@ module _ (field : Field) where
           term-subtracted minus e m =
               subst (λ t. subClass field c prefix suffix v sum ≡ termTurn field c t prefix suffix v sum) (sym m) (rw (ne-eqb v (offset (modulus field) c) other, minus-one ∙ (alike b minus e ∙ m)))
 
--- a list of places from its end
-pub backwards-is : (ps turned : List ℕ) (n : ℕ) → turned ≡ padded 0 128 (backwards ps) → length ps ≡ n → take n turned ≡ backwards ps
-unfolding backwards padded
-backwards-is ps turned n e h =
-    rw e (take-at (upTo (λ i. getD ps (length ps - (i + 1)) 0) (length ps)) (replicate (128 - length (upTo (λ i. getD ps (length ps - (i + 1)) 0) (length ps))) 0) n (length-upTo (λ i. getD ps (length ps - (i + 1)) 0) (length ps) ∙ h))
-
-pub backwards-inside : (n : ℕ) (ps : List ℕ) → AllInside n ps → AllInside n (backwards ps)
-unfolding backwards
-backwards-inside n ps a =
-    record {
-      at = λ i h.
-          let k : i < length ps = subst (λ x. i < x) (length-upTo (λ i. getD ps (length ps - (i + 1)) 0) (length ps)) h in
-          rw (getD-upTo (λ i. getD ps (length ps - (i + 1)) 0) 0 (length ps) i k) (a .at (length ps - (i + 1)) (omega arith));
-    }
-
-pub length-backwards : (ps : List ℕ) → length (backwards ps) ≡ length ps
-unfolding backwards
-length-backwards ps = length-upTo (λ i. getD ps (length ps - (i + 1)) 0) (length ps)
-
-module _ (field : Field) where
   pub offset-of : (c vs : List ℕ) (d : ℕ) → allBelow (modulus field) c ≡ true → vs ≡ values c → d ≡ offset (modulus field) c → d < modulus field → Offset field c vs d
   offset-of c vs d low e o h = record { are = e; low = rw e (below-values (modulus field) c low); offset-is = o; offset-low = h }

@@ -29,6 +29,9 @@ use Rattle.builder.specs.declared.Outcome.the-variants.{Place, Node}
 use Rattle.builder.specs.declared.StepAnswer.{StepAnswer}
 use Rattle.builder.specs.declared.StepAnswer.the-variants as StepAnswer'
 
+pub stepped-as : (s : List ℕ) (n : ℕ) (b d : Built) (r : StepAnswer) (after : List ℕ) → b ≡ d → Stepped s n d r after → Stepped s n b r after
+stepped-as s n b d r after e h = rw e h
+
 module _ (field : Field) where
   module _ (s : List ℕ) (n : ℕ) (sound : Sound (field .bounds) (interleaved s) n) where
     room-there : (i : ℕ) → stepRoomCheck (interleaved s) n (appended (nodes (interleaved s) n) (Place i)) ≡ Good
@@ -70,10 +73,6 @@ module _ (field : Field) where
             store = rw (room-new, room) (e ∙ put-written k);
           }
 
-pub stepped-as : (s : List ℕ) (n : ℕ) (b d : Built) (r : StepAnswer) (after : List ℕ) → b ≡ d → Stepped s n d r after → Stepped s n b r after
-stepped-as s n b d r after e h = rw e h
-
-module _ (field : Field) where
   -- the step, by what its request comes to
   module _ (l : List NodeKind) (x : NodeKind) (o : Outcome) (e : o ≡ outcome (field .elements) l x) where
     pub step-placed : (i : ℕ) → o ≡ Place i → step (field .elements) l x ≡ appended l (Place i)

@@ -27,6 +27,32 @@ use Rattle.builder.specs.Contracts.{Operands, Request, newUnless, foundO
 use Rattle.builder.specs.declared.Outcome.{Outcome}
 use Rattle.builder.specs.declared.Outcome.the-variants.{Place, Node}
 
+-- the step's list and place, by what was resolved
+interned-appended : (l : List NodeKind) (y : NodeKind) (f : Found) → interned l y f ≡ appended l (newUnless y f)
+unfolding interned
+interned-appended l y (At i) = refl
+interned-appended l y Missing = refl
+
+-- what a search says of a record that is interned
+pub intern-found : (s : View) (n : ℕ) (y : NodeKind) (f q : Found) → f ≡ lookup (nodes s n) y n → f ≡ q → intern (nodes s n) y ≡ appended (nodes s n) (newUnless y q)
+unfolding intern
+intern-found s n y f q e h = rw (length-nodes s n, ← e, h) (interned-appended (nodes s n) y q)
+
+entered-appended : (l : List NodeKind) (n : ℕ) → n ≡ length l → (o : Outcome) → enter l o ≡ appended l (searched l n o)
+unfolding enter intern foundOrNew
+entered-appended l n e (Place i) = refl
+entered-appended l n e (Node y) = rw e (interned-appended l y (lookup l y (length l)))
+
+-- what is resolved may stand at the list's end
+newUnless-fine : (n : ℕ) (y : NodeKind) (f : Found) (z : NodeKind) → newUnless y f ≡ Node z → y ≡ z
+newUnless-fine n y (At i) z e = let q : _≡_ {A = ℕ} 0 1 = cc in absurd (omega arith)
+newUnless-fine n y Missing z e = cc
+
+searched-node : (l : List NodeKind) (n : ℕ) (o : Outcome) (z : NodeKind) → searched l n o ≡ Node z → o ≡ Node z
+unfolding foundOrNew
+searched-node l n (Place i) z e = let q : _≡_ {A = ℕ} 0 1 = cc in absurd (omega arith)
+searched-node l n (Node y) z e = ap Node (newUnless-fine n y (lookup l y n) z e)
+
 module _ (field : Field) where
   module _ (s : View) (n : ℕ) (x : NodeKind) (req : Request field s n x) where
     asks : (y : NodeKind) → x ≡ y → Fine (Low field) n y
@@ -94,38 +120,10 @@ module _ (field : Field) where
   unfolding foundOrNew
   resolved-found l n x o y f r e h k q = resolved-node l n x o y r e h (q ∙ ap (newUnless y) k)
 
--- the step's list and place, by what was resolved
-interned-appended : (l : List NodeKind) (y : NodeKind) (f : Found) → interned l y f ≡ appended l (newUnless y f)
-unfolding interned
-interned-appended l y (At i) = refl
-interned-appended l y Missing = refl
-
--- what a search says of a record that is interned
-pub intern-found : (s : View) (n : ℕ) (y : NodeKind) (f q : Found) → f ≡ lookup (nodes s n) y n → f ≡ q → intern (nodes s n) y ≡ appended (nodes s n) (newUnless y q)
-unfolding intern
-intern-found s n y f q e h = rw (length-nodes s n, ← e, h) (interned-appended (nodes s n) y q)
-
-entered-appended : (l : List NodeKind) (n : ℕ) → n ≡ length l → (o : Outcome) → enter l o ≡ appended l (searched l n o)
-unfolding enter intern foundOrNew
-entered-appended l n e (Place i) = refl
-entered-appended l n e (Node y) = rw e (interned-appended l y (lookup l y (length l)))
-
-module _ (field : Field) where
   pub step-appended : (s : View) (n : ℕ) (x : NodeKind) → step (field .elements) (nodes s n) x ≡ appended (nodes s n) (resolved field (nodes s n) n x)
   unfolding step resolved
   step-appended s n x = entered-appended (nodes s n) n (sym (length-nodes s n)) (outcome (field .elements) (nodes s n) x)
 
--- what is resolved may stand at the list's end
-newUnless-fine : (n : ℕ) (y : NodeKind) (f : Found) (z : NodeKind) → newUnless y f ≡ Node z → y ≡ z
-newUnless-fine n y (At i) z e = let q : _≡_ {A = ℕ} 0 1 = cc in absurd (omega arith)
-newUnless-fine n y Missing z e = cc
-
-searched-node : (l : List NodeKind) (n : ℕ) (o : Outcome) (z : NodeKind) → searched l n o ≡ Node z → o ≡ Node z
-unfolding foundOrNew
-searched-node l n (Place i) z e = let q : _≡_ {A = ℕ} 0 1 = cc in absurd (omega arith)
-searched-node l n (Node y) z e = ap Node (newUnless-fine n y (lookup l y n) z e)
-
-module _ (field : Field) where
   module _ (s : List ℕ) (n : ℕ) (x : NodeKind) (req : Request field (interleaved s) n x) where
     grown : Grown (Low field) (nodes (interleaved s) n) (step (field .elements) (nodes (interleaved s) n) x)
     grown = step-grown (field .elements) (elementLaws field) (nodes (interleaved s) n) (list-fine field (interleaved s) n (req .sound)) x (rw (length-nodes (interleaved s) n) (req .fine))
@@ -140,7 +138,7 @@ module _ (field : Field) where
     -- a place that is there
     pub pushed-place : (o : Outcome) (i : ℕ) → o ≡ resolved field (nodes (interleaved s) n) n x → o ≡ Place i → Pushed field s n x s (record { place = i; count = n })
     pushed-place o i e h =
-        let b : step (field .elements) (nodes (interleaved s) n) x ≡ record { list = nodes (interleaved s) n; place = i } = step-appended field (interleaved s) n x ∙ ap (appended (nodes (interleaved s) n)) (sym e ∙ h) in
+        let b : step (field .elements) (nodes (interleaved s) n) x ≡ record { list = nodes (interleaved s) n; place = i } = step-appended (interleaved s) n x ∙ ap (appended (nodes (interleaved s) n)) (sym e ∙ h) in
         record {
           kept = refl;
           sound = req .sound;
@@ -155,7 +153,7 @@ module _ (field : Field) where
     pub pushed-node : (o : Outcome) (z : NodeKind) (after : List ℕ) → o ≡ resolved field (nodes (interleaved s) n) n x → o ≡ Node z → after ≡ put s n z → n < interleaved s .room
         → Pushed field s n x after (record { place = n; count = n + 1 })
     pushed-node o z after e h k fits =
-        let b : step (field .elements) (nodes (interleaved s) n) x ≡ record { list = nodes (interleaved s) n ++ (z ∷ []); place = length (nodes (interleaved s) n) } = step-appended field (interleaved s) n x ∙ ap (appended (nodes (interleaved s) n)) (sym e ∙ h) in
+        let b : step (field .elements) (nodes (interleaved s) n) x ≡ record { list = nodes (interleaved s) n ++ (z ∷ []); place = length (nodes (interleaved s) n) } = step-appended (interleaved s) n x ∙ ap (appended (nodes (interleaved s) n)) (sym e ∙ h) in
         record {
           kept = ap length k ∙ length-put s n z;
           sound = rw (k, add-one n) (sound-put s n z fits (field .bounds) (req .sound) (new-fine z (sym e ∙ h)));

@@ -143,6 +143,20 @@ module _ {o : Ops ℕ} (L : Laws o) where
               (ap₂ (o .mul) (fs (j * s) (omega (arith, mul-le-mul-right s h)))
               (ap (λ i. getD from i 0) (add-assoc (round n j * (2 * s)) s r) ∙ word j (s + r) h (omega arith)))
 
+-- rows stay inside
+pub rows-fit : (s n : ℕ) → 0 < s → 2 * s * n ≤ 128 → 2 * n ≤ 128
+rows-fit s n pos h = omega (arith, le-mul-of-pos-right n pos)
+
+pub row-fits : (s n j : ℕ) → 2 * s * n ≤ 128 → j < 2 * n → j * s + s ≤ 128
+row-fits s n j h l = omega (arith, mul-le-mul-right s l)
+
+round-below : (n j : ℕ) → j < 2 * n → round n j < n
+unfolding round
+round-below n j h = cond-elim (λ k. k < n) (ltb j n) j (j - n) (λ e. ltb-true j n e) (λ e. omega arith)
+
+pub round-fits : (s n j k : ℕ) → k ≡ round n j → 2 * s * n ≤ 128 → j < 2 * n → k * (2 * s) + 2 * s ≤ 128
+round-fits s n j k e h l = let below : k < n = rw e (round-below n j l) in omega (arith, mul-le-mul-right (2 * s) below)
+
 module _ (field : Field) where
   -- a word of a table is set
   pub low-set : (t : List ℕ) (k v : ℕ) → k < length t → LowTable field t → v < modulus field → LowTable field (set t k v)
@@ -209,21 +223,6 @@ module _ (field : Field) where
     pub rows-all : (m : ℕ) (t : List ℕ) → 2 * n ≤ m → Rows from factors s n m t → Halved (field .coordinates) from factors s n t × LowTable field t
     rows-all m t h d = (record { at = λ j r l k. d .at j r (omega arith) k }, d .low)
 
--- rows stay inside
-pub rows-fit : (s n : ℕ) → 0 < s → 2 * s * n ≤ 128 → 2 * n ≤ 128
-rows-fit s n pos h = omega (arith, le-mul-of-pos-right n pos)
-
-pub row-fits : (s n j : ℕ) → 2 * s * n ≤ 128 → j < 2 * n → j * s + s ≤ 128
-row-fits s n j h l = omega (arith, mul-le-mul-right s l)
-
-round-below : (n j : ℕ) → j < 2 * n → round n j < n
-unfolding round
-round-below n j h = cond-elim (λ k. k < n) (ltb j n) j (j - n) (λ e. ltb-true j n e) (λ e. omega arith)
-
-pub round-fits : (s n j k : ℕ) → k ≡ round n j → 2 * s * n ≤ 128 → j < 2 * n → k * (2 * s) + 2 * s ≤ 128
-round-fits s n j k e h l = let below : k < n = rw e (round-below n j l) in omega (arith, mul-le-mul-right (2 * s) below)
-
-module _ (field : Field) where
   -- the column's powers are below p, and turn
   module _ (c : List ℕ) (col : Column (modulus field) c) where
     whole-turn : pow (field .coordinates) (rootInverse field c) (length c) ≡ field .coordinates .one
@@ -246,7 +245,7 @@ module _ (field : Field) where
           even = (logLength c, power-is 7 (length c) (col .power));
           whole = omega arith;
           level = level-start (coordinateLaws field) (rootInverse field c) c (length c) (copied c) (λ r h. (word r h, below-at (modulus field) c r (col .low) h));
-          low = low-filled field (λ i. getD c i 0) (length c) (col .short) (λ i h. below-at (modulus field) c i (col .low) h);
+          low = low-filled (λ i. getD c i 0) (length c) (col .short) (λ i h. below-at (modulus field) c i (col .low) h);
         }
       where
         word : (r : ℕ) → r < length c → getD (copied c) r 0 ≡ getD c r 0
@@ -281,7 +280,7 @@ module _ (field : Field) where
 
     pub low-powers : (f : List ℕ) (v : ℕ) → f ≡ powers (field .coordinates) v (length c) → LowTable field f
     unfolding powers
-    low-powers f v e = rw e (low-filled field (pow (field .coordinates) v) (length c) (col .short) (λ i _. low-pow (coordinateLaws field) v i))
+    low-powers f v e = rw e (low-filled (pow (field .coordinates) v) (length c) (col .short) (λ i _. low-pow (coordinateLaws field) v i))
 
     pub reached-end : (s n : ℕ) (t : List ℕ) → s ≤ 1 → Reached field c s n t → Reached field c 1 (length c) t
     reached-end s n t h d =

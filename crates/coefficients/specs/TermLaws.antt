@@ -25,35 +25,10 @@ use Rattle.columns.specs.ClassLaws.{below-at}
 use Rattle.coefficients.specs.Terms.{root, rootInverse, sizeInverse, dense, scaledValue, twiddle}
 use Rattle.coefficients.specs.Arrays.{placed, squares, twiddles}
 
-module _ (field : Field) where
-  pub pow-start : (a : ℕ) → 1 ≡ pow (field .coordinates) a 0
-  pow-start a = sym (pow-zero (coordinateLaws field) a ∙ field .one-is)
-
-  pub pow-next : (a x j r : ℕ) → x ≡ pow (field .coordinates) a j → r ≡ field .coordinates .mul a x → r ≡ pow (field .coordinates) a (j + 1)
-  pow-next a x j r ex er = rw (add-one j) (er ∙ (ap (field .coordinates .mul a) ex ∙ sym (pow-suc (coordinateLaws field) a j)))
-
-  -- squaring
-  pub square-start : (a : ℕ) → a < modulus field → a ≡ pow (field .coordinates) a (2 ^ 0)
-  square-start a h = sym (Rattle.ring.specs.Power.pow-one (coordinateLaws field) a h)
-
-  pub square-next : (a x i r : ℕ) → x ≡ pow (field .coordinates) a (2 ^ i) → r ≡ field .coordinates .mul x x → r ≡ pow (field .coordinates) a (2 ^ (i + 1))
-  square-next a x i r ex er = rw (add-one i, two-pow-succ i) (er ∙ (ap₂ (field .coordinates .mul) ex ex ∙ sym (pow-add (coordinateLaws field) a (2 ^ i) (2 ^ i))))
-
 upTo-cong : {A : Type 0} (f g : ℕ → A) (n : ℕ) → ((i : ℕ) → f i ≡ g i) → upTo f n ≡ upTo g n
 unfolding upTo
 upTo-cong f g zero h = refl
 upTo-cong f g (suc n) h = ap₂ (λ l x. l ++ (x ∷ [])) (upTo-cong f g n h) (h n)
-
-module _ (field : Field) where
-  -- the twiddles of the term at place j
-  pub row-told : (c : List ℕ) (k j v b L : ℕ) (row : List ℕ) → j ≡ getD (support c) k 0 → v ≡ rootInverse field c → b ≡ pow (field .coordinates) v j → L ≡ logLength c → row ≡ squares (field .coordinates) b L
-      → row ≡ twiddles field c k
-  unfolding squares twiddles twiddle
-  row-told c k j v b L row ej ev eb eL er =
-      er ∙ (ap (λ n. squares (field .coordinates) b n) eL ∙ ap (padded 0 7) (upTo-cong (λ i. pow (field .coordinates) b (2 ^ i)) (λ i. pow (field .coordinates) (rootInverse field c) (getD (support c) k 0 * 2 ^ i)) (logLength c) one))
-    where
-      one : (i : ℕ) → pow (field .coordinates) b (2 ^ i) ≡ pow (field .coordinates) (rootInverse field c) (getD (support c) k 0 * 2 ^ i)
-      one i = rw (eb, ev, ej) (sym (pow-mul (coordinateLaws field) (rootInverse field c) (getD (support c) k 0) (2 ^ i)))
 
 -- the places found before place j, and those from there on
 module _ (c : List ℕ) (j : ℕ) (h : j < length c) where
@@ -120,6 +95,29 @@ pub length-support : (c : List ℕ) → length (support c) ≡ others c 0
 length-support c = omega (arith, places-many c 0)
 
 module _ (field : Field) where
+  pub pow-start : (a : ℕ) → 1 ≡ pow (field .coordinates) a 0
+  pow-start a = sym (pow-zero (coordinateLaws field) a ∙ field .one-is)
+
+  pub pow-next : (a x j r : ℕ) → x ≡ pow (field .coordinates) a j → r ≡ field .coordinates .mul a x → r ≡ pow (field .coordinates) a (j + 1)
+  pow-next a x j r ex er = rw (add-one j) (er ∙ (ap (field .coordinates .mul a) ex ∙ sym (pow-suc (coordinateLaws field) a j)))
+
+  -- squaring
+  pub square-start : (a : ℕ) → a < modulus field → a ≡ pow (field .coordinates) a (2 ^ 0)
+  square-start a h = sym (Rattle.ring.specs.Power.pow-one (coordinateLaws field) a h)
+
+  pub square-next : (a x i r : ℕ) → x ≡ pow (field .coordinates) a (2 ^ i) → r ≡ field .coordinates .mul x x → r ≡ pow (field .coordinates) a (2 ^ (i + 1))
+  square-next a x i r ex er = rw (add-one i, two-pow-succ i) (er ∙ (ap₂ (field .coordinates .mul) ex ex ∙ sym (pow-add (coordinateLaws field) a (2 ^ i) (2 ^ i))))
+
+  -- the twiddles of the term at place j
+  pub row-told : (c : List ℕ) (k j v b L : ℕ) (row : List ℕ) → j ≡ getD (support c) k 0 → v ≡ rootInverse field c → b ≡ pow (field .coordinates) v j → L ≡ logLength c → row ≡ squares (field .coordinates) b L
+      → row ≡ twiddles field c k
+  unfolding squares twiddles twiddle
+  row-told c k j v b L row ej ev eb eL er =
+      er ∙ (ap (λ n. squares (field .coordinates) b n) eL ∙ ap (padded 0 7) (upTo-cong (λ i. pow (field .coordinates) b (2 ^ i)) (λ i. pow (field .coordinates) (rootInverse field c) (getD (support c) k 0 * 2 ^ i)) (logLength c) one))
+    where
+      one : (i : ℕ) → pow (field .coordinates) b (2 ^ i) ≡ pow (field .coordinates) (rootInverse field c) (getD (support c) k 0 * 2 ^ i)
+      one i = rw (eb, ev, ej) (sym (pow-mul (coordinateLaws field) (rootInverse field c) (getD (support c) k 0) (2 ^ i)))
+
   -- the scaled value of the term at a place of the list ps
   pub value-told : (c ps : List ℕ) (k s r : ℕ) → ps ≡ support c → s ≡ sizeInverse field c → r ≡ field .coordinates .mul (getD c (getD ps k 0) 0) s → r ≡ scaledValue field c (getD (support c) k 0)
   unfolding scaledValue

@@ -11,9 +11,9 @@ use Rattle.dag.specs.Nodes.{mostRecords, nodes}
 use Rattle.dag.specs.NodeLaws.{length-nodes}
 use Rattle.dag.specs.Refusals.{isRefused}
 use Rattle.dag.specs.Roots.{rootsOf, rootsFrom}
-use Rattle.dag.specs.RootLaws.{roots-from, inside-one}
+use Rattle.dag.specs.RootLaws.{roots-from, roots-agree, inside-one}
 use Rattle.dag.specs.Check.{listCheck}
-use Rattle.dag.specs.CheckLaws.{then-good}
+use Rattle.dag.specs.CheckLaws.{then-good, refused-is}
 use Rattle.dag.specs.PassLaws.{room-enough, rooted}
 use Rattle.dag.specs.ViewLaws.{same-room}
 use Rattle.dag.specs.StoreLaws.{sound-well-formed}
@@ -23,7 +23,7 @@ use Rattle.dag.specs.declared.Checked.{Checked}
 use Rattle.dag.specs.declared.Checked.the-variants as Checked'
 use Rattle.compact.specs.Reach.{marked, sweep, marks}
 use Rattle.compact.specs.Compact.{rank, ranks, kept, compact}
-use Rattle.compact.specs.OperandLaws.{inside-below, map-cong}
+use Rattle.compact.specs.OperandLaws.{inside-below}
 use Rattle.compact.specs.ArrayLaws.{Same, sweep-same, rank-same, kept-same, getD-ranks}
 use Rattle.compact.specs.CompactLaws.{compact-length, compact-short}
 use Rattle.dag.specs.Store.{written, blankedBehind}
@@ -34,11 +34,6 @@ use Rattle.compact.specs.declared.Kept.{Kept}
 
 abbrev pub kept-of : ℕ → Roots → Kept
 kept-of count roots = record { count = count; roots = roots }
-
--- a test that refuses has a reason
-pub refused-is : (c : Checked) → isRefused c ≡ true → (r : Refusal) × (c ≡ Checked'.Refused r)
-refused-is Checked'.Good h = absurd (true≢false (sym h))
-refused-is (Checked'.Refused r) h = (r, refl)
 
 module _ (s : View) (n : ℕ) (roots : Roots) (k : ℕ) (g : Markable s n roots k) (m : List Bool) (e : m ≡ sweep (nodes s n) n (marked (replicate k false) (rootsOf roots))) where
   same : Same m (marks (nodes s n) (rootsOf roots))
@@ -63,8 +58,8 @@ module _ (s : View) (n : ℕ) (roots : Roots) (k : ℕ) (g : Markable s n roots 
     unfolding compacted compact keptOf
     new-roots =
         ap rootsFrom
-        (map-cong (λ i. getD remap i 0) (rank (marks (nodes s n) (rootsOf roots))) (rootsOf roots)
-        (λ i p. new-place i (inside-below n roots (g .inside) i p) ∙ rank-same m (marks (nodes s n) (rootsOf roots)) same i))
+        (roots-agree n roots (g .inside) (λ i. getD remap i 0) (rank (marks (nodes s n) (rootsOf roots)))
+        (λ i h. new-place i h ∙ rank-same m (marks (nodes s n) (rootsOf roots)) same i))
 
     pub may-write : n ≤ length m → n ≤ length remap → (d : ℕ) → length (compacted s n (rootsOf roots) .list) ≤ d → Writing s n m remap d
     may-write hm hp d h = record { sound = g .sound; marks = hm; remaps = record { fits = hp; places = new-place }; room = rw kept-count h }

@@ -77,10 +77,6 @@ pub map-through : {A : Type 0} (f : ℕ → ℕ) (g h : ℕ → A) (is : List �
 map-through f g h [] e = refl
 map-through f g h (j ∷ is) e = ap₂ _∷_ (e j here) (map-through f g h is (λ i p. e i (there p)))
 
-pub map-cong : (f g : ℕ → ℕ) (is : List ℕ) → ((i : ℕ) → i ∈ is → f i ≡ g i) → map f is ≡ map g is
-map-cong f g [] e = refl
-map-cong f g (j ∷ is) e = ap₂ _∷_ (e j here) (map-cong f g is (λ i p. e i (there p)))
-
 pub map-same : (f : ℕ → ℕ) (is : List ℕ) → ((i : ℕ) → i ∈ is → f i ≡ i) → map f is ≡ is
 map-same f [] e = refl
 map-same f (j ∷ is) e = ap₂ _∷_ (e j here) (map-same f is (λ i p. e i (there p)))

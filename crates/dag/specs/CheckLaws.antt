@@ -41,6 +41,11 @@ pub refused-then : (c d : Checked) → isRefused c ≡ true → c ≡ c then d
 refused-then Good d e = absurd (true≢false (sym e))
 refused-then (Refused r) d e = refl
 
+-- a test that refuses has a reason
+pub refused-is : (c : Checked) → isRefused c ≡ true → (r : Refusal) × (c ≡ Refused r)
+refused-is Good h = absurd (true≢false (sym h))
+refused-is (Refused r) h = (r, refl)
+
 -- what a call gives where its tests refuse
 pub refused-gives : {A : Type 0} (f : Checked → A) (c : Checked) (given : A) → isRefused c ≡ true → f c ≡ unlessRefused c (λ r. f (Refused r)) given
 refused-gives f Good given e = absurd (true≢false (sym e))

@@ -32,6 +32,21 @@ use Rattle.demands.specs.Views.{same-stepped, step-answer}
 pub same-front : (s u : List ℕ) (n : ℕ) → n ≤ interleaved s .room → front n u ≡ front n s → Alike (interleaved s) (interleaved u) n
 same-front s u n room e = alike (interleaved s) (interleaved u) n room (front-room s u n room e) (front-agree s u n (sym e))
 
+-- columns: of a store long enough for their entries only these are read
+same-columns : (ls es fs : List ℕ) → take (total ls) es ≡ take (total ls) fs → columns ls es ≡ columns ls fs
+unfolding total columns
+same-columns [] es fs e = refl
+same-columns (n ∷ ls) es fs e = ap₂ _∷_ front (same-columns ls (drop n es) (drop n fs) back)
+  where
+    front : take n es ≡ take n fs
+    front = sym (take-take n (n + total ls) es (omega arith)) ∙ (ap (take n) e ∙ take-take n (n + total ls) fs (omega arith))
+
+    joined : take n es ++ take (total ls) (drop n es) ≡ take n es ++ take (total ls) (drop n fs)
+    joined = sym (take-add n (total ls) es) ∙ (e ∙ (take-add n (total ls) fs ∙ ap (λ l. l ++ take (total ls) (drop n fs)) (sym front)))
+
+    back : take (total ls) (drop n es) ≡ take (total ls) (drop n fs)
+    back = sym (drop-append-seam (take n es) _) ∙ (ap (drop (length (take n es))) joined ∙ drop-append-seam (take n es) _)
+
 module _ (field : Field) where
   -- Step: the list that the store then begins with
   pub step-list : (s u : List ℕ) (n : ℕ) → Alike (interleaved s) (interleaved u) n → (t a b : ℕ) → hasRoom (interleaved s) n ≡ hasRoom (interleaved u) n
@@ -87,22 +102,6 @@ module _ (field : Field) where
     unfolding evaluateAnswer evaluateCheck
     evaluate-assignment s n root = rw (same-entries, same-finder, same-given)
 
--- columns: of a store long enough for their entries only these are read
-same-columns : (ls es fs : List ℕ) → take (total ls) es ≡ take (total ls) fs → columns ls es ≡ columns ls fs
-unfolding total columns
-same-columns [] es fs e = refl
-same-columns (n ∷ ls) es fs e = ap₂ _∷_ front (same-columns ls (drop n es) (drop n fs) back)
-  where
-    front : take n es ≡ take n fs
-    front = sym (take-take n (n + total ls) es (omega arith)) ∙ (ap (take n) e ∙ take-take n (n + total ls) fs (omega arith))
-
-    joined : take n es ++ take (total ls) (drop n es) ≡ take n es ++ take (total ls) (drop n fs)
-    joined = sym (take-add n (total ls) es) ∙ (e ∙ (take-add n (total ls) fs ∙ ap (λ l. l ++ take (total ls) (drop n fs)) (sym front)))
-
-    back : take (total ls) (drop n es) ≡ take (total ls) (drop n fs)
-    back = sym (drop-append-seam (take n es) _) ∙ (ap (drop (length (take n es))) joined ∙ drop-append-seam (take n es) _)
-
-module _ (field : Field) where
   pub prepare-answer : (ls es fs : List ℕ) → total ls ≤ length es → total ls ≤ length fs → take (total ls) es ≡ take (total ls) fs → prepare (modulus field) ls es ≡ prepare (modulus field) ls fs
   unfolding prepare prepareCheck
   prepare-answer ls es fs left right e = rw (same-columns ls es fs e, le-leb (total ls) (length es) left, le-leb (total ls) (length fs) right)

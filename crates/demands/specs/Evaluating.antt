@@ -76,6 +76,15 @@ module _ (find : ℕ → Found) where
       go zero f = refl
       go (suc n) f = rw (go n (λ i h. f i (omega arith)), has-entry (at l n) (f n (omega arith)))
 
+-- an answer that is a value
+abbrev pub Value : QuadFelt → EvaluateAnswer
+Value v = record { checked = Checked'.Good; value = v }
+
+-- it was accepted
+accepts : (c : Checked) (w v : QuadFelt) → unlessRefused c refused (Value w) ≡ Value v → c ≡ Checked'.Good
+accepts Checked'.Good w v e = refl
+accepts (Checked'.Refused r) w v e = let q : Checked'.Refused r ≡ Checked'.Good = ap (λ d. d .checked) e in let z : _≡_ {A = ℕ} 0 1 = cc in absurd (omega arith)
+
 module _ (field : Field) where
   -- t, count and root' in place of s, n and root: the list passes the list check, brings no new inputs, and its root has the same value
   pub record InPlaceOf (s : View) (n root : ℕ) (t : View) (count root' : ℕ) : Type 0 where
@@ -94,17 +103,7 @@ module _ (field : Field) where
         worth = λ given low. rw (← records) (h .worth given low);
       }
 
--- an answer that is a value
-abbrev pub Value : QuadFelt → EvaluateAnswer
-Value v = record { checked = Checked'.Good; value = v }
-
--- it was accepted
-accepts : (c : Checked) (w v : QuadFelt) → unlessRefused c refused (Value w) ≡ Value v → c ≡ Checked'.Good
-accepts Checked'.Good w v e = refl
-accepts (Checked'.Refused r) w v e = let q : Checked'.Refused r ≡ Checked'.Good = ap (λ d. d .checked) e in let z : _≡_ {A = ℕ} 0 1 = cc in absurd (omega arith)
-
-module _ (field : Field) where
-  module _ (s : View) (n root : ℕ) (t : View) (count root' : ℕ) (h : InPlaceOf field s n root t count root') (a : List ℕ) (m : ℕ) where
+  module _ (s : View) (n root : ℕ) (t : View) (count root' : ℕ) (h : InPlaceOf s n root t count root') (a : List ℕ) (m : ℕ) where
     module _ (e : evaluateCheck field s n root a m ≡ Checked'.Good) where
       find : ℕ → Found
       find = entryOf entryWords a m
@@ -134,13 +133,13 @@ module _ (field : Field) where
     evaluates-alike v e = same-answer (accepts (evaluateCheck field s n root a m) (value (field .elements) (given a m) (nodes s n) root) v e) ∙ e
 
   -- where Evaluate answers a value for the list, it answers the same for what stands in its place, from any store that begins with it
-  pub evaluates-front : (s : View) (n root : ℕ) (t : View) (count root' : ℕ) → InPlaceOf field s n root t count root' → (u : View) → Alike t u count
+  pub evaluates-front : (s : View) (n root : ℕ) (t : View) (count root' : ℕ) → InPlaceOf s n root t count root' → (u : View) → Alike t u count
       → (a : List ℕ) (m : ℕ) (v : QuadFelt) → evaluateAnswer field s n root a m ≡ Value v → evaluateAnswer field u count root' a m ≡ Value v
-  evaluates-front s n root t count root' h u front = evaluates-alike s n root u count root' (in-place-front field s n root t count root' h u front)
+  evaluates-front s n root t count root' h u front = evaluates-alike s n root u count root' (in-place-front s n root t count root' h u front)
 
   -- Normalise: its answer stands in place of the list
   pub normalized-in-place : (s : View) (n root : ℕ) (result : List ℕ) (workRoom : ℕ) → normalizeCheck field s n root (interleaved result .room) workRoom ≡ Checked'.Good
-      → InPlaceOf field s n root (interleaved (normalizeResult field s n root result workRoom)) (countOf field s n root) (rootOf field s n root)
+      → InPlaceOf s n root (interleaved (normalizeResult field s n root result workRoom)) (countOf field s n root) (rootOf field s n root)
   unfolding normalized
   normalized-in-place s n root result workRoom e =
       record {
@@ -165,7 +164,7 @@ module _ (field : Field) where
 
   -- Compact: its answer stands in place of the list
   pub compacted-in-place : (s : View) (n root : ℕ) (result : List ℕ) → compactCheck field s n root (interleaved result .room) ≡ Checked'.Good
-      → InPlaceOf field s n root (interleaved (compactResult field s n root result)) (keptCount s n root) (keptRoot s n root)
+      → InPlaceOf s n root (interleaved (compactResult field s n root result)) (keptCount s n root) (keptRoot s n root)
   unfolding compacted keptOf
   compacted-in-place s n root result e =
       record {
@@ -203,7 +202,7 @@ module _ (field : Field) where
     holds : nodes (interleaved (buildResult field s n root result mapWords)) (length (built .list)) ≡ built .list
     holds = rw begins (nodes-stored result (built .list))
 
-    pub built-in-place : InPlaceOf field s n root (interleaved (buildResult field s n root result mapWords)) (length (built .list)) (placeOf built root)
+    pub built-in-place : InPlaceOf s n root (interleaved (buildResult field s n root result mapWords)) (length (built .list)) (placeOf built root)
     built-in-place =
         let same : n ≤ length (nodes s n) = omega (arith, length-nodes s n) in
         record {

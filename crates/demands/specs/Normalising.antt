@@ -44,6 +44,16 @@ use Rattle.demands.specs.Repeated.{Repeated, rootedOf, normalize-repeats
 abbrev pub Done : ℕ → ℕ → ℕ → NormalizeAnswer
 Done count root rounds = record { checked = Good; count = count; roots = rootsFrom (root ∷ []); rounds = rounds }
 
+-- a list of one
+one : (l : List ℕ) → length l ≡ 1 → l ≡ getD l 0 0 ∷ []
+one [] e = absurd (omega arith)
+one (x ∷ []) e = refl
+one (x ∷ y ∷ l) e = absurd (omega arith)
+
+first-in : (l : List ℕ) → length l ≡ 1 → getD l 0 0 ∈ l
+first-in [] e = absurd (omega arith)
+first-in (x ∷ l) e = here
+
 module _ (field : Field) where
   -- the count, the root and the rounds kept, answered where Normalise accepts
   abbrev pub countOf : View → ℕ → ℕ → ℕ
@@ -76,26 +86,15 @@ module _ (field : Field) where
       )
       go (Checked'.Refused r) a e = let q : Checked'.Refused r ≡ Good = ap (λ d. d .checked) e in let z : _≡_ {A = ℕ} 0 1 = cc in absurd (omega arith)
 
--- a list of one
-one : (l : List ℕ) → length l ≡ 1 → l ≡ getD l 0 0 ∷ []
-one [] e = absurd (omega arith)
-one (x ∷ []) e = refl
-one (x ∷ y ∷ l) e = absurd (omega arith)
-
-first-in : (l : List ℕ) → length l ≡ 1 → getD l 0 0 ∈ l
-first-in [] e = absurd (omega arith)
-first-in (x ∷ l) e = here
-
-module _ (field : Field) where
   module _ (s : View) (n root : ℕ) (result : List ℕ) (workRoom : ℕ) (accepted : normalizeCheck field s n root (interleaved result .room) workRoom ≡ Good) where
     abbrev list : List NodeKind
     list = normalized field s n (root ∷ []) .list
 
     abbrev count : ℕ
-    count = countOf field s n root
+    count = countOf s n root
 
     abbrev root' : ℕ
-    root' = rootOf field s n root
+    root' = rootOf s n root
 
     abbrev store : List ℕ
     store = normalizeResult field s n root result workRoom
@@ -115,12 +114,12 @@ module _ (field : Field) where
     one-root = as-many-roots (field .elements) (elementLaws field) (nodes s n) well-formed (root ∷ []) inside
 
     -- it answers count, root and rounds kept
-    pub answer-done : normalizeAnswer field s n root (interleaved result .room) workRoom ≡ Done count root' (roundsOf field s n root)
+    pub answer-done : normalizeAnswer field s n root (interleaved result .room) workRoom ≡ Done count root' (roundsOf s n root)
     unfolding normalizeAnswer
-    answer-done = rw accepted (ap (λ rs. record { checked = Good; count = count; roots = rootsFrom rs; rounds = roundsOf field s n root }) (one (normalized field s n (root ∷ []) .roots) one-root))
+    answer-done = rw accepted (ap (λ rs. record { checked = Good; count = count; roots = rootsFrom rs; rounds = roundsOf s n root }) (one (normalized field s n (root ∷ []) .roots) one-root))
 
     -- exactly those that the rounds give: as many as are kept before one isn't, and the list that this one started from
-    pub answer-exact : Repeated (field .elements) (nodes s n) (root ∷ []) (roundsOf field s n root) (rootedOf (normalized field s n (root ∷ [])))
+    pub answer-exact : Repeated (field .elements) (nodes s n) (root ∷ []) (roundsOf s n root) (rootedOf (normalized field s n (root ∷ [])))
     unfolding normalized
     answer-exact = normalize-repeats (field .elements) (nodes s n) (root ∷ [])
 
@@ -139,7 +138,7 @@ module _ (field : Field) where
     answer-count = omega (arith, never-more (field .elements) (nodes s n) (root ∷ []), length-nodes s n)
 
     -- the rounds kept never outnumber the records lost
-    pub answer-rounds : roundsOf field s n root + count ≤ n
+    pub answer-rounds : roundsOf s n root + count ≤ n
     unfolding normalized
     answer-rounds = omega (arith, rounds-at-most-lost (field .elements) (nodes s n) (root ∷ []), length-nodes s n)
 
@@ -160,7 +159,7 @@ module _ (field : Field) where
     answer-value given low = rw answer-list (same-value-at (field .elements) (elementLaws field) (nodes s n) well-formed (root ∷ []) inside given low 0 (omega arith))
 
     -- the given records and root come back exactly when in the first round no rewrite fired or its compacted list was no shorter
-    pub answer-unchanged : ((list ≡ nodes s n) × (root' ≡ root)) ↔ FirstNotKept field s n root
+    pub answer-unchanged : ((list ≡ nodes s n) × (root' ≡ root)) ↔ FirstNotKept s n root
     unfolding normalized
     answer-unchanged =
         let h = rw (length-nodes s n) at (given-back-exactly-when (field .elements) (nodes s n) (root ∷ [])) in (
@@ -172,7 +171,7 @@ module _ (field : Field) where
     sound = rw answer-words (sound-stored result list (field .bounds) (answered .well-formed))
 
     -- the same in words: n records again, their words those that were given, and the root
-    pub answer-unchanged-words : ((count ≡ n) × Agree (interleaved store) s n × (root' ≡ root)) ↔ FirstNotKept field s n root
+    pub answer-unchanged-words : ((count ≡ n) × Agree (interleaved store) s n × (root' ≡ root)) ↔ FirstNotKept s n root
     answer-unchanged-words = (
       λ (c, a, r). answer-unchanged .0 (sym answer-list ∙ (ap (nodes (interleaved store)) c ∙ agree-nodes (interleaved store) s n a), r),
       λ f. let (l, r) = answer-unchanged .1 f in

@@ -31,6 +31,10 @@ elementOf a Missing = new 0 0
 unfoldable pub given : List ℕ → ℕ → ℕ → QuadFelt
 given a m key = elementOf a (entryOf entryWords a m key)
 
+-- a refusal, without a value
+abbrev pub refused : Refusal → EvaluateAnswer
+refused r = record { checked = Refused r; value = new 0 0 }
+
 module _ (field : Field) where
   -- Evaluate's tests: the list check, the entries, then the inputs
   unfoldable pub evaluateCheck : View → ℕ → ℕ → List ℕ → ℕ → Checked
@@ -39,12 +43,7 @@ module _ (field : Field) where
       then entriesCheck (field .bounds) entryWords a m
       then inputsCheck (entryOf entryWords a m) (nodes s n) n
 
--- a refusal, without a value
-abbrev pub refused : Refusal → EvaluateAnswer
-refused r = record { checked = Refused r; value = new 0 0 }
-
-module _ (field : Field) where
   -- the root's value
   unfoldable pub evaluateAnswer : View → ℕ → ℕ → List ℕ → ℕ → EvaluateAnswer
   evaluateAnswer s n root a m =
-      unlessRefused (evaluateCheck field s n root a m) refused (record { checked = Good; value = value (field .elements) (given a m) (nodes s n) root })
+      unlessRefused (evaluateCheck s n root a m) refused (record { checked = Good; value = value (field .elements) (given a m) (nodes s n) root })

@@ -27,16 +27,23 @@ abbrev pub assigned : Bool → QuadFelt → Assigned
 assigned true v = Element v
 assigned false v = Absent
 
+-- the element with its coordinates at place i of two arrays
+unfoldable pub elementAt : List ℕ → List ℕ → ℕ → QuadFelt
+elementAt c0 c1 i = new (getD c0 i 0) (getD c1 i 0)
+
+-- room for the values of n records, and empty links for m entries
+pub record Stores (n m : ℕ) (c0 c1 links : List ℕ) : Type 0 where
+  pub first : n ≤ length c0
+  pub second : n ≤ length c1
+  pub usable : Usable links
+  pub entries : m ≤ half links
+  pub empty : (k : ℕ) → getD links k 0 ≡ 0
+
 module _ (field : Field) where
   -- the value of a record on the values v of earlier places; none for an input whose key has no entry
   unfoldable pub recordAnswer : List ℕ → ℕ → (ℕ → QuadFelt) → NodeKind → Assigned
   recordAnswer a m v x = assigned (hasEntry (entryOf entryWords a m) x) (valueOf (field .elements) (given a m) v x)
 
--- the element with its coordinates at place i of two arrays
-unfoldable pub elementAt : List ℕ → List ℕ → ℕ → QuadFelt
-elementAt c0 c1 i = new (getD c0 i 0) (getD c1 i 0)
-
-module _ (field : Field) where
   -- the record at place i may stand there, and the values before it are in two arrays
   pub record Valued (s : View) (i : ℕ) (c0 c1 : List ℕ) : Type 0 where
     pub room : i < s .room
@@ -60,11 +67,3 @@ module _ (field : Field) where
   pub record Tested (s : View) (n root : ℕ) (a : List ℕ) (m : ℕ) : Type 0 where
     pub list : listCheck (field .bounds) s n root ≡ Good
     pub entries : entriesCheck (field .bounds) entryWords a m ≡ Good
-
--- room for the values of n records, and empty links for m entries
-pub record Stores (n m : ℕ) (c0 c1 links : List ℕ) : Type 0 where
-  pub first : n ≤ length c0
-  pub second : n ≤ length c1
-  pub usable : Usable links
-  pub entries : m ≤ half links
-  pub empty : (k : ℕ) → getD links k 0 ≡ 0

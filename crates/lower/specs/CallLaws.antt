@@ -86,6 +86,34 @@ module _ (field : Field) (ls : List ℕ) (period : ℕ) where
       go (inl z) = let q = eqb-true (length ls) 0 z in absurd (omega arith)
       go (inr b) = le-trans (longest-le 0 ls j h) (leb-true (longestFrom 0 ls) period (and-true (isPower (field .mostLog) period) (leb (longestFrom 0 ls) period) b .1))
 
+pub blank-whole : (s t : List ℕ) (n : ℕ) → length s ≡ n → t ≡ take 0 s ++ replicate (length s - 0) blank → t ≡ replicate n blank
+blank-whole s t n e q = let k : length s - 0 ≡ n = omega arith in q ∙ ap (λ k. replicate k blank) k
+
+-- a store filled from another
+pub filled-told : (a b c : List ℕ) (m n : ℕ) → m ≤ length a → take m b ≡ take m a → length b ≡ n → c ≡ take m b ++ replicate (length b - m) blank → c ≡ filled n (take m a)
+unfolding filled
+filled-told a b c m n h e k q = q ∙ rw (e, k, length-take-le m a h)
+
+module _ (work : List ℕ) (count : ℕ) (ns result places : List ℕ) where
+  refuses : hasRoom count result ≡ false → HandedOver work count ns result places (LowerAnswer'.Refused NoRoom) result places
+  refuses e = record { answer = rw e; result-is = rw e; places-are = rw e }
+
+  pub handed-long : mostRecords < count → HandedOver work count ns result places (LowerAnswer'.Refused NoRoom) result places
+  handed-long h = refuses (rw (lt-leb count mostRecords h))
+
+  pub handed-short : count ≤ mostRecords → interleaved result .room < count → HandedOver work count ns result places (LowerAnswer'.Refused NoRoom) result places
+  handed-short h k = refuses (rw (le-leb count mostRecords h) (lt-leb count (interleaved result .room) k))
+
+  pub handed-done : (after listed : List ℕ) → count ≤ mostRecords → count ≤ interleaved result .room → after ≡ filled (length result) (front count work) → listed ≡ filled (length places) (take (length ns) ns)
+      → HandedOver work count ns result places (LowerAnswer'.Done count) after listed
+  handed-done after listed h k e f =
+      let t : hasRoom count result ≡ true = rw (le-leb count mostRecords h) (le-leb count (interleaved result .room) k) in
+      record { answer = rw t; result-is = rw t e; places-are = rw t (f ∙ ap (filled (length places)) (take-length ns)) }
+
+need-cond : {A : Type 0} (t : Bool) (q : Refusal) (f : Refusal → A) (g : A) → cond t g (f q) ≡ unlessRefused (need t q) f g
+need-cond true q f g = refl
+need-cond false q f g = refl
+
 module _ (field : Field) where
   -- the tests in their order
   module _ (s : View) (n : ℕ) (ls es : List ℕ) (period workRoom placeWords : ℕ) where
@@ -122,15 +150,6 @@ module _ (field : Field) where
           covered = covered field ls es period t (covers field ls period (need-good (periodGood field ls period) SharedPeriod (three .1)));
         }
 
-pub blank-whole : (s t : List ℕ) (n : ℕ) → length s ≡ n → t ≡ take 0 s ++ replicate (length s - 0) blank → t ≡ replicate n blank
-blank-whole s t n e q = let k : length s - 0 ≡ n = omega arith in q ∙ ap (λ k. replicate k blank) k
-
--- a store filled from another
-pub filled-told : (a b c : List ℕ) (m n : ℕ) → m ≤ length a → take m b ≡ take m a → length b ≡ n → c ≡ take m b ++ replicate (length b - m) blank → c ≡ filled n (take m a)
-unfolding filled
-filled-told a b c m n h e k q = q ∙ rw (e, k, length-take-le m a h)
-
-module _ (field : Field) where
   module _ (n : ℕ) (few : n ≤ mostRecords) where
     pub stored-list : (s u ys : List ℕ) → front n u ≡ front n s → length u ≡ storeWords → NodeIndex (nodes (interleaved s) n) ys → length ys ≡ length (take (length u - listWords) (drop listWords u))
         → Stored field (interleaved s) n (putMid listWords (length u - listWords) u ys)
@@ -166,27 +185,6 @@ module _ (field : Field) where
       pub stored-ready : Ready field t n
       stored-ready = record { long = d .long; sound = λ _. stored-sound; indexed = stored-holds .indexed }
 
-module _ (work : List ℕ) (count : ℕ) (ns result places : List ℕ) where
-  refuses : hasRoom count result ≡ false → HandedOver work count ns result places (LowerAnswer'.Refused NoRoom) result places
-  refuses e = record { answer = rw e; result-is = rw e; places-are = rw e }
-
-  pub handed-long : mostRecords < count → HandedOver work count ns result places (LowerAnswer'.Refused NoRoom) result places
-  handed-long h = refuses (rw (lt-leb count mostRecords h))
-
-  pub handed-short : count ≤ mostRecords → interleaved result .room < count → HandedOver work count ns result places (LowerAnswer'.Refused NoRoom) result places
-  handed-short h k = refuses (rw (le-leb count mostRecords h) (lt-leb count (interleaved result .room) k))
-
-  pub handed-done : (after listed : List ℕ) → count ≤ mostRecords → count ≤ interleaved result .room → after ≡ filled (length result) (front count work) → listed ≡ filled (length places) (take (length ns) ns)
-      → HandedOver work count ns result places (LowerAnswer'.Done count) after listed
-  handed-done after listed h k e f =
-      let t : hasRoom count result ≡ true = rw (le-leb count mostRecords h) (le-leb count (interleaved result .room) k) in
-      record { answer = rw t; result-is = rw t e; places-are = rw t (f ∙ ap (filled (length places)) (take-length ns)) }
-
-need-cond : {A : Type 0} (t : Bool) (q : Refusal) (f : Refusal → A) (g : A) → cond t g (f q) ≡ unlessRefused (need t q) f g
-need-cond true q f g = refl
-need-cond false q f g = refl
-
-module _ (field : Field) where
   module _ (result places : List ℕ) (L : Run (List ℕ)) (work : List ℕ) (count : ℕ) (ns : List ℕ) (holds : Holds field work count (L .list)) (answers : count ≤ mostRecords → ns ≡ L .answer) (r : LowerAnswer) (after listed : List ℕ) (h : HandedOver work count ns result places r after listed) where
     fits : count ≤ mostRecords → length (L .list) ≡ count
     fits i = ap length (sym (holds .list-is i)) ∙ length-nodes (interleaved work) count
@@ -234,7 +232,7 @@ module _ (field : Field) where
       → Finished field s n ls es period result places r after listed
   unfolding lowered
   finished s n ls es period result places words log built count ns r after listed ok d el run h =
-      let holds = stored-holds field n (ok .list .most) s (ok .list .sound) words d in
+      let holds = stored-holds n (ok .list .most) s (ok .list .sound) words d in
       let ran = subst (λ x. Listing field words n (buildPeriodicNodes field (columns ls es) x) built count ns (length ls)) el run in
       let L = buildPeriodicNodes field (columns ls es) (logWithin (field .mostLog) period) .run (nodes s n) in
       let g = ran .ran .gives (nodes s n) holds in

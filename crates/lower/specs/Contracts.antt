@@ -27,6 +27,16 @@ use Rattle.lower.specs.declared.LowerAnswer.the-variants as LowerAnswer'
 pub record Formed (c : List ℕ) (f : Form) : Type 0 where
   pub few : f ≡ Sparse → Few c
 
+-- a list of count records has room
+abbrev pub hasRoom : ℕ → List ℕ → Bool
+hasRoom count result = leb count mostRecords && leb count (interleaved result .room)
+
+-- what was built is handed over where it has room
+pub record HandedOver (work : List ℕ) (count : ℕ) (ns result places : List ℕ) (r : LowerAnswer) (after listed : List ℕ) : Type 0 where
+  pub answer : r ≡ cond (hasRoom count result) (LowerAnswer'.Done count) (LowerAnswer'.Refused NoRoom)
+  pub result-is : after ≡ cond (hasRoom count result) (filled (length result) (front count work)) result
+  pub places-are : listed ≡ cond (hasRoom count result) (filled (length places) ns) places
+
 module _ (field : Field) where
   -- columns that passed, none longer than 2^log
   pub record Covered (ls es : List ℕ) (log : ℕ) : Type 0 where
@@ -46,17 +56,6 @@ module _ (field : Field) where
     pub same : Agree s (interleaved t) n
     pub indexed : NodeIndex (nodes s n) (links t)
 
--- a list of count records has room
-abbrev pub hasRoom : ℕ → List ℕ → Bool
-hasRoom count result = leb count mostRecords && leb count (interleaved result .room)
-
--- what was built is handed over where it has room
-pub record HandedOver (work : List ℕ) (count : ℕ) (ns result places : List ℕ) (r : LowerAnswer) (after listed : List ℕ) : Type 0 where
-  pub answer : r ≡ cond (hasRoom count result) (LowerAnswer'.Done count) (LowerAnswer'.Refused NoRoom)
-  pub result-is : after ≡ cond (hasRoom count result) (filled (length result) (front count work)) result
-  pub places-are : listed ≡ cond (hasRoom count result) (filled (length places) ns) places
-
-module _ (field : Field) where
   -- the answer and the stores, past the first tests
   pub record Finished (s : View) (n : ℕ) (ls es : List ℕ) (period : ℕ) (result places : List ℕ) (r : LowerAnswer) (after listed : List ℕ) : Type 0 where
     pub answer : r ≡ unlessRefused (lowerRoom (lowered field s n ls es period) (interleaved result .room)) LowerAnswer'.Refused (LowerAnswer'.Done (length (lowered field s n ls es period .list)))

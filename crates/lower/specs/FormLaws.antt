@@ -24,6 +24,26 @@ use Rattle.coefficients.specs.TermLaws.{length-support}
 use Rattle.periodic.specs.Periodic.{sparseValue, denseValue, basisValue, columnValue, columnNode}
 use Rattle.lower.specs.Contracts.{Formed, Covered}
 
+-- a column whose form is sparse is sparse by itself
+alone-sparse : (a b : Bool) → cond a Basis (cond b Sparse Dense) ≡ Sparse → b ≡ true
+alone-sparse true b e = let z : _≡_ {A = ℕ} 0 1 = cc in absurd (omega arith)
+alone-sparse false true e = refl
+alone-sparse false false e = let z : _≡_ {A = ℕ} 0 1 = cc in absurd (omega arith)
+
+form-sparse : (m : ℕ) (cs : List (List ℕ)) (j : ℕ) → form m cs j ≡ Sparse → isSparse (column cs j) ≡ true
+unfolding form
+form-sparse m cs j e = alone-sparse (goesOver m cs (length (column cs j)) && ltb 0 (gain m (column cs j))) (isSparse (column cs j)) e
+
+-- 2^k at most n
+pub log-least : (k most n : ℕ) → k ≤ most → 2 ^ k ≤ n → k ≤ logWithin most n
+unfolding logWithin
+log-least k zero n h j = omega arith
+log-least k (suc most) n h j = go (below-suc k (suc most) (omega arith)) (λ i. log-least k most n i j)
+  where
+    go : (k < suc most) ⊎ (k ≡ suc most) → (k ≤ most → k ≤ logWithin most n) → k ≤ cond (leb (2 ^ suc most) n) (suc most) (logWithin most n)
+    go (inl i) before = cond-elim (λ x. k ≤ x) (leb (2 ^ suc most) n) (suc most) (logWithin most n) (λ _. omega arith) (λ _. before (omega arith))
+    go (inr e) before = rw (le-leb (2 ^ suc most) n (subst (λ x. 2 ^ x ≤ n) e j)) (omega arith)
+
 module _ (field : Field) where
   -- the value in each form
   module _ (c : List ℕ) (f : Form) (k : ℕ) where
@@ -39,17 +59,6 @@ module _ (field : Field) where
     unfolding columnValue
     value-basis e = rw e
 
--- a column whose form is sparse is sparse by itself
-alone-sparse : (a b : Bool) → cond a Basis (cond b Sparse Dense) ≡ Sparse → b ≡ true
-alone-sparse true b e = let z : _≡_ {A = ℕ} 0 1 = cc in absurd (omega arith)
-alone-sparse false true e = refl
-alone-sparse false false e = let z : _≡_ {A = ℕ} 0 1 = cc in absurd (omega arith)
-
-form-sparse : (m : ℕ) (cs : List (List ℕ)) (j : ℕ) → form m cs j ≡ Sparse → isSparse (column cs j) ≡ true
-unfolding form
-form-sparse m cs j e = alone-sparse (goesOver m cs (length (column cs j)) && ltb 0 (gain m (column cs j))) (isSparse (column cs j)) e
-
-module _ (field : Field) where
   pub formed-of : (ls es : List ℕ) (j : ℕ) (c : List ℕ) (f : Form) → Handed ls es → j < length ls → c ≡ column (columns ls es) j → f ≡ form (modulus field) (columns ls es) j → Formed c f
   formed-of ls es j c f h k ec ef =
       rw ec
@@ -60,17 +69,6 @@ module _ (field : Field) where
             };
       })
 
--- 2^k at most n
-pub log-least : (k most n : ℕ) → k ≤ most → 2 ^ k ≤ n → k ≤ logWithin most n
-unfolding logWithin
-log-least k zero n h j = omega arith
-log-least k (suc most) n h j = go (below-suc k (suc most) (omega arith)) (λ i. log-least k most n i j)
-  where
-    go : (k < suc most) ⊎ (k ≡ suc most) → (k ≤ most → k ≤ logWithin most n) → k ≤ cond (leb (2 ^ suc most) n) (suc most) (logWithin most n)
-    go (inl i) before = cond-elim (λ x. k ≤ x) (leb (2 ^ suc most) n) (suc most) (logWithin most n) (λ _. omega arith) (λ _. before (omega arith))
-    go (inr e) before = rw (le-leb (2 ^ suc most) n (subst (λ x. 2 ^ x ≤ n) e j)) (omega arith)
-
-module _ (field : Field) where
   -- columns no longer than the shared period
   pub covered : (ls es : List ℕ) (period : ℕ) → Tested (modulus field) ls es → ((j : ℕ) → j < length ls → getD ls j 0 ≤ period) → Covered field ls es (logWithin (field .mostLog) period)
   unfolding logLength

@@ -15,7 +15,7 @@ use Rattle.dag.specs.Refusals.{isRefused, unlessRefused}
 use Rattle.dag.specs.Roots.{mostRoots, rootsOf, rootsFrom}
 use Rattle.dag.specs.RootLaws.{roots-from, length-roots, inside-from}
 use Rattle.dag.specs.Check.{roomCheck, listCheck}
-use Rattle.dag.specs.CheckLaws.{then-good}
+use Rattle.dag.specs.CheckLaws.{then-good, refused-is}
 use Rattle.dag.specs.PassLaws.{room-enough, rooted}
 use Rattle.dag.specs.Store.{Sound, written, stored, copiedRecords, blankedBehind}
 use Rattle.dag.specs.declared.NodeKind.{NodeKind}
@@ -24,7 +24,6 @@ use Rattle.dag.specs.declared.Checked.{Checked}
 use Rattle.dag.specs.declared.Checked.the-variants.{Good, Refused}
 use Rattle.builder.specs.OutcomeLaws.{list-fine}
 use Rattle.compact.specs.OperandLaws.{one-below, below-at, inside-below}
-use Rattle.compact.specs.CallLaws.{refused-is}
 use Rattle.compact.specs.Contracts.{AllBelow}
 use Rattle.dag.specs.WordLaws.{nodes-written, sound-written, copied-written, blanked-stored}
 use Rattle.normalize.specs.Rounds.{rounded, isKept, roundsFrom, normalize}

@@ -24,16 +24,6 @@ use Rattle.normalize.specs.declared.RoundKept.{RoundKept}
 use Rattle.normalize.specs.declared.NormalEnd.{NormalEnd}
 use Rattle.normalize.specs.declared.NormalizeAnswer.{NormalizeAnswer}
 
-module _ (field : Field) where
-  -- a record and its plan at place i, with earlier results inside a list of `count` records that has room for two more
-  pub record Entering (work : List ℕ) (count : ℕ) (map : List ℕ) (i : ℕ) (x : NodeKind) (plan : Plan) : Type 0 where
-    pub sound : Sound (field .bounds) (interleaved work) count
-    pub places : (j : ℕ) → j < i → read map j < count
-    pub fits : i ≤ length map
-    pub fine : Fine (Low field) i x
-    pub plan-fine : PlanFine i plan
-    pub room : count + 1 < interleaved work .room
-
 -- at least one root, all of a list of n records, and 0 past the last
 pub record WellRooted (n : ℕ) (roots : Roots) : Type 0 where
   pub inside : Inside n roots
@@ -49,7 +39,25 @@ pub record Linked (work : List ℕ) (count : ℕ) (links : List ℕ) : Type 0 wh
 abbrev pub held : List ℕ → ℕ → List ℕ → Replay
 held work count map = record { list = nodes (interleaved work) count; map = map }
 
+-- scratch stores for n records: counts, places, and the links of two indexes
+pub record Scratch (n : ℕ) (fan places own links : List ℕ) : Type 0 where
+  pub fan-long : n ≤ length fan
+  pub places-long : n ≤ length places
+  pub own-long : 2 * n ≤ length own
+  pub own-few : length own ≤ 2 ^ 32
+  pub links-long : 4 * n ≤ length links
+  pub links-few : length links ≤ 2 ^ 32
+
 module _ (field : Field) where
+  -- a record and its plan at place i, with earlier results inside a list of `count` records that has room for two more
+  pub record Entering (work : List ℕ) (count : ℕ) (map : List ℕ) (i : ℕ) (x : NodeKind) (plan : Plan) : Type 0 where
+    pub sound : Sound (field .bounds) (interleaved work) count
+    pub places : (j : ℕ) → j < i → read map j < count
+    pub fits : i ≤ length map
+    pub fine : Fine (Low field) i x
+    pub plan-fine : PlanFine i plan
+    pub room : count + 1 < interleaved work .room
+
   -- the store holds the list that the plan gives
   pub record Planned (work : List ℕ) (count : ℕ) (b : Built) (after : List ℕ) (e : Entered) : Type 0 where
     pub kept : length after ≡ length work
@@ -80,16 +88,6 @@ module _ (field : Field) where
     pub rooted : WellRooted n roots
     pub room : 2 * n ≤ workRoom
 
--- scratch stores for n records: counts, places, and the links of two indexes
-pub record Scratch (n : ℕ) (fan places own links : List ℕ) : Type 0 where
-  pub fan-long : n ≤ length fan
-  pub places-long : n ≤ length places
-  pub own-long : 2 * n ≤ length own
-  pub own-few : length own ≤ 2 ^ 32
-  pub links-long : 4 * n ≤ length links
-  pub links-few : length links ≤ 2 ^ 32
-
-module _ (field : Field) where
   -- what it says of a store that was s
   pub record Once (s : List ℕ) (n : ℕ) (roots : Roots) (after : List ℕ) (r : RoundKept) : Type 0 where
     pub kept-is : r .kept ≡ isKept (field .elements) (nodes (interleaved s) n) (rootsOf roots)

@@ -15,7 +15,7 @@ use Rattle.dag.specs.BlankLaws.{all-zero}
 use Rattle.dag.specs.Nodes.{mostRecords, nodes}
 use Rattle.dag.specs.NodeLaws.{length-nodes}
 use Rattle.dag.specs.Roots.{rootsOf, rootsFrom}
-use Rattle.dag.specs.RootLaws.{roots-from, inside-renamed}
+use Rattle.dag.specs.RootLaws.{roots-from, roots-agree, inside-renamed}
 use Rattle.dag.specs.Store.{Records, written}
 use Rattle.dag.specs.WellFormed.{WellFormed}
 use Rattle.dag.specs.declared.Roots.{Roots}
@@ -24,7 +24,7 @@ use Rattle.builder.specs.Steps.{Replay, placeOf}
 use Rattle.builder.specs.OutcomeLaws.{list-fine}
 use Rattle.builder.specs.HoldLaws.{count-is, place-read}
 use Rattle.builder.specs.Contracts.{read}
-use Rattle.compact.specs.OperandLaws.{inside-below, map-cong}
+use Rattle.compact.specs.OperandLaws.{inside-below}
 use Rattle.compact.specs.Compact.{compact}
 use Rattle.compact.specs.Contracts.{Markable, mostMarks}
 use Rattle.compact.specs.Calls.{compacted, keptOf}
@@ -50,6 +50,13 @@ scratch-part c k h f m o l ef em eo el =
     let u = c .fan-long in let v = c .places-long in let w = c .own-long in let x = c .own-few in let y = c .links-long in let z = c .links-few in
     let a = length-take-le k f (omega arith) in let b = length-take-le k m (omega arith) in let d = length-take-le (2 * k) o (omega arith) in let e = length-take-le (4 * k) l (omega arith) in
     record { fan-long = omega arith; places-long = omega arith; own-long = omega arith; own-few = omega arith; links-long = omega arith; links-few = omega arith }
+
+-- a round's count and roots, where it isn't kept and where it is
+abbrev discarded : ℕ → Roots → RoundKept
+discarded n roots = record { kept = false; count = n; roots = roots }
+
+abbrev keeping : ℕ → Roots → RoundKept
+keeping n roots = record { kept = true; count = n; roots = roots }
 
 module _ (field : Field) where
   module _ {s : List ℕ} {n : ℕ} {roots : Roots} {k : ℕ} {fan places own links : List ℕ} (h : Ready field s n roots k) (c : Scratch n fan places own links) where
@@ -77,14 +84,6 @@ module _ (field : Field) where
         let a = c .links-long in let b = c .links-few in let d = some in
         (record { some = omega arith; few = omega arith }, omega arith)
 
--- a round's count and roots, where it isn't kept and where it is
-abbrev discarded : ℕ → Roots → RoundKept
-discarded n roots = record { kept = false; count = n; roots = roots }
-
-abbrev keeping : ℕ → Roots → RoundKept
-keeping n roots = record { kept = true; count = n; roots = roots }
-
-module _ (field : Field) where
   stays-once : (s : List ℕ) (n : ℕ) (roots : Roots) → isKept (field .elements) (nodes (interleaved s) n) (rootsOf roots) ≡ false → Once field s n roots s (discarded n roots)
   stays-once s n roots e =
       record {
@@ -130,7 +129,7 @@ module _ (field : Field) where
       new-roots : rootsOf new ≡ map (placeOf r) (rootsOf roots)
       new-roots =
           rw (en, roots-from (map (read places) (rootsOf roots)))
-          (map-cong (read places) (placeOf r) (rootsOf roots) (λ i p. place-is i (inside-below n roots (ready .rooted .inside) i p)))
+          (roots-agree n roots (ready .rooted .inside) (read places) (placeOf r) place-is)
 
       -- the round's list may be compacted
       pub markable : Markable (interleaved work) count new mostMarks

@@ -29,6 +29,18 @@ links s = drop listWords s
 unfoldable pub noted : List ℕ → ℕ → NodeKind → List ℕ
 noted s n y = take listWords s ++ Index.noted (links s) n (Index.nodeBucket (Index.half (links s)) y)
 
+-- place a is one of n records
+abbrev pub Inside : ℕ → ℕ → Type 0
+Inside n a = n ≤ mostRecords → a < n
+
+-- so are all of these places
+pub record AllInside (n : ℕ) (ps : List ℕ) : Type 0 where
+  pub at : (i : ℕ) → i < length ps → Inside n (getD ps i 0)
+
+-- a column that a sparse form can hold
+pub record Few (c : List ℕ) : Type 0 where
+  pub few : length (support c) ≤ 11
+
 module _ (field : Field) where
   -- a store of n records holds the list l
   pub record Holds (s : List ℕ) (n : ℕ) (l : List NodeKind) : Type 0 where
@@ -43,21 +55,12 @@ module _ (field : Field) where
     pub sound : n ≤ mostRecords → Sound (field .bounds) (interleaved s) n
     pub indexed : n ≤ mostRecords → Index.NodeIndex (nodes (interleaved s) n) (links s)
 
--- place a is one of n records
-abbrev pub Inside : ℕ → ℕ → Type 0
-Inside n a = n ≤ mostRecords → a < n
-
--- so are all of these places
-pub record AllInside (n : ℕ) (ps : List ℕ) : Type 0 where
-  pub at : (i : ℕ) → i < length ps → Inside n (getD ps i 0)
-
-module _ (field : Field) where
   -- the computation m was run on a store of n records: k are there after it, and Is holds of its answer
   pub record Ran {A : Type 0} (s : List ℕ) (n : ℕ) (m : Builder A) (after : List ℕ) (k : ℕ) (Is : A → Type 0) : Type 0 where
     pub kept : length after ≡ length s
     pub longer : n ≤ k
-    pub gives : (l : List NodeKind) → Holds field s n l → Holds field after k (m .run l .list)
-    pub answers : (l : List NodeKind) → Holds field s n l → k ≤ mostRecords → Is (m .run l .answer)
+    pub gives : (l : List NodeKind) → Holds s n l → Holds after k (m .run l .list)
+    pub answers : (l : List NodeKind) → Holds s n l → k ≤ mostRecords → Is (m .run l .answer)
 
   -- the same, answering a place
   pub record Entering (s : List ℕ) (n : ℕ) (m : Builder ℕ) (after : List ℕ) (r : Entered) : Type 0 where
@@ -69,7 +72,6 @@ module _ (field : Field) where
     pub ran : Ran s n m after k (λ ps. take c places ≡ ps)
     pub inside : AllInside k (take c places)
 
-module _ (field : Field) where
   -- the twiddles of a sparse term
   pub record Row (row : List ℕ) (log : ℕ) : Type 0 where
     pub few : log ≤ 7
@@ -80,7 +82,3 @@ module _ (field : Field) where
     pub few : t ≤ 11
     pub low : (k : ℕ) → k < t → Row (getD rows k []) log
     pub scaled : (k : ℕ) → k < t → getD values k 0 < modulus field
-
--- a column that a sparse form can hold
-pub record Few (c : List ℕ) : Type 0 where
-  pub few : length (support c) ≤ 11

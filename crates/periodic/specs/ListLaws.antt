@@ -31,6 +31,27 @@ word-inside n places c i h a j = rw (getD-take c places i 0 j) at (a .at i (rw (
 pub word-is : (places : List ℕ) (c i : ℕ) → i < c → getD places i 0 ≡ getD (take c places) i 0
 word-is places c i h = sym (getD-take c places i 0 h)
 
+-- a store that begins with one place
+pub first-place : (places : List ℕ) (z : ℕ) → 0 < length places → take 1 (set places 0 z) ≡ z ∷ []
+first-place places z h = take-suc-set places 0 z h
+
+pub one-inside : {n z : ℕ} → Inside n z → AllInside n (z ∷ [])
+one-inside {n} {z} h = record { at = go }
+  where
+    go : (i : ℕ) → i < 1 → Inside n (getD (z ∷ []) i 0)
+    go zero j = h
+    go (suc i) j = absurd (omega arith)
+
+-- a word written keeps a store's length
+pub set-length : (l : List ℕ) (i v n : ℕ) → length l ≡ n → length (set l i v) ≡ n
+set-length l i v n e = simp length-set e
+
+pub set-room : (l : List ℕ) (i v k : ℕ) → k < length l → k < length (set l i v)
+set-room l i v k h = simp length-set h
+
+pub none-inside : (n : ℕ) → AllInside n []
+none-inside n = record { at = λ i h. absurd (omega arith) }
+
 module _ (field : Field) where
   -- one more place
   module _ (s1 : List ℕ) (k1 : ℕ) (m : Builder ℕ) (s2 : List ℕ) (r2 : Entered) (places : List ℕ) (c : ℕ) (room : c < length places) where
@@ -73,28 +94,6 @@ module _ (field : Field) where
   pub listed-ready : (s : List ℕ) (n : ℕ) (m : Builder (List ℕ)) (after : List ℕ) (k : ℕ) (places : List ℕ) (c : ℕ) → Ready field s n → Listing field s n m after k places c → Ready field after k
   listed-ready s n m after k places c r d = ready-after field s n m after k (λ ps. take c places ≡ ps) r (d .ran)
 
--- a store that begins with one place
-pub first-place : (places : List ℕ) (z : ℕ) → 0 < length places → take 1 (set places 0 z) ≡ z ∷ []
-first-place places z h = take-suc-set places 0 z h
-
-pub one-inside : {n z : ℕ} → Inside n z → AllInside n (z ∷ [])
-one-inside {n} {z} h = record { at = go }
-  where
-    go : (i : ℕ) → i < 1 → Inside n (getD (z ∷ []) i 0)
-    go zero j = h
-    go (suc i) j = absurd (omega arith)
-
-module _ (field : Field) where
   -- a computation on places that a store holds
   pub entering-at : (f : ℕ → Builder ℕ) (s : List ℕ) (n : ℕ) (after : List ℕ) (r : Entered) {x y : ℕ} → x ≡ y → Entering field s n (f x) after r → Entering field s n (f y) after r
   entering-at f s n after r e d = subst (λ z. Entering field s n (f z) after r) e d
-
--- a word written keeps a store's length
-pub set-length : (l : List ℕ) (i v n : ℕ) → length l ≡ n → length (set l i v) ≡ n
-set-length l i v n e = simp length-set e
-
-pub set-room : (l : List ℕ) (i v k : ℕ) → k < length l → k < length (set l i v)
-set-room l i v k h = simp length-set h
-
-pub none-inside : (n : ℕ) → AllInside n []
-none-inside n = record { at = λ i h. absurd (omega arith) }

@@ -21,6 +21,10 @@ use Rattle.periodic.specs.Contracts.{Holds, Ready, Inside, Ran, Entering
 grows : {A : Type 0} (m : Builder A) (l : List NodeKind) → length l ≤ length (m .run l .list)
 grows m l = omega (arith, ap length (m .extends l .1), length-append l (m .extends l .0))
 
+-- places stay inside a longer list
+pub inside-later : {n k a : ℕ} → n ≤ k → Inside n a → Inside k a
+inside-later h f j = lt-of-lt-of-le (f (omega arith)) h
+
 module _ (field : Field) where
   pub stays-long : {A : Type 0} (m : Builder A) (s : List ℕ) (k : ℕ) (l : List NodeKind) → mostRecords < k → mostRecords < length l → Holds field s k (m .run l .list)
   stays-long m s k l h j =
@@ -93,21 +97,16 @@ module _ (field : Field) where
     pub entered-ready : Ready field s n → Entering field s n m s1 r1 → Ready field s1 (r1 .count)
     entered-ready r d = ready-after s n m s1 (r1 .count) (λ a. r1 .place ≡ a) r (d .ran)
 
--- places stay inside a longer list
-pub inside-later : {n k a : ℕ} → n ≤ k → Inside n a → Inside k a
-inside-later h f j = lt-of-lt-of-le (f (omega arith)) h
-
-module _ (field : Field) where
   -- turns
   module _ {A : Type 0} (f : ℕ → A → Builder A) (s : List ℕ) (n : ℕ) (a : A) where
     pub turn-none : Ran field s n (turns f 0 a) s n (λ b. a ≡ b)
     unfolding turns
-    turn-none = ran-done field s n a
+    turn-none = ran-done s n a
 
     pub turn-next : (i : ℕ) (s1 : List ℕ) (k1 : ℕ) (Is : A → Type 0) (s2 : List ℕ) (k2 : ℕ) (Js : A → Type 0) → Ran field s n (turns f i a) s1 k1 Is → length s2 ≡ length s1 → k1 ≤ k2
         → ((b : A) → Is b → Ran field s1 k1 (f i b) s2 k2 Js) → Ran field s n (turns f (i + 1) a) s2 k2 Js
     unfolding turns
-    turn-next i s1 k1 Is s2 k2 Js d kept longer e = rw (add-one i) (ran-bind field s n (turns f i a) s1 k1 Is (f i) s2 k2 Js d kept longer e)
+    turn-next i s1 k1 Is s2 k2 Js d kept longer e = rw (add-one i) (ran-bind s n (turns f i a) s1 k1 Is (f i) s2 k2 Js d kept longer e)
 
     pub turn-all : (i k : ℕ) (s1 : List ℕ) (k1 : ℕ) (Is : A → Type 0) → i ≤ k → k ≤ i → Ran field s n (turns f i a) s1 k1 Is → Ran field s n (turns f k a) s1 k1 Is
     turn-all i k s1 k1 Is h j d = let e : i ≡ k = omega arith in subst (λ x. Ran field s n (turns f x a) s1 k1 Is) e d
