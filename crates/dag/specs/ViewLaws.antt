@@ -11,8 +11,7 @@ use Rattle.dag.specs.Nodes.{recordAt, nodes}
 use Rattle.dag.specs.Refusals.{firstRefused, _then_}
 use Rattle.dag.specs.Check.{checkAt, recordsCheck, rootlessCheck, listCheck}
 use Rattle.dag.specs.PassLaws.{enough-room}
-use Rattle.dag.specs.BlankLaws.{copied-front}
-use Rattle.dag.specs.Store.{Alike, front, copiedRecords, Sound}
+use Rattle.dag.specs.Store.{Alike, front, Sound}
 
 -- room for n records is three words for each
 pub room-words : (s : List ℕ) (n : ℕ) → n ≤ interleaved s .room → 3 * n ≤ length s
@@ -84,11 +83,6 @@ module _ (s u : List ℕ) (n : ℕ) where
   pub front-agree : front n s ≡ front n u → Agree (interleaved s) (interleaved u) n
   unfolding front
   front-agree e = words-agree (λ k h. sym (getD-take (3 * n) s k 0 h) ∙ (ap (λ l. getD l k 0) e ∙ getD-take (3 * n) u k 0 h))
-
--- records copied agree with those that they are copied from
-pub copied-agrees : (s d : List ℕ) (n : ℕ) → n ≤ interleaved s .room → Agree (interleaved s) (interleaved (copiedRecords s d n)) n
-unfolding copiedRecords front
-copied-agrees s d n h = front-agree s (copiedRecords s d n) n (sym (copied-front s d (3 * n) (room-words s n h) refl))
 
 -- a store that begins with another's n records has room for them
 pub front-room : (s u : List ℕ) (n : ℕ) → n ≤ interleaved s .room → front n u ≡ front n s → n ≤ interleaved u .room

@@ -1,14 +1,14 @@
 -- A list's words at the start of a store: the store holds the list, and passes the tests that the list meets.
 use Prim.Native.Nat.{ℕ, zero, suc, _+_, _*_, _-_, _≤_, _<_}
 use mathlib.Core.List.{List, [], _∷_, _++_, append-assoc}
-use mathlib.Core.Path.{_≡_, refl, sym, _∙_, ap}
+use mathlib.Core.Path.{_≡_, refl, _∙_, ap}
 use native.Mathlib.Omega.{arith}
 use lib.ListN.{getD, length, take, drop, set, replicate, length-append, length-drop, length-replicate, take-append-drop}
 use lib.Seq.{drop-cons, set-at, take-at, append-snoc, ext-getD, length-take-le, drop-at}
 use borrow.Author.Tests.{le-leb, lt-ltb}
 use Rattle.field.specs.Fields.{Bounds, Within}
 use Rattle.dag.specs.View.{interleaved}
-use Rattle.dag.specs.ViewLaws.{room-words, words-room, same-room, agree-nodes, agree-sound, copied-agrees}
+use Rattle.dag.specs.ViewLaws.{room-words, words-room}
 use Rattle.dag.specs.Refusals.{firstRefused}
 use Rattle.dag.specs.Nodes.{tag, first, second, recordAt, nodes, at, words, wordsOf, filled, blank, mostRecords}
 use Rattle.dag.specs.NodeLaws.{decode-words, length-nodes, at-nodes, length-snoc}
@@ -179,19 +179,6 @@ blanked-stored m s d n sound e =
   where
     front-take : take (3 * n) s ≡ wordsOf (nodes (interleaved s) n)
     front-take = front-words m s n sound
-
--- a list that passes copied to the start of another store, blanks behind it
-pub copied-stored : (m : Bounds) (s d : List ℕ) (n : ℕ) → Sound m (interleaved s) n → n ≤ interleaved d .room → blankedBehind (copiedRecords s d n) n ≡ stored d (nodes (interleaved s) n)
-unfolding copiedRecords copied
-copied-stored m s d n sound h =
-    let same = copied-agrees s d n (sound .room) in
-    let there = agree-sound (interleaved s) (interleaved (copiedRecords s d n)) m n (rw (same-room (copiedRecords s d n) d length-copied) h) same sound in
-    blanked-stored m (copiedRecords s d n) d n there length-copied ∙ ap (stored d) (sym (agree-nodes (interleaved s) (interleaved (copiedRecords s d n)) n same))
-  where
-    length-copied : length (copiedRecords s d n) ≡ length d
-    length-copied =
-        let l = length-take-le (3 * n) s (room-words s n (sound .room)) in
-        omega (arith, room-words d n h, length-append (take (3 * n) s) (drop (3 * n) d), l, length-drop (3 * n) d)
 
 -- a store's own list written over it
 pub written-own : (m : Bounds) (s : List ℕ) (n : ℕ) → Sound m (interleaved s) n → written s (nodes (interleaved s) n) ≡ s

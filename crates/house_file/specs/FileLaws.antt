@@ -12,16 +12,16 @@ use lib.ListN.{getD, length}
 use Rattle.field.specs.Fields.{goldilocks}
 use Rattle.dag.specs.View.{interleaved, Agree}
 use Rattle.dag.specs.ViewLaws.{words-room, agree-nodes, agree-list}
-use Rattle.dag.specs.Nodes.{nodes}
+use Rattle.dag.specs.Nodes.{recordWords, nodes, filled}
 use Rattle.dag.specs.NodeLaws.{length-nodes}
 use Rattle.dag.specs.CaseLaws.{and-true}
 use Rattle.dag.specs.Refusals.{need, _then_, unlessRefused}
 use Rattle.dag.specs.Check.{roomCheck, listCheck}
 use Rattle.dag.specs.CheckLaws.{then-good, need-good}
 use Rattle.dag.specs.PassLaws.{room-enough as room-fits, enough-room, rooted}
-use Rattle.dag.specs.Store.{stored, copiedRecords, blankedBehind}
+use Rattle.dag.specs.Store.{front, stored}
 use Rattle.dag.specs.StoreLaws.{sound-well-formed, same-list-agree}
-use Rattle.dag.specs.WordLaws.{nodes-stored, sound-stored, copied-stored}
+use Rattle.dag.specs.WordLaws.{nodes-stored, sound-stored, filled-front}
 use Rattle.dag.specs.declared.Refusal.{Refusal}
 use Rattle.dag.specs.declared.Refusal.the-variants.{FileTooShort, FileVersion, FileCount, FileLength}
 use Rattle.dag.specs.declared.Checked.{Checked}
@@ -61,7 +61,7 @@ formed file e =
     }
 
 -- the longest file's words have room for every file's records
-pub filed-room : (words : List ℕ) (n : ℕ) → length words ≡ 3072 → n ≤ mostFiled → n ≤ interleaved words .room
+pub filed-room : (words : List ℕ) (n : ℕ) → length words ≡ recordWords * mostFiled → n ≤ mostFiled → n ≤ interleaved words .room
 filed-room words n e h = words-room words n (omega (arith, e))
 
 -- a file of good form that fits
@@ -120,14 +120,14 @@ module _ (file list words : List ℕ) (n root : ℕ) (en : n ≡ fileCount file)
   pub done-refused : (r : Refusal) → c ≡ Refused r → Done file list (FileAnswer'.Refused r) list
   done-refused r e = let h : heldCheck file ≡ Refused r = sym held ∙ e in record { answer = rw h; list-is = rw h }
 
-  pub done-good : (mid after : List ℕ) → c ≡ Good → n ≤ interleaved list .room → mid ≡ copiedRecords words list n → after ≡ blankedBehind mid n → Done file list (FileAnswer'.Read n root) after
-  done-good mid after e h em ea =
+  pub done-good : (after : List ℕ) → c ≡ Good → after ≡ filled (length list) (front n words) → Done file list (FileAnswer'.Read n root) after
+  done-good after e ea =
       let good : heldCheck file ≡ Good = sym held ∙ e in
       let sound = rooted (goldilocks .bounds) (interleaved words) n root (sym ec ∙ e) .list .sound in
       let same = agree-nodes (interleaved words) (fileView file) n whole ∙ ap (nodes (fileView file)) en in
       record {
         answer = rw good (ap₂ FileAnswer'.Read en er);
-        list-is = rw good (ea ∙ (ap (λ l. blankedBehind l n) em ∙ (copied-stored (goldilocks .bounds) words list n sound h ∙ ap (stored list) same)));
+        list-is = rw good (ea ∙ (filled-front (goldilocks .bounds) words list n sound ∙ ap (stored list) same));
       }
 
 -- what reading gives, refused or not

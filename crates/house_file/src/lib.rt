@@ -12,7 +12,7 @@ ghost use Rattle.house_file.specs.Contracts as Contracts;
 pub const MOST_FILED: u64 = 1024;
 
 // The words of the longest file's records.
-const FILED_WORDS: usize = 3072;
+pub const FILED_WORDS: usize = dag::RECORD_WORDS * MOST_FILED as usize;
 
 // The three words of a record.
 pub struct Words {
@@ -154,8 +154,7 @@ fn read_held(file: &[u8], list: &mut [u64]) -> FileAnswer
     match checked {
         Checked::Refused(r) => FileAnswer::Refused(r),
         Checked::Good => {
-            dag::copy_records(&words, n, list);
-            dag::blank_records(list, n);
+            dag::store_records(&words, n, list);
             FileAnswer::Read { count: n, root }
         }
     }

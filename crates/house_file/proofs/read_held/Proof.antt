@@ -1,6 +1,5 @@
 use Prim.Native.Nat.{ℕ}
 use lib.ListN.{length-replicate}
-use Rattle.dag.specs.ViewLaws.{same-room}
 use Rattle.house_file.specs.FileLaws.{filed-room, done-refused, done-good}
 use native.Mathlib.Omega.{arith}
 use borrow.Author.Needs.{needs}
@@ -21,7 +20,7 @@ put-records-requires c κs =
     let at-file-count = c .before .before in
     let form = at-file-count .before .before .before .pre .0 in
     let counted = at-file-count .file-count .ensures in
-    (omega (arith, form .whole, counted), filed-room _ _ (length-replicate {A = ℕ} 3072 0) (omega (arith, form .head .most, counted)))
+    (omega (arith, form .whole, counted), filed-room _ _ (length-replicate {A = ℕ} _ 0) (omega (arith, form .head .most, counted)))
 
 slice-aggregate-list-check : tie.Need-slice-aggregate-list-check
 slice-aggregate-list-check c = search needs
@@ -35,25 +34,16 @@ enum-known-checked c = search needs
 enum-told : tie.Need-enum-told
 enum-told c = search needs
 
-slice-aggregate-copy-records : tie.Need-slice-aggregate-copy-records
-slice-aggregate-copy-records c = search needs
+slice-aggregate-store-records : tie.Need-slice-aggregate-store-records
+slice-aggregate-store-records c = search needs
 
-copy-records-requires : tie.Need-copy-records-requires
-copy-records-requires c κs =
+store-records-requires : tie.Need-store-records-requires
+store-records-requires c κs =
     let at-put-records = c .before .before .before .before .before .before .before in
     let at-file-count = at-put-records .before .before .before in
     let start = at-file-count .before .before .before in
     let counted = at-file-count .file-count .ensures in
     (filed-room _ _ (at-put-records .put-records .kept .1 .1 .0) (omega (arith, start .pre .0 .head .most, counted)), omega (arith, start .pre .1, counted))
-
-blank-records-requires : tie.Need-blank-records-requires
-blank-records-requires c κs =
-    let at-copy-records = c .before .before .before in
-    let at-list-check = at-copy-records .before .before .before .before .before in
-    let at-file-count = at-list-check .before .before .before .before .before .before in
-    let start = at-file-count .before .before .before in
-    let room = same-room (at-copy-records .copy-records .last .1 .1 .0) (start .args .list .now) (at-copy-records .copy-records .kept .1 .1 .0) in
-    omega (arith, start .pre .1, room, at-file-count .file-count .ensures)
 
 returns : tie.Need-returns
 returns c =
@@ -73,9 +63,8 @@ same-length c = search needs
 
 returns-2 : tie.Need-returns-2
 returns-2 c =
-    let at-blank-records = c .before .before in
-    let at-copy-records = at-blank-records .before .before .before .before in
-    let at-enum-told = at-copy-records .before .before .before in
+    let at-store-records = c .before .before in
+    let at-enum-told = at-store-records .before .before .before in
     let at-list-check = at-enum-told .before .before in
     let at-put-records = at-list-check .before .before .before in
     let at-file-root = at-put-records .before .before in
@@ -84,8 +73,7 @@ returns-2 c =
     let counted = at-file-count .file-count .ensures in
     let room = filed-room _ (at-file-count .file-count .result) (at-put-records .put-records .kept .1 .1 .0) (omega (arith, start .pre .0 .head .most, counted)) in
     done-good (start .args .file .now) (start .args .list .now) _ _ _ counted (at-file-root .file-root .ensures) room (at-put-records .put-records .ensures) _
-    (at-list-check .list-check .ensures) _ _ (at-enum-told .enum-told .given .1) (omega (arith, start .pre .1, counted)) (at-copy-records .copy-records .ensures)
-    (at-blank-records .blank-records .ensures)
+    (at-list-check .list-check .ensures) _ (at-enum-told .enum-told .given .1) (at-store-records .store-records .ensures)
 
 pub read-held-spec : {M : Type 1} → statement M
 read-held-spec =
@@ -99,9 +87,8 @@ read-held-spec =
     list-check-requires
     enum-known-checked
     enum-told
-    slice-aggregate-copy-records
-    copy-records-requires
-    blank-records-requires
+    slice-aggregate-store-records
+    store-records-requires
     returns
     same-length
     returns-2)
