@@ -1,11 +1,13 @@
 -- What the functions of the listing ask and say.
-use Prim.Native.Nat.{ℕ, _≤_}
+use Prim.Native.Nat.{ℕ, _*_, _≤_}
 use mathlib.Core.List.{List, [], _∷_, _++_}
 use mathlib.Core.Path.{_≡_}
 use lib.ListN.{length, take}
+use Rattle.dag.specs.View.{View, interleaved}
 use Rattle.dag.specs.Nodes.{nodes}
 use Rattle.text.specs.Text.{decimal, ended, space}
 use Rattle.text.specs.Contracts.{Laid}
+use Rattle.house_file.specs.File.{mostFiled}
 use Rattle.listing.specs.Listing.{listed, listing}
 
 -- a word, a space, a number and the byte that ends it
@@ -13,14 +15,14 @@ unfoldable pub named : List ℕ → ℕ → ℕ → List ℕ
 named word n end = ended word space ++ ended (decimal n) end
 
 -- the listing of the list that a store holds, with one root
-unfoldable pub answerText : List ℕ → ℕ → ℕ → ℕ → List ℕ
+unfoldable pub answerText : View → ℕ → ℕ → ℕ → List ℕ
 answerText s count root rounds = listed (record { list = nodes s count; roots = root ∷ []; rounds = rounds })
 
 -- the stores that a file's listing takes
 pub record Lent (file list result work out : List ℕ) : Type 0 where
-  pub list-room : 3072 ≤ length list
-  pub result-room : 3072 ≤ length result
-  pub work-room : 6144 ≤ length work
+  pub list-room : mostFiled ≤ interleaved list .room
+  pub result-room : mostFiled ≤ interleaved result .room
+  pub work-room : 2 * mostFiled ≤ interleaved work .room
   pub out-room : length (listing file) ≤ length out
 
 -- the first n bytes of a buffer are an input's: all of them, or as many as the buffer holds

@@ -8,6 +8,7 @@ use native.Mathlib.Numerals.{add-one}
 use native.Mathlib.Omega.{arith}
 use lib.Dec.{lit≤}
 use lib.ListN.{length, length-append}
+use Rattle.dag.specs.View.{View}
 use Rattle.dag.specs.Nodes.{nodes, at, first, second, recordAt}
 use Rattle.dag.specs.NodeLaws.{length-nodes, at-nodes}
 use Rattle.dag.specs.Refusals.{number, place}
@@ -75,7 +76,7 @@ lines-grow l i (suc n) h = go (decLe i n) (lines-grow l i n)
     go (no k) before = rw (let e : i ≡ suc n = omega arith in e) (omega arith)
 
 -- one more record's line has room where all have
-pub lines-fit : (list : List ℕ) (n i : ℕ) (x : NodeKind) → i < n → x ≡ recordAt list i
+pub lines-fit : (list : View) (n i : ℕ) (x : NodeKind) → i < n → x ≡ recordAt list i
     → length (recordLines (nodes list n) i) + length (recordLine i x) ≤ length (recordLines (nodes list n) n)
 unfolding recordLines
 lines-fit list n i x h e =
@@ -84,14 +85,14 @@ lines-fit list n i x h e =
     rw (e ∙ sym (at-nodes list n i h)) (omega (arith, length-append (recordLines l i) (recordLine i (at l i))))
 
 -- one more record's line
-pub lines-more : (list : List ℕ) (n i : ℕ) {s u v : List ℕ} {at q r : ℕ} {x : NodeKind} → Wrote s at (recordLines (nodes list n) i) u q → i < n → x ≡ recordAt list i → Wrote u q (recordLine i x) v r
+pub lines-more : (list : View) (n i : ℕ) {s u v : List ℕ} {at q r : ℕ} {x : NodeKind} → Wrote s at (recordLines (nodes list n) i) u q → i < n → x ≡ recordAt list i → Wrote u q (recordLine i x) v r
     → Wrote s at (recordLines (nodes list n) (i + 1)) v r
 unfolding recordLines
 lines-more list n i before h e w = rw (add-one i) (and-then before (wrote-as (ap (recordLine i) (e ∙ sym (at-nodes list n i h))) w))
 
-pub answer-is : (s : List ℕ) (count root rounds : ℕ) → firstLine count (root ∷ []) rounds ++ recordLines (nodes s count) count ≡ answerText s count root rounds
+pub answer-is : (s : View) (count root rounds : ℕ) → firstLine count (root ∷ []) rounds ++ recordLines (nodes s count) count ≡ answerText s count root rounds
 unfolding answerText listed
 answer-is s count root rounds = rw (length-nodes s count)
 
-pub length-answer : (s : List ℕ) (count root rounds : ℕ) → length (answerText s count root rounds) ≡ length (firstLine count (root ∷ []) rounds) + length (recordLines (nodes s count) count)
+pub length-answer : (s : View) (count root rounds : ℕ) → length (answerText s count root rounds) ≡ length (firstLine count (root ∷ []) rounds) + length (recordLines (nodes s count) count)
 length-answer s count root rounds = sym (ap length (answer-is s count root rounds)) ∙ simp length-append

@@ -3,6 +3,7 @@ use Prim.Native.Nat.{ℕ, zero, suc, _+_, _*_}
 use mathlib.Core.List.{List, [], _∷_, _++_, map}
 use lib.ListN.{length}
 use Rattle.field.specs.Fields.{goldilocks}
+use Rattle.dag.specs.View.{View}
 use Rattle.dag.specs.Nodes.{at, first, second}
 use Rattle.dag.specs.Refusals.{number, place, unlessRefused}
 use Rattle.dag.specs.declared.NodeKind.{NodeKind}
@@ -10,7 +11,7 @@ use Rattle.dag.specs.declared.Refusal.{Refusal}
 use Rattle.normalize.specs.Rounds.{Normal}
 use Rattle.normalize.specs.Calls.{normalizeCheck, normalized}
 use Rattle.text.specs.Text.{ascii, decimal, line}
-use Rattle.house_file.specs.File.{mostFiled, recordPlace, fileCount, fileRoot, fileWords, fileCheck}
+use Rattle.house_file.specs.File.{mostFiled, recordPlace, fileCount, fileRoot, fileView, fileCheck}
 use Rattle.listing.specs.Kinds.{kind}
 
 -- count, root and rounds kept
@@ -36,13 +37,13 @@ unfoldable pub refusedLine : Refusal → List ℕ
 refusedLine r = line (ascii "refused" ∷ decimal (number r) ∷ decimal (place r) ∷ [])
 
 -- what Normalise answers to the list that a store holds
-unfoldable pub wordsListing : List ℕ → ℕ → ℕ → ℕ → ℕ → List ℕ
-wordsListing s n root resultWords workWords =
-    unlessRefused (normalizeCheck goldilocks s n root resultWords workWords) refusedLine (listed (normalized goldilocks s n (root ∷ [])))
+unfoldable pub wordsListing : View → ℕ → ℕ → ℕ → ℕ → List ℕ
+wordsListing s n root resultRoom workRoom =
+    unlessRefused (normalizeCheck goldilocks s n root resultRoom workRoom) refusedLine (listed (normalized goldilocks s n (root ∷ [])))
 
 -- a whole file
 unfoldable pub listing : List ℕ → List ℕ
-listing file = unlessRefused (fileCheck file) refusedLine (listed (normalized goldilocks (fileWords file) (fileCount file) (fileRoot file ∷ [])))
+listing file = unlessRefused (fileCheck file) refusedLine (listed (normalized goldilocks (fileView file) (fileCount file) (fileRoot file ∷ [])))
 
 -- a listing of n records has no more bytes: 81 in its first line, 53 in each other
 abbrev pub mostBytes : ℕ → ℕ

@@ -1,5 +1,5 @@
 -- How long a listing is at most: 53 bytes a record and 81 besides.
-use Prim.Native.Nat.{ℕ, zero, suc, _+_, _*_, _/_, _%_, _^_, _≤_, _<_}
+use Prim.Native.Nat.{ℕ, zero, suc, _*_, _/_, _%_, _^_, _≤_, _<_}
 use mathlib.Core.Bool.{Bool, true, false, _&&_}
 use mathlib.Core.List.{List, [], _∷_}
 use mathlib.Core.Path.{_≡_, refl}
@@ -9,12 +9,13 @@ use lib.Dec.{leb, ltb, eqb}
 use lib.ListN.{getD, length, length-append}
 use Rattle.field.specs.Fields.{Bounds, Within, goldilocks}
 use Rattle.field.specs.Field.{quad, quad-laws}
+use Rattle.dag.specs.View.{View}
 use Rattle.dag.specs.Keys.{fieldCounts, isKey}
 use Rattle.dag.specs.Nodes.{mostRecords, nodes, at, first, second}
 use Rattle.dag.specs.NodeLaws.{length-nodes}
 use Rattle.dag.specs.CaseLaws.{and-true}
 use Rattle.dag.specs.Refusals.{number, place, need, _then_, firstRefused, unlessRefused}
-use Rattle.dag.specs.Check.{formed, earlier, recordCheck, checkAt, recordsCheck, rootlessCheck, listCheck}
+use Rattle.dag.specs.Check.{formed, earlier, recordCheck, checkAt, recordsCheck, roomCheck, rootlessCheck, listCheck}
 use Rattle.dag.specs.CheckLaws.{then-good}
 use Rattle.dag.specs.PassLaws.{Rooted, rooted}
 use Rattle.dag.specs.WellFormed.{Fine, WellFormed}
@@ -32,7 +33,7 @@ use Rattle.normalize.specs.Rounds.{normalize}
 use Rattle.normalize.specs.Calls.{normalized}
 use Rattle.text.specs.Text.{ascii}
 use Rattle.text.specs.DecimalLaws.{number-short}
-use Rattle.house_file.specs.File.{mostFiled, recordPlace, fileCount, fileRoot, fileWords, isCount, headCheck, formCheck, heldCheck, fileCheck}
+use Rattle.house_file.specs.File.{mostFiled, recordPlace, fileCount, fileRoot, fileView, isCount, headCheck, formCheck, heldCheck, fileCheck}
 use Rattle.house_file.specs.FileLaws as FileLaws
 use Rattle.listing.specs.KindLaws.{kind-short}
 use Rattle.listing.specs.LineLaws.{word-short, named-short, length-record, length-first, length-refused}
@@ -82,7 +83,7 @@ first-most count root rounds c r k =
     omega (arith, length-first count root rounds, named-short (ascii "nodes") count 32 c, named-short (ascii "root") root 32 r, named-short (ascii "rounds") rounds 10 k)
 
 -- the listing of what Normalise answers
-listed-most : (s : List ℕ) (n root : ℕ) → Rooted (goldilocks .bounds) s n root → length (listed (normalized goldilocks s n (root ∷ []))) ≤ mostBytes n
+listed-most : (s : View) (n root : ℕ) → Rooted (goldilocks .bounds) s n root → length (listed (normalized goldilocks s n (root ∷ []))) ≤ mostBytes n
 unfolding listed normalized
 listed-most s n root h =
     let l = nodes s n in
@@ -129,13 +130,13 @@ module _ (k : ℕ) where
       (needed (formed m t a b) (Malformed i) (need (earlier t a b i) (OperandNotEarlier i)) (omega arith, h)
       (near-need (earlier t a b i) (OperandNotEarlier i) (omega arith, h)))
 
-  near-list : (m : Bounds) (s : List ℕ) (n root : ℕ) → n ≤ k → Near k (listCheck m s n root)
-  unfolding listCheck rootlessCheck checkAt
+  near-list : (m : Bounds) (s : View) (n root : ℕ) → n ≤ k → Near k (listCheck m s n root)
+  unfolding listCheck rootlessCheck roomCheck checkAt
   near-list m s n root h =
-      near-then (need (leb 1 n && leb n mostRecords) CountOutOfRange then need (leb (3 * n) (length s)) StoreTooShort then recordsCheck m s n) (need (ltb root n) RootOutside)
-      (needed (leb 1 n && leb n mostRecords) CountOutOfRange (need (leb (3 * n) (length s)) StoreTooShort then recordsCheck m s n) (omega arith, omega arith)
-      (needed (leb (3 * n) (length s)) StoreTooShort (recordsCheck m s n) (omega arith, omega arith)
-      (near-first (checkAt m s) n (λ i q. near-record m (getD s (3 * i) 0) (getD s (3 * i + 1) 0) (getD s (3 * i + 2) 0) i (omega arith)))))
+      near-then (need (leb 1 n && leb n mostRecords) CountOutOfRange then need (leb n (s .room)) StoreTooShort then recordsCheck m s n) (need (ltb root n) RootOutside)
+      (needed (leb 1 n && leb n mostRecords) CountOutOfRange (need (leb n (s .room)) StoreTooShort then recordsCheck m s n) (omega arith, omega arith)
+      (needed (leb n (s .room)) StoreTooShort (recordsCheck m s n) (omega arith, omega arith)
+      (near-first (checkAt m s) n (λ i q. near-record m (s .tagWord i) (s .firstWord i) (s .secondWord i) i (omega arith)))))
       (near-need (ltb root n) RootOutside (omega arith, omega arith))
 
 near-form : (file : List ℕ) → Near mostFiled (formCheck file)
@@ -152,8 +153,8 @@ near-file : (file : List ℕ) → Near mostFiled (fileCheck file)
 unfolding fileCheck heldCheck
 near-file file = go (formCheck file) refl (near-form file)
   where
-    go : (c : Checked) → formCheck file ≡ c → Near mostFiled c → Near mostFiled (c then listCheck (goldilocks .bounds) (fileWords file) (fileCount file) (fileRoot file))
-    go Good e p = near-list mostFiled (goldilocks .bounds) (fileWords file) (fileCount file) (fileRoot file) (FileLaws.formed file e .head .most)
+    go : (c : Checked) → formCheck file ≡ c → Near mostFiled c → Near mostFiled (c then listCheck (goldilocks .bounds) (fileView file) (fileCount file) (fileRoot file))
+    go Good e p = near-list mostFiled (goldilocks .bounds) (fileView file) (fileCount file) (fileRoot file) (FileLaws.formed file e .head .most)
     go (Refused r) e p = p
 
 refused-most : (r : Refusal) → Near mostFiled (Refused r) → length (refusedLine r) ≤ 81
@@ -169,10 +170,10 @@ unfolding listing fileCheck heldCheck
 listing-most file = go (fileCheck file) refl (near-file file)
   where
     go : (c : Checked) → fileCheck file ≡ c → Near mostFiled c
-        → length (unlessRefused c refusedLine (listed (normalized goldilocks (fileWords file) (fileCount file) (fileRoot file ∷ [])))) ≤ mostBytes mostFiled
+        → length (unlessRefused c refusedLine (listed (normalized goldilocks (fileView file) (fileCount file) (fileRoot file ∷ [])))) ≤ mostBytes mostFiled
     go Good e p =
         let both = then-good (formCheck file) (heldCheck file) e in
         let f = FileLaws.formed file (both .0) .head .most in
-        let m = listed-most (fileWords file) (fileCount file) (fileRoot file) (rooted (goldilocks .bounds) (fileWords file) (fileCount file) (fileRoot file) (both .1)) in
+        let m = listed-most (fileView file) (fileCount file) (fileRoot file) (rooted (goldilocks .bounds) (fileView file) (fileCount file) (fileRoot file) (both .1)) in
         omega arith
     go (Refused r) e p = let m = refused-most r p in omega arith

@@ -9,8 +9,9 @@ pub mod kinds;
 
 ghost use mathlib.Core.Path.{_≡_};
 ghost use mathlib.Core.List.{[], _∷_};
-ghost use Prim.Native.Nat.{_+_, _*_, _≤_};
+ghost use Prim.Native.Nat.{_+_, _≤_};
 ghost use lib.ListN.{length, take};
+ghost use Rattle.dag.specs.View.{interleaved};
 ghost use Rattle.dag.specs.Nodes as Nodes;
 ghost use Rattle.text.specs.Text.{endByte, laid};
 ghost use Rattle.text.specs.Contracts.{Wrote, Laid};
@@ -36,8 +37,8 @@ fn put_record(out: &mut [u8], at: usize, i: usize, x: NodeKind) -> usize
 
 // Writes the lines of the first n records of a list.
 fn put_records(out: &mut [u8], at: usize, list: &[u64], n: usize) -> usize
-    requires { ⌜ (3 * n ≤ length (now list)) × (at + length (Listing.recordLines (Nodes.nodes (now list) n) n) ≤ length (now out)) ⌝ }
-    ensures { λ r. ⌜ Wrote (now (out .entry)) at (Listing.recordLines (Nodes.nodes (now (list .entry)) n) n) (now (out .exit)) r ⌝ }
+    requires { ⌜ (n ≤ interleaved (now list) .room) × (at + length (Listing.recordLines (Nodes.nodes (interleaved (now list)) n) n) ≤ length (now out)) ⌝ }
+    ensures { λ r. ⌜ Wrote (now (out .entry)) at (Listing.recordLines (Nodes.nodes (interleaved (now (list .entry))) n) n) (now (out .exit)) r ⌝ }
 {
     let mut next = at;
     let mut i = 0;
@@ -58,25 +59,19 @@ fn put_named(out: &mut [u8], at: usize, name: &[u8], n: u64, end: End) -> usize
 }
 
 // Writes a listing's first line.
-fn put_first(out: &mut [u8], count: usize, root: usize, rounds: usize) -> usize
+fn put_first(out: &mut [u8], count: usize, root: u64, rounds: usize) -> usize
     requires { ⌜ length (Listing.firstLine count (root ∷ []) rounds) ≤ length (now out) ⌝ }
     ensures { λ r. ⌜ Wrote (now (out .entry)) 0 (Listing.firstLine count (root ∷ []) rounds) (now (out .exit)) r ⌝ }
 {
     let a = put_named(out, 0, b"nodes", count as u64, End::Space);
-    let b = put_named(out, a, b"root", root as u64, End::Space);
+    let b = put_named(out, a, b"root", root, End::Space);
     put_named(out, b, b"rounds", rounds as u64, End::Newline)
 }
 
 // Writes the listing of an answer: a first line, then a line a record. Answers its length.
-pub fn write_listing(
-    list: &[u64],
-    count: usize,
-    root: usize,
-    rounds: usize,
-    out: &mut [u8],
-) -> usize
-    requires { ⌜ (3 * count ≤ length (now list)) × (length (Contracts.answerText (now list) count root rounds) ≤ length (now out)) ⌝ }
-    ensures { λ r. ⌜ Laid (now (out .entry)) (Contracts.answerText (now (list .entry)) count root rounds) (now (out .exit)) r ⌝ }
+pub fn write_listing(list: &[u64], count: usize, root: u64, rounds: usize, out: &mut [u8]) -> usize
+    requires { ⌜ (count ≤ interleaved (now list) .room) × (length (Contracts.answerText (interleaved (now list)) count root rounds) ≤ length (now out)) ⌝ }
+    ensures { λ r. ⌜ Laid (now (out .entry)) (Contracts.answerText (interleaved (now (list .entry))) count root rounds) (now (out .exit)) r ⌝ }
 {
     let lines = put_first(out, count, root, rounds);
     let end = put_records(out, lines, list, count);
@@ -104,8 +99,8 @@ fn list_words(
     work: &mut [u64],
     out: &mut [u8],
 ) -> usize
-    requires { ⌜ length (Listing.wordsListing (now list) n root (length (now result)) (length (now work))) ≤ length (now out) ⌝ }
-    ensures { λ r. ⌜ Laid (now (out .entry)) (Listing.wordsListing (now (list .entry)) n root (length (now (result .entry))) (length (now (work .entry)))) (now (out .exit)) r ⌝ }
+    requires { ⌜ length (Listing.wordsListing (interleaved (now list)) n root (interleaved (now result) .room) (interleaved (now work) .room)) ≤ length (now out) ⌝ }
+    ensures { λ r. ⌜ Laid (now (out .entry)) (Listing.wordsListing (interleaved (now (list .entry))) n root (interleaved (now (result .entry)) .room) (interleaved (now (work .entry)) .room)) (now (out .exit)) r ⌝ }
 {
     let answer = normalize::normalize(list, n, root, result, work);
     let checked = answer.checked;
@@ -116,7 +111,7 @@ fn list_words(
             write_listing(
                 result,
                 answer.count,
-                dag::root_at(roots, 0),
+                dag::first_root(roots),
                 answer.rounds,
                 out,
             )
@@ -138,10 +133,7 @@ fn list_in(
     let answer = house_file::read_file(file, list);
     match answer {
         FileAnswer::Refused(r) => write_refused(r, out),
-        FileAnswer::Read { count, root } => {
-            let m = 3 * count;
-            list_words(&list[..m], count, root, result, work, out)
-        }
+        FileAnswer::Read { count, root } => list_words(list, count, root, result, work, out),
     }
 }
 
@@ -152,9 +144,9 @@ pub fn list_file(file: &[u8], out: &mut [u8]) -> usize
     ensures text { λ _. ⌜ now (out .exit) ≡ laid (length (now (out .entry))) (Listing.listing (now (file .entry))) ⌝ }
     ensures fits { λ r. ⌜ r ≤ length (now (out .exit)) ⌝ }
 {
-    let mut list = [0u64; 3072];
-    let mut result = [0u64; 3072];
-    let mut work = [0u64; 6144];
+    let mut list = [0u64; house_file::FILED_WORDS];
+    let mut result = [0u64; house_file::FILED_WORDS];
+    let mut work = [0u64; 2 * house_file::FILED_WORDS];
     list_in(file, &mut list, &mut result, &mut work, out)
 }
 

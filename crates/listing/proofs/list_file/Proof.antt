@@ -1,3 +1,6 @@
+use Prim.Native.Nat.{ℕ}
+use lib.ListN.{length-replicate}
+use Rattle.listing.specs.CallLaws.{lent}
 use native.Mathlib.Omega.{arith}
 use borrow.Author.Needs.{needs}
 use Rattle.listing.proofs.list_file.Statement.{statement}
@@ -13,7 +16,7 @@ slice-aggregate-list-in-3 : tie.Need-slice-aggregate-list-in-3
 slice-aggregate-list-in-3 c = search needs
 
 list-in-requires : tie.Need-list-in-requires
-list-in-requires c κs = search needs
+list-in-requires c κs = lent _ _ _ _ _ (length-replicate {A = ℕ} _ 0) (length-replicate {A = ℕ} _ 0) (length-replicate {A = ℕ} _ 0) (search needs)
 
 same-length : tie.Need-same-length
 same-length c = search needs

@@ -1,9 +1,9 @@
-use mathlib.Core.Path.{refl, sym, ap}
+use mathlib.Core.Path.{ap}
 use native.Mathlib.Omega.{arith}
-use lib.Seq.{length-take-le}
 use lib.ListN.{length}
+use Rattle.dag.specs.View.{interleaved}
 use Rattle.dag.specs.BranchLaws.{told}
-use Rattle.listing.specs.CallLaws.{laid-as, few, file-refused, file-done}
+use Rattle.listing.specs.CallLaws.{laid-as, file-refused, file-done}
 use borrow.Author.Needs.{needs}
 use Rattle.listing.proofs.list_in.Statement.{statement}
 use Rattle.listing.proofs.list_in.Tie as tie
@@ -22,61 +22,25 @@ write-refused-requires c κs =
     omega (
       arith,
       start .pre .out-room,
-      ap length (file-refused (start .args .file .now) (length (start .args .list .now)) (start .pre .list-room) _
+      ap length (file-refused (start .args .file .now) (start .args .list .now) (start .pre .list-room) _
           (told (at-read-file .read-file .ensures .0) (at-answer .answer .given .1))),
     )
 
 enum-known-answer-2 : tie.Need-enum-known-answer-2
 enum-known-answer-2 c = search needs
 
-mul-m : tie.Need-mul-m
-mul-m c =
-    let at-answer2 = c .before in
-    let at-read-file = at-answer2 .before .before .before .before in
-    let start = at-read-file .before .before .before .before .before .before .before in
-    omega (
-      arith,
-      few (start .args .file .now) (length (start .args .list .now)) (start .pre .list-room) _ _
-          (told (at-read-file .read-file .ensures .0) (at-answer2 .answer2 .given .1)),
-    )
-
-slice-reshare-prefix-list-words : tie.Need-slice-reshare-prefix-list-words
-slice-reshare-prefix-list-words c =
-    let at-answer2 = c .before in
-    let at-read-file = at-answer2 .before .before .before .before in
-    let start = at-read-file .before .before .before .before .before .before .before in
-    omega (
-      arith,
-      few (start .args .file .now) (length (start .args .list .now)) (start .pre .list-room) _ _
-          (told (at-read-file .read-file .ensures .0) (at-answer2 .answer2 .given .1)),
-      at-read-file .read-file .kept .1 .0,
-      start .pre .list-room,
-    )
-
-slice-aggregate-list-words : tie.Need-slice-aggregate-list-words
-slice-aggregate-list-words c =
-    let at-answer2 = c .before .before in
-    let at-read-file = at-answer2 .before .before .before .before in
-    let start = at-read-file .before .before .before .before .before .before .before in
-    sym (length-take-le _ _ (omega (
-      arith,
-      few (start .args .file .now) (length (start .args .list .now)) (start .pre .list-room) _ _
-          (told (at-read-file .read-file .ensures .0) (at-answer2 .answer2 .given .1)),
-      at-read-file .read-file .kept .1 .0,
-      start .pre .list-room,
-    )))
-
 list-words-requires : tie.Need-list-words-requires
 list-words-requires c κs =
     let at-answer2 = c .before .before .before .before .before in
     let at-read-file = at-answer2 .before .before .before .before in
     let start = at-read-file .before .before .before .before .before .before .before in
+    let read = told (at-read-file .read-file .ensures .0) (at-answer2 .answer2 .given .1) in
     omega (
       arith,
       start .pre .out-room,
-      ap length (file-done (start .args .file .now) (length (start .args .list .now)) (start .pre .list-room) _ _
-          (told (at-read-file .read-file .ensures .0) (at-answer2 .answer2 .given .1)) (start .args .list .now) _ refl
-          (at-read-file .read-file .ensures .1) (length (start .args .result .now)) (length (start .args .work .now)) (start .pre .result-room) (start .pre .work-room)),
+      ap length (file-done (start .args .file .now) (start .args .list .now) (start .pre .list-room) _ _ read
+          (interleaved (start .args .result .now) .room) (interleaved (start .args .work .now) .room) (start .pre .result-room) (start .pre .work-room) _
+          (at-read-file .read-file .kept .1 .0) (at-read-file .read-file .ensures .1)),
     )
 
 same-length : tie.Need-same-length
@@ -91,7 +55,7 @@ returns c =
     let at-answer = at-write-refused .before .before .before in
     let at-read-file = at-answer .before .before .before .before in
     let start = at-read-file .before .before .before .before .before .before .before in
-    laid-as (file-refused (start .args .file .now) (length (start .args .list .now)) (start .pre .list-room) _
+    laid-as (file-refused (start .args .file .now) (start .args .list .now) (start .pre .list-room) _
     (told (at-read-file .read-file .ensures .0) (at-answer .answer .given .1))) (at-write-refused .write-refused .ensures)
 
 same-length-3 : tie.Need-same-length-3
@@ -112,9 +76,9 @@ returns-2 c =
     let at-answer2 = at-list-words .before .before .before .before .before .before in
     let at-read-file = at-answer2 .before .before .before .before in
     let start = at-read-file .before .before .before .before .before .before .before in
-    laid-as (file-done (start .args .file .now) (length (start .args .list .now)) (start .pre .list-room) _ _
-    (told (at-read-file .read-file .ensures .0) (at-answer2 .answer2 .given .1)) (start .args .list .now) _ refl
-    (at-read-file .read-file .ensures .1) _ _ (start .pre .result-room) (start .pre .work-room)) (at-list-words .list-words .ensures)
+    let read = told (at-read-file .read-file .ensures .0) (at-answer2 .answer2 .given .1) in
+    laid-as (file-done (start .args .file .now) (start .args .list .now) (start .pre .list-room) _ _ read _ _ (start .pre .result-room) (start .pre .work-room) _
+    (at-read-file .read-file .kept .1 .0) (at-read-file .read-file .ensures .1)) (at-list-words .list-words .ensures)
 
 pub list-in-spec : {M : Type 1} → statement M
 list-in-spec =
@@ -124,9 +88,6 @@ list-in-spec =
     enum-known-answer
     write-refused-requires
     enum-known-answer-2
-    mul-m
-    slice-reshare-prefix-list-words
-    slice-aggregate-list-words
     list-words-requires
     same-length
     same-length-2

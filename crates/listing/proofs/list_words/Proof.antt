@@ -1,7 +1,8 @@
 use mathlib.Core.Path.{ap}
 use native.Mathlib.Omega.{arith}
 use lib.ListN.{length}
-use Rattle.listing.specs.CallLaws.{laid-as, words-refused, words-listed, may-list, may-read}
+use Rattle.dag.specs.View.{interleaved}
+use Rattle.listing.specs.CallLaws.{laid-as, words-refused, words-listed, may-list}
 use borrow.Author.Needs.{needs}
 use Rattle.listing.proofs.list_words.Statement.{statement}
 use Rattle.listing.proofs.list_words.Tie as tie
@@ -20,33 +21,28 @@ write-refused-requires c κs =
     omega (
       arith,
       start .pre,
-      ap length (words-refused (start .args .list .now) (start .args .n) (start .args .root) (start .args .result .now) (length (start .args .work .now)) _ (at-normalize .normalize .ensures .0) _
+      ap length (words-refused (start .args .list .now) (start .args .n) (start .args .root) (start .args .result .now) (interleaved (start .args .work .now) .room) _ (at-normalize .normalize .ensures .0) _
           (at-checked .checked .given .1)),
     )
 
 enum-told : tie.Need-enum-told
 enum-told c = search needs
 
-root-at-requires : tie.Need-root-at-requires
-root-at-requires c κs =
-    let at-told = c .before .before in
-    let at-normalize = at-told .before .before .before .before .before .before in
-    let start = at-normalize .before .before .before .before .before .before .before in
-    may-read (start .args .list .now) (start .args .n) (start .args .root) (start .args .result .now) (length (start .args .work .now)) _ (at-normalize .normalize .ensures .0)
-    (at-told .enum-told .given .1)
+first-root-requires : tie.Need-first-root-requires
+first-root-requires c κs = search needs
 
 write-listing-requires : tie.Need-write-listing-requires
 write-listing-requires c κs =
     let at-told = c .before .before .before .before in
     let at-normalize = at-told .before .before .before .before .before .before in
     let start = at-normalize .before .before .before .before .before .before .before in (
-      may-list (start .args .list .now) (start .args .n) (start .args .root) (start .args .result .now) (length (start .args .work .now)) _ (at-normalize .normalize .ensures .0)
+      may-list (start .args .list .now) (start .args .n) (start .args .root) (start .args .result .now) (interleaved (start .args .work .now) .room) _ (at-normalize .normalize .ensures .0)
           (at-told .enum-told .given .1) _ (at-normalize .normalize .kept .1 .1 .1 .0),
       omega (
         arith,
         start .pre,
-        ap length (words-listed (start .args .list .now) (start .args .n) (start .args .root) (start .args .result .now) (length (start .args .work .now)) _ (at-normalize .normalize .ensures .0)
-            (at-told .enum-told .given .1) _ _ (at-normalize .normalize .ensures .1 .0) (c .before .root-at .ensures)),
+        ap length (words-listed (start .args .list .now) (start .args .n) (start .args .root) (start .args .result .now) (interleaved (start .args .work .now) .room) _ (at-normalize .normalize .ensures .0)
+            (at-told .enum-told .given .1) _ _ (at-normalize .normalize .ensures .1 .0) (c .before .first-root .ensures)),
       ),
     )
 
@@ -65,7 +61,7 @@ returns c =
     let at-checked = at-write-refused .before .before .before in
     let at-normalize = at-checked .before .before .before .before .before .before in
     let start = at-normalize .before .before .before .before .before .before .before in
-    laid-as (words-refused (start .args .list .now) (start .args .n) (start .args .root) (start .args .result .now) (length (start .args .work .now)) _ (at-normalize .normalize .ensures .0) _
+    laid-as (words-refused (start .args .list .now) (start .args .n) (start .args .root) (start .args .result .now) (interleaved (start .args .work .now) .room) _ (at-normalize .normalize .ensures .0) _
     (at-checked .checked .given .1)) (at-write-refused .write-refused .ensures)
 
 same-length-4 : tie.Need-same-length-4
@@ -80,12 +76,12 @@ same-length-6 c = search needs
 returns-2 : tie.Need-returns-2
 returns-2 c =
     let at-write-listing = c .before .before in
-    let at-root-at = at-write-listing .before .before in
-    let at-told = at-root-at .before .before .before in
+    let at-first-root = at-write-listing .before .before in
+    let at-told = at-first-root .before .before .before in
     let at-normalize = at-told .before .before .before .before .before .before in
     let start = at-normalize .before .before .before .before .before .before .before in
-    laid-as (words-listed (start .args .list .now) (start .args .n) (start .args .root) (start .args .result .now) (length (start .args .work .now)) _ (at-normalize .normalize .ensures .0)
-    (at-told .enum-told .given .1) _ _ (at-normalize .normalize .ensures .1 .0) (at-root-at .root-at .ensures)) (at-write-listing .write-listing .ensures)
+    laid-as (words-listed (start .args .list .now) (start .args .n) (start .args .root) (start .args .result .now) (interleaved (start .args .work .now) .room) _ (at-normalize .normalize .ensures .0)
+    (at-told .enum-told .given .1) _ _ (at-normalize .normalize .ensures .1 .0) (at-first-root .first-root .ensures)) (at-write-listing .write-listing .ensures)
 
 pub list-words-spec : {M : Type 1} → statement M
 list-words-spec =
@@ -95,7 +91,7 @@ list-words-spec =
     enum-known-checked
     write-refused-requires
     enum-told
-    root-at-requires
+    first-root-requires
     write-listing-requires
     same-length
     same-length-2

@@ -3,6 +3,7 @@ use native.Mathlib.Nat.{le-antisymm}
 use native.Mathlib.Omega.{arith}
 use Rattle.text.specs.WritingLaws.{wrote-nothing, wrote-length}
 use Rattle.text.specs.Contracts.{Wrote}
+use Rattle.dag.specs.View.{interleaved}
 use Rattle.dag.specs.Nodes as Nodes
 use Rattle.listing.specs.LineLaws.{lines-fit, lines-more}
 use Rattle.listing.specs.Listing as Listing
@@ -10,7 +11,7 @@ use Rattle.listing.proofs.put_records.Statement.{statement}
 use Rattle.listing.proofs.put_records.Tie as tie
 
 abbrev Inv-loop : tie.InvT-loop
-Inv-loop out₀ at list n next₀ i₀ out next i = (i ≤ n) × Wrote out₀ at (Listing.recordLines (Nodes.nodes list n) i) out next
+Inv-loop out₀ at list n next₀ i₀ out next i = (i ≤ n) × Wrote out₀ at (Listing.recordLines (Nodes.nodes (interleaved list) n) i) out next
 
 abbrev μ-loop : tie.MeasureT-loop
 μ-loop out₀ at list n next₀ i₀ out next i = n - i
@@ -30,7 +31,7 @@ put-record-requires c κs =
     omega (
       arith,
       start .pre .1,
-      lines-fit (start .args .list .now) (start .args .n) (at-loop .loop .i) (c .node-at .result) (at-loop-test .loop-test .taken) (c .node-at .ensures),
+      lines-fit (interleaved (start .args .list .now)) (start .args .n) (at-loop .loop .i) (c .node-at .result) (at-loop-test .loop-test .taken) (c .node-at .ensures),
       wrote-length (at-loop .loop .inv .1),
       at-loop .loop .inv .1 .end-is,
     )
@@ -49,7 +50,7 @@ loop-again c =
     let at-loop = at-loop-test .before in
     let start = at-loop .before .before .before in (
       omega arith,
-      lines-more (start .args .list .now) (start .args .n)
+      lines-more (interleaved (start .args .list .now)) (start .args .n)
           (at-loop .loop .i) (at-loop .loop .inv .1) (at-loop-test .loop-test .taken) (at-node-at .node-at .ensures)
           (at-put-record .put-record .ensures),
     )

@@ -1,4 +1,5 @@
 use native.Mathlib.Omega.{arith}
+use Rattle.dag.specs.View.{interleaved}
 use Rattle.text.specs.WritingLaws.{and-then, wrote-as, wrote-laid}
 use Rattle.listing.specs.LineLaws.{length-answer, answer-is}
 use borrow.Author.Needs.{needs}
@@ -8,7 +9,7 @@ use Rattle.listing.proofs.write_listing.Tie as tie
 put-first-requires : tie.Need-put-first-requires
 put-first-requires c κs =
     let start = c .before .before .before in
-    omega (arith, start .pre .1, length-answer (start .args .list .now) (start .args .count) (start .args .root) (start .args .rounds))
+    omega (arith, start .pre .1, length-answer (interleaved (start .args .list .now)) (start .args .count) (start .args .root) (start .args .rounds))
 
 put-records-requires : tie.Need-put-records-requires
 put-records-requires c κs =
@@ -18,7 +19,7 @@ put-records-requires c κs =
       omega (
         arith,
         start .pre .1,
-        length-answer (start .args .list .now) (start .args .count) (start .args .root) (start .args .rounds),
+        length-answer (interleaved (start .args .list .now)) (start .args .count) (start .args .root) (start .args .rounds),
         at-put-first .put-first .ensures .end-is,
         at-put-first .put-first .kept .0,
       ),
