@@ -9,10 +9,11 @@ use lib.Dec.{leb}
 use Rattle.recorded.specs.Stream.{word, behind, past, places, fit, holdAll}
 use Rattle.recorded.specs.Contracts.{Laid}
 use Rattle.recorded.specs.declared.Trio.{Trio}
-use Rattle.replay.specs.Cases.{stores, shapeOf, partsOf, answered, room, same, placeOf, matched}
-use Rattle.replay.specs.Contracts.{Asked}
-use Rattle.replay.specs.declared.calls.Call.{Call}
-use Rattle.replay.specs.declared.calls.Shape.{Shape}
+use Rattle.recorded_calls.specs.Calls.{shapeOf, stores}
+use Rattle.recorded_calls.specs.Contracts.{Asked}
+use Rattle.recorded_calls.specs.declared.Call.{Call}
+use Rattle.recorded_calls.specs.declared.Shape.{Shape}
+use Rattle.replay.specs.Cases.{partsOf, answered, room, same, placeOf, matched}
 use Rattle.replay.specs.declared.Parts.{Parts}
 
 -- a call on the stores laid for a case, and what is held of them then

@@ -1,10 +1,5 @@
 // Replays recorded answers of the Rust (crates/recorded), made by: ./differential record --out crates/replay/stdin
 // A section for each call: the call's number, the number of cases, the number of their words, and those words.
-mod calls;
-
-use calls::Call;
-use calls::ask;
-use calls::shape_of;
 use libc::STDOUT_FILENO;
 use recorded::Trio;
 use recorded::both;
@@ -16,6 +11,9 @@ use recorded::past;
 use recorded::places;
 use recorded::skip;
 use recorded::word;
+use recorded_calls::Call;
+use recorded_calls::ask;
+use recorded_calls::shape_of;
 ghost use mathlib.Core.Bool.{cond, true};
 ghost use mathlib.Core.Path.{_≡_};
 ghost use Prim.Native.Nat.{_≤_};

@@ -1,8 +1,8 @@
 use mathlib.Core.Path.{refl}
-use Rattle.replay.specs.Cases.{outcome}
+use Rattle.recorded_calls.specs.Calls.{outcome}
 use borrow.Author.Needs.{needs}
-use Rattle.replay.proofs.calls.ask.Statement.{statement}
-use Rattle.replay.proofs.calls.ask.Tie as tie
+use Rattle.recorded_calls.proofs.ask.Statement.{statement}
+use Rattle.recorded_calls.proofs.ask.Tie as tie
 
 enum-told : tie.Need-enum-told
 enum-told c = search needs

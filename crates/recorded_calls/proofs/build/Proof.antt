@@ -1,8 +1,8 @@
 use mathlib.Core.Path.{refl}
-use Rattle.replay.specs.Cases.{outcome}
+use Rattle.recorded_calls.specs.Calls.{outcome}
 use borrow.Author.Needs.{needs}
-use Rattle.replay.proofs.calls.normalize.Statement.{statement}
-use Rattle.replay.proofs.calls.normalize.Tie as tie
+use Rattle.recorded_calls.proofs.build.Statement.{statement}
+use Rattle.recorded_calls.proofs.build.Tie as tie
 
 number-requires : tie.Need-number-requires
 number-requires c κs = search needs
@@ -10,8 +10,8 @@ number-requires c κs = search needs
 number-requires-2 : tie.Need-number-requires-2
 number-requires-2 c κs = search needs
 
-ace-normalize-requires : tie.Need-ace-normalize-requires
-ace-normalize-requires c κs = search needs
+ace-build-requires : tie.Need-ace-build-requires
+ace-build-requires c κs = search needs
 
 answers-requires : tie.Need-answers-requires
 answers-requires c κs = search needs
@@ -26,13 +26,13 @@ returns : tie.Need-returns
 unfolding outcome
 returns c = record { told = cc; first = cc; second = cc; third = refl }
 
-pub normalize-spec : {M : Type 1} → statement M
-normalize-spec =
+pub build-spec : {M : Type 1} → statement M
+build-spec =
     tie.close
     (tie.spec
     number-requires
     number-requires-2
-    ace-normalize-requires
+    ace-build-requires
     answers-requires
     same-length
     same-length-2

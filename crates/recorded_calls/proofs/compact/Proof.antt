@@ -1,8 +1,8 @@
 use mathlib.Core.Path.{refl}
-use Rattle.replay.specs.Cases.{outcome}
+use Rattle.recorded_calls.specs.Calls.{outcome}
 use borrow.Author.Needs.{needs}
-use Rattle.replay.proofs.calls.build.Statement.{statement}
-use Rattle.replay.proofs.calls.build.Tie as tie
+use Rattle.recorded_calls.proofs.compact.Statement.{statement}
+use Rattle.recorded_calls.proofs.compact.Tie as tie
 
 number-requires : tie.Need-number-requires
 number-requires c κs = search needs
@@ -10,8 +10,8 @@ number-requires c κs = search needs
 number-requires-2 : tie.Need-number-requires-2
 number-requires-2 c κs = search needs
 
-ace-build-requires : tie.Need-ace-build-requires
-ace-build-requires c κs = search needs
+ace-compact-requires : tie.Need-ace-compact-requires
+ace-compact-requires c κs = search needs
 
 answers-requires : tie.Need-answers-requires
 answers-requires c κs = search needs
@@ -19,21 +19,17 @@ answers-requires c κs = search needs
 same-length : tie.Need-same-length
 same-length c = search needs
 
-same-length-2 : tie.Need-same-length-2
-same-length-2 c = search needs
-
 returns : tie.Need-returns
 unfolding outcome
-returns c = record { told = cc; first = cc; second = cc; third = refl }
+returns c = record { told = cc; first = cc; second = refl; third = refl }
 
-pub build-spec : {M : Type 1} → statement M
-build-spec =
+pub compact-spec : {M : Type 1} → statement M
+compact-spec =
     tie.close
     (tie.spec
     number-requires
     number-requires-2
-    ace-build-requires
+    ace-compact-requires
     answers-requires
     same-length
-    same-length-2
     returns)

@@ -1,8 +1,8 @@
 use mathlib.Core.Path.{refl}
-use Rattle.replay.specs.Cases.{outcome}
+use Rattle.recorded_calls.specs.Calls.{outcome}
 use borrow.Author.Needs.{needs}
-use Rattle.replay.proofs.calls.evaluate.Statement.{statement}
-use Rattle.replay.proofs.calls.evaluate.Tie as tie
+use Rattle.recorded_calls.proofs.evaluate.Statement.{statement}
+use Rattle.recorded_calls.proofs.evaluate.Tie as tie
 
 number-requires : tie.Need-number-requires
 number-requires c κs = search needs

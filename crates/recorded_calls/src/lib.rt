@@ -4,8 +4,8 @@ use recorded::number;
 ghost use mathlib.Core.List.{[]};
 ghost use mathlib.Core.Path.{_≡_};
 ghost use Rattle.recorded.specs.Stream as Stream;
-ghost use Rattle.replay.specs.Cases.{shape, shapeOf, stores};
-ghost use Rattle.replay.specs.Contracts.{Asked};
+ghost use Rattle.recorded_calls.specs.Calls.{shape, shapeOf, stores};
+ghost use Rattle.recorded_calls.specs.Contracts.{Asked};
 
 // A call.
 pub enum Call {

@@ -1,7 +1,7 @@
-use Rattle.replay.specs.Cases.{shapeOf}
+use Rattle.recorded_calls.specs.Calls.{shapeOf}
 use borrow.Author.Needs.{needs}
-use Rattle.replay.proofs.calls.shape_of.Statement.{statement}
-use Rattle.replay.proofs.calls.shape_of.Tie as tie
+use Rattle.recorded_calls.proofs.shape_of.Statement.{statement}
+use Rattle.recorded_calls.proofs.shape_of.Tie as tie
 
 enum-told : tie.Need-enum-told
 enum-told c = search needs

@@ -1,8 +1,8 @@
 use mathlib.Core.Path.{refl}
-use Rattle.replay.specs.Cases.{outcome}
+use Rattle.recorded_calls.specs.Calls.{outcome}
 use borrow.Author.Needs.{needs}
-use Rattle.replay.proofs.calls.prepare.Statement.{statement}
-use Rattle.replay.proofs.calls.prepare.Tie as tie
+use Rattle.recorded_calls.proofs.prepare.Statement.{statement}
+use Rattle.recorded_calls.proofs.prepare.Tie as tie
 
 ace-prepare-requires : tie.Need-ace-prepare-requires
 ace-prepare-requires c κs = search needs

@@ -4,8 +4,8 @@ use mathlib.Core.Bool.{Bool}
 use mathlib.Core.List.{List}
 use mathlib.Core.Path.{_≡_}
 use Rattle.recorded.specs.Stream.{follows}
-use Rattle.replay.specs.Cases.{Stores, number, outcome}
-use Rattle.replay.specs.declared.calls.Call.{Call}
+use Rattle.recorded_calls.specs.Calls.{Stores, number, outcome}
+use Rattle.recorded_calls.specs.declared.Call.{Call}
 
 -- the case at a place, in the stores r that its call reads and w that it writes: whether the answer recorded at `said` is the call's; x to z are the written stores after it
 pub record Asked (call : Call) (s : List ℕ) (at said : ℕ) (r w : Stores) (same : Bool) (x y z : List ℕ) : Type 0 where

@@ -1,8 +1,8 @@
 use mathlib.Core.Path.{_∙_}
-use Rattle.replay.specs.Cases.{outcome}
+use Rattle.recorded_calls.specs.Calls.{outcome}
 use borrow.Author.Needs.{needs}
-use Rattle.replay.proofs.calls.lower.Statement.{statement}
-use Rattle.replay.proofs.calls.lower.Tie as tie
+use Rattle.recorded_calls.proofs.lower.Statement.{statement}
+use Rattle.recorded_calls.proofs.lower.Tie as tie
 
 number-requires : tie.Need-number-requires
 number-requires c κs = search needs

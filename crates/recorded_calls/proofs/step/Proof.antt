@@ -1,8 +1,8 @@
 use mathlib.Core.Path.{refl}
-use Rattle.replay.specs.Cases.{outcome}
+use Rattle.recorded_calls.specs.Calls.{outcome}
 use borrow.Author.Needs.{needs}
-use Rattle.replay.proofs.calls.compact.Statement.{statement}
-use Rattle.replay.proofs.calls.compact.Tie as tie
+use Rattle.recorded_calls.proofs.step.Statement.{statement}
+use Rattle.recorded_calls.proofs.step.Tie as tie
 
 number-requires : tie.Need-number-requires
 number-requires c κs = search needs
@@ -10,8 +10,14 @@ number-requires c κs = search needs
 number-requires-2 : tie.Need-number-requires-2
 number-requires-2 c κs = search needs
 
-ace-compact-requires : tie.Need-ace-compact-requires
-ace-compact-requires c κs = search needs
+number-requires-3 : tie.Need-number-requires-3
+number-requires-3 c κs = search needs
+
+number-requires-4 : tie.Need-number-requires-4
+number-requires-4 c κs = search needs
+
+ace-step-requires : tie.Need-ace-step-requires
+ace-step-requires c κs = search needs
 
 answers-requires : tie.Need-answers-requires
 answers-requires c κs = search needs
@@ -23,13 +29,15 @@ returns : tie.Need-returns
 unfolding outcome
 returns c = record { told = cc; first = cc; second = refl; third = refl }
 
-pub compact-spec : {M : Type 1} → statement M
-compact-spec =
+pub step-spec : {M : Type 1} → statement M
+step-spec =
     tie.close
     (tie.spec
     number-requires
     number-requires-2
-    ace-compact-requires
+    number-requires-3
+    number-requires-4
+    ace-step-requires
     answers-requires
     same-length
     returns)

@@ -1,0 +1,39 @@
+use mathlib.Core.Path.{refl}
+use Rattle.recorded_calls.specs.Calls.{outcome}
+use borrow.Author.Needs.{needs}
+use Rattle.recorded_calls.proofs.normalize.Statement.{statement}
+use Rattle.recorded_calls.proofs.normalize.Tie as tie
+
+number-requires : tie.Need-number-requires
+number-requires c κs = search needs
+
+number-requires-2 : tie.Need-number-requires-2
+number-requires-2 c κs = search needs
+
+ace-normalize-requires : tie.Need-ace-normalize-requires
+ace-normalize-requires c κs = search needs
+
+answers-requires : tie.Need-answers-requires
+answers-requires c κs = search needs
+
+same-length : tie.Need-same-length
+same-length c = search needs
+
+same-length-2 : tie.Need-same-length-2
+same-length-2 c = search needs
+
+returns : tie.Need-returns
+unfolding outcome
+returns c = record { told = cc; first = cc; second = cc; third = refl }
+
+pub normalize-spec : {M : Type 1} → statement M
+normalize-spec =
+    tie.close
+    (tie.spec
+    number-requires
+    number-requires-2
+    ace-normalize-requires
+    answers-requires
+    same-length
+    same-length-2
+    returns)
