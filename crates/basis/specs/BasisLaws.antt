@@ -10,7 +10,6 @@ use lib.ListN.{getD, length, take, replicate}
 use lib.Seq.{take-at}
 use Rattle.field.specs.Fields.{Field, modulus, coordinateLaws}
 use Rattle.ring.specs.Power.{low-pow}
-use Rattle.field.specs.Field.{felt}
 use Rattle.columns.specs.Columns.{logLength, offset, values}
 use Rattle.columns.specs.Prepare.{allBelow}
 use Rattle.dag.specs.Arrays.{upTo, padded}

@@ -6,12 +6,11 @@ use mathlib.Core.Path.{_≡_, sym, _∙_, ap}
 use native.Mathlib.Numerals.{add-one}
 use native.Mathlib.Omega.{arith}
 use borrow.Author.Tests.{lt-ltb, le-ltb, le-leb, lt-leb}
-use lib.ListN.{length}
 use Rattle.field.specs.Fields.{Field}
 use Rattle.dag.specs.View.{interleaved}
 use Rattle.dag.specs.Nodes.{mostRecords, decode, nodes}
 use Rattle.dag.specs.NodeLaws.{length-nodes, length-snoc}
-use Rattle.dag.specs.Refusals.{need, _then_}
+use Rattle.dag.specs.Refusals.{need}
 use Rattle.dag.specs.Check.{recordCheck, rootlessCheck}
 use Rattle.dag.specs.CheckLaws.{then-good, passed, faithful}
 use Rattle.dag.specs.PassLaws.{listed}

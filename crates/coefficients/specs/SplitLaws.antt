@@ -8,7 +8,7 @@ use native.Mathlib.Nat.{add-assoc, mul-comm, one-mul, mul-le-mul-right, le-mul-o
 use native.Mathlib.Numerals.{add-one}
 use native.Mathlib.Omega.{arith}
 use borrow.Author.Tests.{lt-ltb, le-ltb, ltb-true, eqb-true, eqb-false}
-use lib.Dec.{eqb, ltb, lit<}
+use lib.Dec.{eqb, ltb}
 use lib.ListN.{getD, length, set, replicate, length-set, length-replicate}
 use lib.Pow.{pow-pos}
 use lib.Seq.{getD-set-same, getD-set-other}
@@ -17,7 +17,6 @@ use Rattle.ring.specs.Ring.{Ops, Laws}
 use Rattle.ring.specs.Identities.{mul-one, left-comm}
 use Rattle.ring.specs.Power.{pow, pow-zero, pow-add, pow-mul, low-pow, one-pow}
 use Rattle.ring.specs.Sums.{sum, sum-zero, sum-suc, sum-cong, sum-scale, low-sum}
-use Rattle.field.specs.Field.{felt}
 use Rattle.dag.specs.CaseLaws.{le-or-lt, below-suc, cond-elim}
 use Rattle.columns.specs.Columns.{logLength}
 use Rattle.columns.specs.Contracts.{Column}

@@ -1,6 +1,6 @@
 -- A column's numbers, as they are worked out.
-use Prim.Native.Nat.{ℕ, zero, suc, _+_, _*_, _-_, _^_, _≤_, _<_}
-use mathlib.Core.Bool.{Bool, true, false, cond, not, _&&_}
+use Prim.Native.Nat.{ℕ, zero, suc, _+_, _*_, _^_, _≤_, _<_}
+use mathlib.Core.Bool.{Bool, true, false, cond, not}
 use mathlib.Core.List.{List, [], _∷_, _++_, append-nil, append-assoc}
 use mathlib.Core.Path.{_≡_, refl, sym, _∙_, ap, ap₂}
 use native.Mathlib.Nat.{two-pow-succ}
@@ -9,20 +9,12 @@ use native.Mathlib.Omega.{arith}
 use borrow.Author.Tests.{eq-eqb, ne-eqb}
 use lib.Dec.{eqb}
 use lib.ListN.{getD, length, take, drop, set, length-append, drop-of-length-le}
-use lib.Seq.{drop-cons, take-suc-set, length-take-le}
+use lib.Seq.{drop-cons, take-suc-set}
 use Rattle.field.specs.Fields.{Field, modulus, coordinateLaws}
-use Rattle.ring.specs.Ring.{Ops, Laws}
-use Rattle.ring.specs.Identities.{mul-one, left-comm}
-use Rattle.ring.specs.Power.{pow, pow-zero, pow-suc, pow-add, pow-mul, low-pow}
-use Rattle.ring.specs.Sums.{sum, sum-zero, sum-cong, sum-shift, sum-scale}
-use Rattle.field.specs.Field.{felt}
-use Rattle.dag.specs.CaseLaws.{cond-elim}
+use Rattle.ring.specs.Power.{pow, pow-zero, pow-suc, pow-add, pow-mul}
 use Rattle.columns.specs.Columns.{logLength, count, others, placesFrom, support}
-use Rattle.columns.specs.Prepare.{allBelow}
 use Rattle.dag.specs.Arrays.{upTo, padded}
-use Rattle.columns.specs.CountLaws.{count-le}
-use Rattle.columns.specs.ClassLaws.{below-at}
-use Rattle.coefficients.specs.Terms.{root, rootInverse, sizeInverse, dense, scaledValue, twiddle}
+use Rattle.coefficients.specs.Terms.{rootInverse, sizeInverse, scaledValue, twiddle}
 use Rattle.coefficients.specs.Arrays.{placed, squares, twiddles}
 
 upTo-cong : {A : Type 0} (f g : ℕ → A) (n : ℕ) → ((i : ℕ) → f i ≡ g i) → upTo f n ≡ upTo g n

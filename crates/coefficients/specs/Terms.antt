@@ -1,13 +1,12 @@
 -- The numbers that a column's form holds (document 01, 'Columns'; `sparse_terms` and `LagrangeBasis` of ir.rs, and the inverse DFT). They are
 -- coordinates of a field.
-use Prim.Native.Nat.{ℕ, zero, suc, _*_, _-_, _^_}
-use mathlib.Core.List.{List, [], _∷_}
+use Prim.Native.Nat.{ℕ, _*_, _-_, _^_}
+use mathlib.Core.List.{List}
 use lib.ListN.{getD, length}
 use Rattle.field.specs.Fields.{Field}
 use Rattle.ring.specs.Power.{pow}
 use Rattle.ring.specs.Sums.{sum}
 use Rattle.columns.specs.Columns.{logLength}
-use Rattle.dag.specs.Arrays.{upTo, padded}
 
 module _ (field : Field) where
   -- w^k, where w generates the subgroup of the column's P rows

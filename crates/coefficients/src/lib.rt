@@ -1,15 +1,13 @@
 // The numbers of a column's form: dense coefficients, sparse terms, and the roots of its rows.
 use field::felt;
 ghost use mathlib.Core.Path.{_≡_};
-ghost use mathlib.Core.Bool.{true};
-ghost use Prim.Native.Nat.{ℕ, _+_, _*_, _-_, _^_, _<_, _≤_};
+ghost use Prim.Native.Nat.{_+_, _*_, _-_, _<_, _≤_};
 ghost use mathlib.Core.List.{_++_};
-ghost use lib.ListN.{length, take, getD};
+ghost use lib.ListN.{length, take};
 ghost use Rattle.field.specs.Fields.{goldilocks};
 ghost use Rattle.ring.specs.Power.{pow};
 ghost use Rattle.field.specs.Field.{p, felt};
 ghost use Rattle.columns.specs.Columns as Columns;
-ghost use Rattle.columns.specs.Prepare as Prepare;
 ghost use Rattle.columns.specs.Contracts as ColumnContracts;
 ghost use Rattle.coefficients.specs.Terms as Terms;
 ghost use Rattle.coefficients.specs.Arrays as Arrays;

@@ -1,19 +1,17 @@
 -- A column's classes: its values, the dominant one, and the coefficients that an offset leaves.
 use Prim.Native.Nat.{ℕ, zero, suc, _+_, _*_, _-_, _≤_, _<_}
-use mathlib.Core.Bool.{Bool, true, false, cond, not, _&&_, _||_}
+use mathlib.Core.Bool.{Bool, true, false, cond}
 use mathlib.Core.List.{List, [], _∷_, _++_, append-nil, append-assoc}
-use mathlib.Core.Path.{_≡_, refl, sym, _∙_, ap, subst}
-use mathlib.Core.Logic.{_⊎_, inl, inr}
+use mathlib.Core.Path.{_≡_, refl, sym, _∙_, ap}
 use native.Mathlib.Numerals.{add-one}
 use native.Mathlib.Omega.{arith}
 use borrow.Author.Tests.{eq-eqb, ne-eqb, eqb-true, eqb-false, ltb-true, lt-ltb, le-ltb}
 use lib.Dec.{leb, ltb, eqb}
 use lib.ListN.{getD, length, take, drop, set, drop-of-length-le}
 use lib.Seq.{drop-cons, take-suc-set}
-use Rattle.ring.specs.Ring.{Laws}
 use Rattle.ring.specs.Identities.{sub-add-cancel}
-use Rattle.ring.specs.Residue.{residues, residues-laws, sub, add}
-use Rattle.dag.specs.CaseLaws.{cond-elim, and-true, not-both}
+use Rattle.ring.specs.Residue.{residues-laws, sub, add}
+use Rattle.dag.specs.CaseLaws.{cond-elim, and-true}
 use Rattle.columns.specs.Columns.{count, withNew, valuesFrom, values, weight, heaviest, dominant, isScaled, scalings, others, combinationCost, offset, equalEntries, gain, standalone}
 use Rattle.columns.specs.Prepare.{allBelow}
 

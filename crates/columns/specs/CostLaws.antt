@@ -1,8 +1,8 @@
 -- Bounds on costs.
 use Prim.Native.Nat.{ℕ, zero, suc, _+_, _*_, _-_, _^_, _≤_, _<_}
-use mathlib.Core.Bool.{Bool, true, false, cond, not, _||_}
+use mathlib.Core.Bool.{true, false, not}
 use mathlib.Core.List.{List}
-use mathlib.Core.Path.{_≡_, refl, sym, _∙_, ap, subst}
+use mathlib.Core.Path.{_≡_, subst}
 use mathlib.Core.Logic.{_⊎_, inl, inr}
 use native.Mathlib.Nat.{mul-le-mul, sub-le, le-trans}
 use native.Mathlib.Omega.{arith}
@@ -11,7 +11,7 @@ use lib.Dec.{ltb, eqb}
 use lib.ListN.{length}
 use Rattle.field.specs.Fields.{Field, modulus}
 use Rattle.dag.specs.CaseLaws.{cond-elim, or-true}
-use Rattle.columns.specs.Columns.{logWithin, isPower, logLength, nonzero, sparseOps, denseOps, isSparse, standalone, isScaled, gain, equalEntries, combinationCost, offset}
+use Rattle.columns.specs.Columns.{isPower, logLength, nonzero, sparseOps, denseOps, isSparse, standalone, isScaled, gain, equalEntries, combinationCost, offset}
 use Rattle.columns.specs.LogLaws.{log-le, power-is}
 
 pub ops-fit : (t L : ℕ) → t ≤ 128 → L ≤ 7 → t * L ≤ 896

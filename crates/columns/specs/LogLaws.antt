@@ -1,9 +1,9 @@
 -- The logarithm and the powers of two, as doubling finds them.
 use Prim.Native.Nat.{ℕ, zero, suc, _+_, _*_, _^_, _≤_, _<_}
-use mathlib.Core.Bool.{true, cond}
-use mathlib.Core.Path.{_≡_, refl, sym, _∙_, subst}
+use mathlib.Core.Bool.{true}
+use mathlib.Core.Path.{_≡_, sym, _∙_, subst}
 use mathlib.Core.Logic.{_⊎_, inl, inr}
-use native.Mathlib.Nat.{two-pow-succ, le-trans, lt-of-lt-of-le}
+use native.Mathlib.Nat.{two-pow-succ, lt-of-lt-of-le}
 use native.Mathlib.Numerals.{add-one}
 use native.Mathlib.Omega.{arith}
 use borrow.Author.Tests.{le-leb, lt-leb, eqb-true}

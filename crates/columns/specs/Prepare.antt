@@ -1,9 +1,9 @@
 -- Prepare (document 01): the tests of columns that are handed over, and the answer.
-use Prim.Native.Nat.{ℕ, zero, suc, _+_, _-_}
+use Prim.Native.Nat.{ℕ, _+_}
 use mathlib.Core.Bool.{Bool, true, _&&_}
-use mathlib.Core.List.{List, [], _∷_, _++_}
+use mathlib.Core.List.{List, [], _∷_}
 use lib.Dec.{leb, ltb}
-use lib.ListN.{getD, length, take, drop, replicate}
+use lib.ListN.{getD, length, take, drop}
 use Rattle.dag.specs.Arrays.{upTo, padded}
 use Rattle.dag.specs.Refusals.{firstRefused, need, _then_}
 use Rattle.dag.specs.declared.Refusal.the-variants.{StoreTooShort, Malformed, TooManyColumns, ColumnLength}

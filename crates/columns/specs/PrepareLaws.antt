@@ -1,8 +1,7 @@
 -- Prepare's tests one by one, and what they give.
-use Prim.Native.Nat.{ℕ, zero, suc, _+_, _*_, _≤_, _<_}
-use mathlib.Core.Bool.{Bool, true, false, _&&_}
+use Prim.Native.Nat.{ℕ, suc, _+_, _*_, _≤_, _<_}
+use mathlib.Core.Bool.{Bool, true, false}
 use mathlib.Core.List.{List, [], _∷_}
-use mathlib.Core.Logic.{_⊎_, inl, inr}
 use mathlib.Core.Path.{_≡_, refl, sym, _∙_, ap}
 use native.Mathlib.Numerals.{add-one}
 use native.Mathlib.Omega.{arith}
@@ -10,10 +9,9 @@ use borrow.Author.Tests.{lt-ltb, le-ltb, le-leb, lt-leb, leb-true}
 use lib.Dec.{leb}
 use lib.ListN.{getD, length, take, drop, drop-of-length-le}
 use lib.Seq.{drop-cons, take-length}
-use Rattle.dag.specs.CaseLaws.{below-suc, below-suc-elim, not-both}
+use Rattle.dag.specs.CaseLaws.{not-both}
 use Rattle.dag.specs.CheckLaws.{first-good, then-good, need-good, refused-then}
 use Rattle.dag.specs.Refusals.{firstRefused, need, _then_, isRefused}
-use Rattle.dag.specs.declared.Refusal.{Refusal}
 use Rattle.dag.specs.declared.Refusal.the-variants.{StoreTooShort, Malformed, TooManyColumns, ColumnLength}
 use Rattle.dag.specs.declared.Checked.{Checked}
 use Rattle.dag.specs.declared.Checked.the-variants.{Good, Refused}
@@ -23,7 +21,6 @@ use Rattle.dag.specs.Arrays.{padded}
 use Rattle.columns.specs.LogLaws.{power-pos, power-le}
 use Rattle.columns.specs.ColumnLaws.{length-columns, column-length}
 use Rattle.columns.specs.Contracts.{Column, Handed, Tested}
-use Rattle.columns.specs.declared.PrepareAnswer.{PrepareAnswer}
 
 -- entries from place i on
 module _ (m : ℕ) (c : List ℕ) (i : ℕ) (t : Bool) where

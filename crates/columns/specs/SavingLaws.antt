@@ -2,18 +2,18 @@
 use Prim.Native.Nat.{ℕ, zero, suc, _+_, _*_, _≤_, _<_}
 use mathlib.Core.Bool.{Bool, true, false, cond, _&&_}
 use mathlib.Core.List.{List}
-use mathlib.Core.Path.{_≡_, refl, sym, _∙_, ap, subst}
+use mathlib.Core.Path.{_≡_, refl, sym, _∙_, subst}
 use native.Mathlib.Nat.{lt-of-lt-of-le}
 use native.Mathlib.Numerals.{add-one}
 use native.Mathlib.Omega.{arith}
 use borrow.Author.Tests.{lt-ltb, le-ltb, lt-leb, le-leb, eq-eqb, ne-eqb}
-use lib.Dec.{leb, ltb, eqb}
-use lib.ListN.{getD, length, List·getD-eq-default}
+use lib.Dec.{ltb}
+use lib.ListN.{getD, length}
 use Rattle.dag.specs.CaseLaws.{cond-elim}
 use Rattle.columns.specs.Columns.{column, gain, isAmong, saving, savings, goesOver, isSparse, form}
 use Rattle.columns.specs.Prepare.{columns, mostColumns}
-use Rattle.dag.specs.Arrays.{upTo, padded}
-use Rattle.columns.specs.Contracts.{Handed, Tested, gains, savingsEach, counted, Small, savingsOf, over, Weighed}
+use Rattle.dag.specs.Arrays.{upTo}
+use Rattle.columns.specs.Contracts.{Handed, gains, savingsEach, counted, Small, savingsOf, over, Weighed}
 use Rattle.columns.specs.LogLaws.{power-le}
 use Rattle.columns.specs.ColumnLaws.{length-columns, column-length}
 use Rattle.dag.specs.ArrayLaws.{length-upTo, length-padded, getD-filled}

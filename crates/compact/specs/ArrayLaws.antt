@@ -43,10 +43,6 @@ module _ (t : List Bool) where
     sweep-append zero m h = refl
     sweep-append (suc n) m h = rw (swept-append n m h) (sweep-append n (sweptAt l n m) (omega (arith, length-sweptAt l n m)))
 
--- an array stays as long as it was made
-pub array-fits : {A : Type 0} (n k : ℕ) (v : A) (l : List A) → n ≤ k → length l ≡ length (replicate k v) → n ≤ length l
-array-fits n k v l h e = omega (arith, e, length-replicate k v)
-
 -- marks that agree at every place
 abbrev pub Same : List Bool → List Bool → Type 0
 Same m o = (i : ℕ) → getD m i false ≡ getD o i false

@@ -1,6 +1,6 @@
 -- Compaction: the marked records in order, duplicates included, with their operands' new places.
 use Prim.Native.Nat.{ℕ, zero, suc, _+_}
-use mathlib.Core.Bool.{Bool, true, false, cond}
+use mathlib.Core.Bool.{Bool, false, cond}
 use mathlib.Core.List.{List, [], _∷_, _++_, map}
 use lib.ListN.{getD, length}
 use Rattle.dag.specs.Nodes.{at, rename}

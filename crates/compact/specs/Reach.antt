@@ -1,9 +1,8 @@
 -- Which records a list's roots reach (document 01, 'Normalising'; `AceDag::compact`), over a list of roots.
-use Prim.Native.Nat.{ℕ, zero, suc, _<_}
+use Prim.Native.Nat.{ℕ, zero, suc}
 use mathlib.Core.Bool.{Bool, true, false, cond}
 use mathlib.Core.List.{List, [], _∷_}
 use lib.ListN.{getD, length, replicate, set}
-use mathlib.Core.Path.{_≡_}
 use Rattle.dag.specs.Nodes.{at, operands}
 use Rattle.dag.specs.declared.NodeKind.{NodeKind}
 

@@ -6,9 +6,6 @@ use mathlib.Core.Path.{_≡_, sym, _∙_}
 pub told : {A : Type 0} {r d v : A} → r ≡ d → r ≡ v → d ≡ v
 told e f = sym e ∙ f
 
-pub and-rest : {a b : Bool} (c : Bool) → a ≡ true → b ≡ true → c ≡ (a && b && c)
-and-rest c p q = rw (p, q)
-
 pub and-when : {a : Bool} {c : Bool} → a ≡ true → c ≡ (a && c)
 and-when p = rw p
 

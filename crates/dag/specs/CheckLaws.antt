@@ -1,19 +1,18 @@
 -- What the list check gives: each record's words are its node's words, and the list is well-formed.
 use Prim.Native.Nat.{ℕ, zero, suc, _+_, _≤_, _<_}
-use mathlib.Core.Bool.{Bool, true, false, cond, _&&_, true≢false}
+use mathlib.Core.Bool.{Bool, true, false, true≢false}
 use mathlib.Core.Logic.{_⊎_, inl, inr}
 use mathlib.Core.Path.{_≡_, refl, sym, _∙_, ap}
 use native.Mathlib.Numerals.{add-one}
 use native.Mathlib.Omega.{arith}
 use borrow.Author.Tests.{lt-ltb, le-leb, eqb-true, leb-true, ltb-true}
 use lib.Dec.{leb, ltb, eqb}
-use Rattle.field.specs.declared.QuadFelt.{QuadFelt}
 use Rattle.field.specs.Fields.{Bounds, Within}
 use Rattle.dag.specs.View.{View}
 use Rattle.dag.specs.Keys.{isKey}
 use Rattle.dag.specs.Nodes.{tag, first, second, decode, recordAt, nodes, at}
 use Rattle.dag.specs.NodeLaws.{length-nodes, at-nodes}
-use Rattle.dag.specs.CaseLaws.{and-true, below-suc, below-suc-elim, cond-elim}
+use Rattle.dag.specs.CaseLaws.{and-true, below-suc, below-suc-elim}
 use Rattle.dag.specs.Refusals.{need, _then_, isRefused, unlessRefused, firstRefused}
 use Rattle.dag.specs.Check.{formed, earlier, recordCheck, checkAt, recordsCheck}
 use Rattle.dag.specs.WellFormed.{Fine, WellFormed}

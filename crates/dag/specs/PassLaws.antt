@@ -2,7 +2,7 @@
 use Prim.Native.Nat.{ℕ, _≤_, _<_}
 use mathlib.Core.Bool.{_&&_}
 use mathlib.Core.Path.{_≡_}
-use borrow.Author.Tests.{le-leb, leb-true, lt-leb, ltb-true}
+use borrow.Author.Tests.{le-leb, leb-true, ltb-true}
 use lib.Dec.{leb, ltb}
 use Rattle.field.specs.Fields.{Bounds}
 use Rattle.dag.specs.View.{View}
@@ -13,7 +13,7 @@ use Rattle.dag.specs.Check.{roomCheck, recordsCheck, rootlessCheck, list
 use Rattle.dag.specs.CheckLaws.{then-good, need-good}
 use Rattle.dag.specs.Store.{Sound}
 use Rattle.dag.specs.declared.Refusal.the-variants.{CountOutOfRange, StoreTooShort, RootOutside}
-use Rattle.dag.specs.declared.Checked.the-variants.{Good, Refused}
+use Rattle.dag.specs.declared.Checked.the-variants.{Good}
 
 -- what the test of a store's room tells
 pub room-enough : (needed room : ℕ) → roomCheck needed room ≡ Good → needed ≤ room
@@ -23,10 +23,6 @@ room-enough needed room e = leb-true needed room (need-good (leb needed room) St
 pub enough-room : (needed room : ℕ) → needed ≤ room → roomCheck needed room ≡ Good
 unfolding roomCheck
 enough-room needed room h = rw (le-leb needed room h)
-
-pub short-room : (needed room : ℕ) → room < needed → roomCheck needed room ≡ Refused StoreTooShort
-unfolding roomCheck
-short-room needed room h = rw (lt-leb needed room h)
 
 -- a list without a root
 pub record Listed (m : Bounds) (s : View) (least n : ℕ) : Type 0 where

@@ -3,7 +3,7 @@ use Prim.Native.Nat.{ℕ, zero, suc, _+_, _*_, _-_, _≤_, _<_}
 use mathlib.Core.List.{List, [], _∷_, _++_, append-assoc}
 use mathlib.Core.Path.{_≡_, refl, _∙_, ap}
 use native.Mathlib.Omega.{arith}
-use lib.ListN.{getD, length, take, drop, set, replicate, length-append, length-drop, length-replicate, take-append-drop}
+use lib.ListN.{getD, length, take, drop, set, replicate, length-append, length-drop, take-append-drop}
 use lib.Seq.{drop-cons, set-at, take-at, append-snoc, ext-getD, length-take-le, drop-at}
 use borrow.Author.Tests.{le-leb, lt-ltb}
 use Rattle.field.specs.Fields.{Bounds, Within}
@@ -142,21 +142,6 @@ module _ (s : List ℕ) (l : List NodeKind) where
   pub nodes-stored : nodes (interleaved (stored s l)) (length l) ≡ l
   unfolding stored filled
   nodes-stored = nodes-words (replicate (length s - length (wordsOf l)) blank) l
-
-  pub front-stored : front (length l) (stored s l) ≡ wordsOf l
-  unfolding stored filled front
-  front-stored = take-at (wordsOf l) (replicate (length s - length (wordsOf l)) blank) (3 * length l) (length-words l)
-
-  pub length-stored : length l ≤ interleaved s .room → length (stored s l) ≡ length s
-  unfolding stored filled
-  length-stored h =
-      omega (
-        arith,
-        room-words s (length l) h,
-        length-append (wordsOf l) (replicate (length s - length (wordsOf l)) blank),
-        length-words l,
-        length-replicate (length s - length (wordsOf l)) blank,
-      )
 
   module _ (m : Bounds) (f : WellFormed (Within m) l) where
     pub sound-stored : Sound m (interleaved (stored s l)) (length l)

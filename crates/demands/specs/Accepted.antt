@@ -3,17 +3,16 @@ use Prim.Native.Nat.{ℕ}
 use mathlib.Core.List.{List, []}
 use mathlib.Core.Logic.{_↔_}
 use mathlib.Core.Path.{_≡_, refl}
-use lib.ListN.{getD, length}
+use lib.ListN.{getD}
 use Rattle.field.specs.Fields.{Field, modulus}
 use Rattle.dag.specs.View.{View}
 use Rattle.dag.specs.Roots.{rootsFrom}
 use Rattle.dag.specs.Refusals.{unlessRefused}
 use Rattle.dag.specs.RefusalLaws.{zero-accepts}
-use Rattle.dag.specs.declared.Refusal.{Refusal}
 use Rattle.dag.specs.declared.Checked.{Checked}
 use Rattle.dag.specs.declared.Checked.the-variants.{Good}
 use Rattle.dag.specs.declared.Checked.the-variants as Checked'
-use Rattle.builder.specs.Calls.{stepped, stepWholeCheck, stepAnswer, buildCheck, buildAnswer}
+use Rattle.builder.specs.Calls.{stepWholeCheck, stepAnswer, buildCheck, buildAnswer}
 use Rattle.builder.specs.declared.StepAnswer.the-variants as StepAnswer'
 use Rattle.compact.specs.Calls.{compactCheck, compactAnswer}
 use Rattle.normalize.specs.Calls.{normalizeCheck, normalizeAnswer}

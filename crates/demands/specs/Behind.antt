@@ -19,7 +19,7 @@ use Rattle.dag.specs.declared.Checked.{Checked}
 use Rattle.dag.specs.declared.Found.the-variants.{At}
 use Rattle.builder.specs.Calls.{hasRoom, stepAnswer, stepStore}
 use Rattle.builder.specs.declared.StepAnswer.the-variants.{Done}
-use Rattle.evaluate.specs.Entries.{wordsBelow, entryCheck, entriesCheck, entryOf, inputsCheck}
+use Rattle.evaluate.specs.Entries.{wordsBelow, entryCheck, entriesCheck, entryOf}
 use Rattle.evaluate.specs.Calls.{entryWords, elementOf, given, evaluateCheck, evaluateAnswer}
 use Rattle.columns.specs.Columns.{logWithin}
 use Rattle.periodic.specs.Periodic.{buildPeriodicNodes}

@@ -7,7 +7,6 @@ use Rattle.field.specs.Fields.{Field}
 use Rattle.dag.specs.View.{View, interleaved}
 use Rattle.dag.specs.ViewLaws.{same-room}
 use Rattle.dag.specs.Store.{stored}
-use Rattle.dag.specs.Refusals.{unlessRefused}
 use Rattle.dag.specs.declared.Checked.the-variants.{Good}
 use Rattle.builder.specs.Calls.{buildCheck, buildResult, buildMap}
 use Rattle.compact.specs.Calls.{compactCheck, compactResult}

@@ -1,9 +1,9 @@
 -- Step reaches its call: what its answer and its store say together, where it answers a place and a count.
 use Prim.Native.Nat.{ℕ, _<_, _≤_}
 use mathlib.Core.Bool.{true, _||_}
-use mathlib.Core.List.{List, _++_}
+use mathlib.Core.List.{List}
 use mathlib.Core.Logic.{_⊎_, inl, inr}
-use mathlib.Core.Path.{_≡_, refl, sym, _∙_, ap, subst}
+use mathlib.Core.Path.{_≡_, refl}
 use native.Mathlib.Omega.{arith}
 use borrow.Author.Tests.{leb-true, ltb-true}
 use lib.Dec.{leb, ltb}
@@ -14,7 +14,7 @@ use Rattle.dag.specs.View.{interleaved}
 use Rattle.dag.specs.Nodes.{mostRecords, nodes, decode, wordsOf}
 use Rattle.dag.specs.NodeLaws.{length-nodes}
 use Rattle.dag.specs.CaseLaws.{and-true, or-true}
-use Rattle.dag.specs.Refusals.{need, _then_, unlessRefused}
+use Rattle.dag.specs.Refusals.{unlessRefused}
 use Rattle.dag.specs.Check.{rootlessCheck}
 use Rattle.dag.specs.CheckLaws.{then-good, need-good}
 use Rattle.dag.specs.Store.{front, behind, written}
@@ -26,7 +26,7 @@ use Rattle.dag.specs.declared.Checked.{Checked}
 use Rattle.dag.specs.declared.Checked.the-variants.{Good}
 use Rattle.dag.specs.declared.Checked.the-variants as Checked'
 use Rattle.meaning.specs.Values.{valueOf, value}
-use Rattle.builder.specs.Steps.{Built, step}
+use Rattle.builder.specs.Steps.{step}
 use Rattle.builder.specs.StepLaws.{Grown, step-grown}
 use Rattle.builder.specs.StepValueLaws.{step-value, step-keeps}
 use Rattle.builder.specs.Calls.{stepCheck, hasRoom, stepped, stepRoomCheck, stepWholeCheck, stepAnswer, stepStore}

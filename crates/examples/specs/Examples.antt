@@ -10,18 +10,18 @@ use Rattle.field.specs.declared.QuadFelt.{QuadFelt}
 use Rattle.dag.specs.declared.NodeKind.{NodeKind}
 use Rattle.dag.specs.declared.NodeKind.the-variants.{Input, Constant, Add, Sub, Mul, Neg}
 use Rattle.dag.specs.Nodes.{blank, at, sameNode, operands, rename, recordAt, nodes, decode, words, wordsOf, filled}
-use Rattle.dag.specs.Lookup.{greatest, lookup}
+use Rattle.dag.specs.Lookup.{greatest}
 use Rattle.builder.specs.Steps.{isConstant, isAdd, isSub, isMul, isNeg, element, isThe, lowFirst, addRule, subRule, mulOutcome, negOutcome, follow, addWithin, subWithin, addOutcome, subOutcome, outcome, interned, intern, enter, step, Built, placeOf, recorded}
 use Rattle.compact.specs.Reach.{marked, sweep, marks}
 use Rattle.compact.specs.Compact.{rank, kept, compact, Rooted}
 use Rattle.plan.specs.Plan.{count, mentions, fanout, sharedFactor, commonFactor, orElse, ontoBefore, existingRotation, eitherRotation, planOf}
 use Rattle.normalize.specs.Rounds.{planned, round, fired, rounded, isKept, roundsFrom, normalize, Normal}
-use Rattle.columns.specs.Columns.{logWithin, logLength, count as occurrences, isSparse, standalone, placesFrom, withNew, valuesFrom, values, weight, heaviest, dominant, isScaled}
+use Rattle.columns.specs.Columns.{logWithin, logLength, isSparse, standalone, placesFrom, withNew, valuesFrom, values, weight, heaviest, dominant, isScaled}
 use Rattle.columns.specs.Columns.{scalings, combinationCost, offset, equalEntries, gain, sameEntries, isAmong, saving, savings, threshold, goesOver, form, formNumber}
 use Rattle.columns.specs.Prepare.{total, columns, prepareCheck}
 use Rattle.dag.specs.Arrays.{upTo}
 use Rattle.dag.specs.Keys.{isKey}
-use Rattle.dag.specs.Check.{formed, earlier, recordCheck, checkAt, recordsCheck, rootlessCheck, listCheck}
+use Rattle.dag.specs.Check.{formed, earlier, recordCheck, checkAt, rootlessCheck, listCheck}
 use Rattle.periodic.specs.Builder.{turns, done}
 use Rattle.periodic.specs.Periodic.{buildPeriodicNodes}
 use Rattle.lower.specs.Lower.{periodGood, lowerCheck, lowered, roomCheck, wholeCheck, lowerAnswer, lowerResult}

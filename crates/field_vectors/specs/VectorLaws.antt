@@ -1,14 +1,14 @@
 -- A word of digits fits, tests of operands, and a line more.
-use Prim.Native.Nat.{ℕ, zero, suc, _+_, _*_, _-_, _/_, _%_, _^_, _<_, _≤_}
+use Prim.Native.Nat.{ℕ, zero, suc, _+_, _*_, _-_, _%_, _^_, _<_, _≤_}
 use mathlib.Core.Bool.{Bool, true, false, cond, _&&_, and-eq-true-iff}
 use mathlib.Core.List.{List}
-use mathlib.Core.Path.{_≡_, refl, sym, _∙_, ap}
+use mathlib.Core.Path.{_≡_, refl, sym}
 use native.Mathlib.Nat.{mod-eq-of-lt, pow-le-pow-right, pow-succ'}
 use native.Mathlib.Numerals.{add-one}
 use native.Mathlib.Omega.{arith}
 use borrow.Author.Tests.{leb-true, le-leb, lt-leb, ltb-true, lt-ltb, le-ltb, ne-eqb}
 use lib.Dec.{leb, ltb}
-use lib.ListN.{getD, length, List·getD-eq-default}
+use lib.ListN.{getD, List·getD-eq-default}
 use Rattle.field.specs.Field.{p, quad, Below, same}
 use Rattle.field.specs.Generators.{generator, generators}
 use Rattle.field.specs.declared.QuadFelt.{QuadFelt}

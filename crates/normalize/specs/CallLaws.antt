@@ -1,12 +1,12 @@
 -- Normalise: the rounds in its stores, from the copied list to the answer.
 use Prim.Native.Nat.{ℕ, zero, suc, pred, _+_, _*_, _-_, _<_, _≤_}
 use mathlib.Core.Bool.{Bool, true, false}
-use mathlib.Core.List.{List, [], _∷_, _++_}
+use mathlib.Core.List.{List, [], _∷_}
 use mathlib.Core.Path.{_≡_, refl, sym, _∙_, ap, ap₂}
 use native.Mathlib.Nat.{sub-zero}
 use native.Mathlib.Numerals.{add-one}
 use native.Mathlib.Omega.{arith}
-use lib.ListN.{length, take, replicate}
+use lib.ListN.{length, replicate}
 use Rattle.field.specs.Fields.{Field, elementLaws}
 use Rattle.dag.specs.View.{View, interleaved}
 use Rattle.dag.specs.Nodes.{mostRecords, nodes, blank}

@@ -1,8 +1,8 @@
 -- Computations that answer a list of places, kept at the start of a store.
-use Prim.Native.Nat.{ℕ, zero, suc, _+_, _-_, _<_, _≤_}
+use Prim.Native.Nat.{ℕ, zero, suc, _+_, _<_, _≤_}
 use mathlib.Core.List.{List, [], _∷_, _++_}
 use mathlib.Core.Logic.{_⊎_, inl, inr}
-use mathlib.Core.Path.{_≡_, refl, sym, _∙_, ap, ap₂, subst}
+use mathlib.Core.Path.{_≡_, sym, _∙_, subst}
 use native.Mathlib.Numerals.{add-one}
 use native.Mathlib.Omega.{arith}
 use lib.ListN.{getD, length, take, set, length-append, length-set, List·getD-append}
@@ -10,9 +10,9 @@ use lib.Seq.{getD-take, getD-at, take-suc-set, length-take-le}
 use Rattle.field.specs.Fields.{Field}
 use Rattle.dag.specs.CaseLaws.{below-suc}
 use Rattle.builder.specs.declared.Entered.{Entered}
-use Rattle.periodic.specs.Builder.{Builder, done, _>>=_, turns, also}
-use Rattle.periodic.specs.Contracts.{Holds, Ready, Inside, AllInside, Ran, Entering, Listing}
-use Rattle.periodic.specs.RunLaws.{ready-after, ran-is, ran-done, then-ran, turn-none, turn-next, turn-all, inside-later}
+use Rattle.periodic.specs.Builder.{Builder, done, turns, also}
+use Rattle.periodic.specs.Contracts.{Ready, Inside, AllInside, Ran, Entering, Listing}
+use Rattle.periodic.specs.RunLaws.{ready-after, ran-is, ran-done, then-ran, turn-none, turn-next, inside-later}
 
 inside-snoc : (k : ℕ) (ps : List ℕ) (v : ℕ) → AllInside k ps → Inside k v → AllInside k (ps ++ (v ∷ []))
 inside-snoc k ps v a b = record { at = λ i h. go i (below-suc i (length ps) (omega (arith, length-append ps (v ∷ [])))) }

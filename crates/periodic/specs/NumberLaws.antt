@@ -1,24 +1,21 @@
 -- The numbers that arrays of a column's terms and coefficients hold.
-use Prim.Native.Nat.{ℕ, zero, suc, _+_, _-_, _<_, _≤_}
+use Prim.Native.Nat.{ℕ, zero, suc, _-_, _<_, _≤_}
 use mathlib.Core.Bool.{true}
-use mathlib.Core.List.{List, [], _∷_, _++_}
-use mathlib.Core.Path.{_≡_, refl, sym, _∙_, ap, subst}
-use native.Mathlib.Omega.{arith}
-use borrow.Author.Tests.{lt-ltb}
+use mathlib.Core.List.{List, []}
+use mathlib.Core.Path.{_≡_, refl, _∙_}
 use lib.ListN.{getD, length, take, replicate}
-use lib.Seq.{getD-take, take-at, length-take-le}
+use lib.Seq.{getD-take, take-at}
 use Rattle.field.specs.Fields.{Field, modulus, coordinateLaws}
 use Rattle.ring.specs.Power.{low-pow}
-use Rattle.ring.specs.Sums.{sum}
 use Rattle.columns.specs.Columns.{logLength, support}
 use Rattle.columns.specs.Prepare.{allBelow}
 use Rattle.dag.specs.Arrays.{upTo, padded}
-use Rattle.dag.specs.ArrayLaws.{getD-filled, length-upTo, length-padded}
+use Rattle.dag.specs.ArrayLaws.{getD-filled, length-upTo}
 use Rattle.columns.specs.CostLaws.{log-length-le}
 use Rattle.columns.specs.ClassLaws.{below-snoc}
-use Rattle.coefficients.specs.Terms.{rootInverse, sizeInverse, dense, scaledValue, twiddle}
+use Rattle.coefficients.specs.Terms.{dense, scaledValue, twiddle}
 use Rattle.coefficients.specs.Arrays.{coefficients, twiddles, sparseTwiddles, sparseValues}
-use Rattle.periodic.specs.Contracts.{Row, Rows}
+use Rattle.periodic.specs.Contracts.{Rows}
 
 module _ (field : Field) where
   module _ (c : List ℕ) where
@@ -76,7 +73,3 @@ module _ (field : Field) where
 
     pub length-dense : (numbers : List ℕ) → numbers ≡ coefficients field c → length (take (length c) numbers) ≡ length c
     length-dense numbers e = rw (dense-are numbers e) (length-upTo (dense field c) (length c))
-
-    pub length-numbers : (numbers : List ℕ) → length c ≤ 128 → numbers ≡ coefficients field c → length numbers ≡ 128
-    unfolding coefficients
-    length-numbers numbers h e = rw e (length-padded 0 128 (upTo (dense field c) (length c)) (rw (length-upTo (dense field c) (length c)) h))

@@ -1,8 +1,8 @@
 -- `build_periodic_nodes` of periodic.rs (document 01, 'Columns'), without its caches: an equal request is answered by the same place. F is the
 -- ring of the list's elements.
-use Prim.Native.Nat.{ℕ, zero, suc, _+_, _*_, _-_}
-use mathlib.Core.Bool.{Bool, true, false, cond, not, _&&_, _||_}
-use mathlib.Core.List.{List, [], _∷_, _++_}
+use Prim.Native.Nat.{ℕ, zero, suc, _+_, _-_}
+use mathlib.Core.Bool.{Bool, true, false, cond, not, _&&_}
+use mathlib.Core.List.{List, [], _∷_}
 use lib.Dec.{eqb}
 use lib.ListN.{getD, length}
 use Rattle.ring.specs.Ring.{Ops}
@@ -10,12 +10,12 @@ use Rattle.ring.specs.Residue as Residue
 use Rattle.field.specs.Fields.{Field, modulus}
 use Rattle.field.specs.declared.QuadFelt.{QuadFelt}
 use Rattle.dag.specs.Keys.{ZK}
-use Rattle.columns.specs.Columns.{logLength, logWithin, support, values, offset, column, form}
+use Rattle.columns.specs.Columns.{logLength, support, values, offset, column, form}
 use Rattle.dag.specs.Arrays.{upTo}
 use Rattle.columns.specs.declared.Form.{Form}
 use Rattle.columns.specs.declared.Form.the-variants.{Sparse, Dense, Basis}
 use Rattle.coefficients.specs.Terms.{root, sizeInverse, dense, scaledValue, twiddle}
-use Rattle.periodic.specs.Builder.{Builder, done, _>>=_, turns, input, constant, add, sub, mul, also}
+use Rattle.periodic.specs.Builder.{Builder, done, turns, input, constant, add, sub, mul, also}
 
 -- a list from its end
 unfoldable pub backwards : List ℕ → List ℕ

@@ -1,15 +1,15 @@
 -- Computations that do the same, request by request.
-use Prim.Native.Nat.{ℕ, zero, suc, _+_, _<_, _≤_}
-use mathlib.Core.List.{List, [], _∷_, _++_}
-use mathlib.Core.Path.{_≡_, refl, sym, _∙_, ap, subst}
+use Prim.Native.Nat.{ℕ, zero, suc, _+_, _<_}
+use mathlib.Core.List.{List, []}
+use mathlib.Core.Path.{_≡_, refl, subst}
 use native.Mathlib.Omega.{arith}
-use lib.ListN.{length, take}
+use lib.ListN.{take}
 use Rattle.field.specs.Fields.{Field}
 use Rattle.ring.specs.Ring.{Ops}
 use Rattle.field.specs.declared.QuadFelt.{QuadFelt}
 use Rattle.dag.specs.declared.NodeKind.{NodeKind}
 use Rattle.builder.specs.declared.Entered.{Entered}
-use Rattle.periodic.specs.Builder.{Builder, Run, done, _>>=_, turns, also, constant, mul, add}
+use Rattle.periodic.specs.Builder.{Builder, done, _>>=_, turns, also, constant, mul, add}
 use Rattle.periodic.specs.Periodic.{sparseTurn, sparseFactor, sparseTerm, sumTurn, sparseSum, constants}
 use Rattle.periodic.specs.Contracts.{Ran, Entering, Listing}
 use Rattle.periodic.specs.RunLaws.{ran-as, ran-bind}

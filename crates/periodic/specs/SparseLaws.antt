@@ -1,16 +1,14 @@
 -- The sum of sparse terms, by the number of terms and by the numbers that its terms hold.
-use Prim.Native.Nat.{ℕ, zero, suc, _+_, _-_, _<_, _≤_}
-use mathlib.Core.List.{List, [], _∷_}
-use mathlib.Core.Path.{_≡_, refl, sym, _∙_, ap, subst}
+use Prim.Native.Nat.{ℕ, zero, suc, _-_}
+use mathlib.Core.List.{List}
+use mathlib.Core.Path.{_≡_, refl, subst}
 use native.Mathlib.Omega.{arith}
-use lib.ListN.{getD, length}
 use Rattle.field.specs.Fields.{Field}
 use Rattle.ring.specs.Ring.{Ops}
 use Rattle.field.specs.declared.QuadFelt.{QuadFelt}
-use Rattle.dag.specs.declared.NodeKind.{NodeKind}
 use Rattle.builder.specs.declared.Entered.{Entered}
-use Rattle.periodic.specs.Builder.{Builder, done, _>>=_, turns, also, enter, constant}
-use Rattle.periodic.specs.Periodic.{sparseTurn, sparseFactor, sparseTerm, sumTurn, sparseSum, constants}
+use Rattle.periodic.specs.Builder.{Builder, _>>=_, turns, constant}
+use Rattle.periodic.specs.Periodic.{sparseTerm, sumTurn, sparseSum}
 use Rattle.periodic.specs.Contracts.{Entering, Listing}
 
 module _ (F : Ops QuadFelt) (zpow : List ℕ) (twiddle : ℕ → ℕ → ℕ) (n : ℕ) (value : ℕ → ℕ) where

@@ -25,9 +25,6 @@ use Rattle.periodic.specs.Contracts.{listWords, storeWords, links, noted
 pub half-links : (s : List ℕ) → length s ≡ storeWords → Index.half (links s) ≡ mostRecords + 1
 half-links s e = omega (arith, length-drop listWords s)
 
-pub usable-links : (s : List ℕ) → length s ≡ storeWords → Index.Usable (links s)
-usable-links s e = record { some = omega (arith, half-links s e); few = omega (arith, half-links s e) }
-
 -- a store with place n noted has the same records
 module _ (s : List ℕ) (n : ℕ) (y : NodeKind) (e : length s ≡ storeWords) where
   front : length (take listWords s) ≡ listWords

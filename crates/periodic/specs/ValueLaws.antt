@@ -1,18 +1,16 @@
 -- A column's value, from the parts that its code runs.
-use Prim.Native.Nat.{ℕ, zero, suc, _+_, _-_, _<_, _≤_}
-use mathlib.Core.Bool.{true}
-use mathlib.Core.List.{List, [], _∷_}
-use mathlib.Core.Path.{_≡_, refl, sym, _∙_, ap, subst}
+use Prim.Native.Nat.{ℕ}
+use mathlib.Core.List.{List, []}
+use mathlib.Core.Path.{_≡_, refl, subst}
 use lib.ListN.{getD, length, take}
 use Rattle.field.specs.Fields.{Field}
 use Rattle.columns.specs.Columns.{logLength, support}
 use Rattle.coefficients.specs.Terms.{dense, scaledValue, twiddle}
 use Rattle.coefficients.specs.Arrays.{coefficients, sparseTwiddles, sparseValues}
 use Rattle.builder.specs.declared.Entered.{Entered}
-use Rattle.periodic.specs.Builder.{Builder, _>>=_}
 use Rattle.periodic.specs.Periodic.{constants, sparseSum}
 use Rattle.periodic.specs.Contracts.{Entering, Listing}
-use Rattle.periodic.specs.SameLaws.{Same, same-constants, same-sum, entering-like, listing-like}
+use Rattle.periodic.specs.SameLaws.{same-constants, same-sum, entering-like, listing-like}
 use Rattle.periodic.specs.NumberLaws.{dense-at, length-dense, twiddle-at, value-at}
 
 module _ (field : Field) where

@@ -17,7 +17,7 @@ use Rattle.meaning.specs.ValueLaws.{value-at}
 use Rattle.builder.specs.Steps.{lowFirst}
 use Rattle.builder.specs.RuleLaws.{low-first}
 use Rattle.plan.specs.Plan.{commonFactor, eitherRotation, planOf}
-use Rattle.plan.specs.SearchLaws.{Splits, Shares, Rotates, or-else, factor-elim, rotation-elim}
+use Rattle.plan.specs.SearchLaws.{Splits, Rotates, or-else, factor-elim, rotation-elim}
 use Rattle.plan.specs.PlanLaws.{tag-add, tag-mul}
 use Rattle.plan.specs.declared.Plan.{Plan}
 use Rattle.plan.specs.declared.Plan.the-variants.{Factored, Rotated, Plain}

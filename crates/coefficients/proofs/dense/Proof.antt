@@ -6,7 +6,6 @@ use native.Mathlib.Omega.{arith}
 use borrow.Author.Needs.{needs}
 use lib.ListN.{length}
 use Rattle.field.specs.Fields.{goldilocks}
-use Rattle.columns.specs.Prepare as Prepare
 use Rattle.dag.specs.ArrayLaws.{fill-next, fill-all}
 use Rattle.coefficients.specs.Terms as Terms
 use Rattle.dag.specs.Arrays as Padded

@@ -2,7 +2,6 @@
 use mathlib.Core.Path.{_∙_, ap}
 use Prim.Native.Nat.{_-_, _≤_}
 use native.Mathlib.Omega.{arith}
-use borrow.Author.Needs.{needs}
 use Rattle.field.specs.Fields.{goldilocks}
 use Rattle.field.specs.Field.{felt}
 use Rattle.coefficients.specs.Split as Split

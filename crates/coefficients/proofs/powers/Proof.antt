@@ -7,7 +7,6 @@ use lib.Dec.{lit<}
 use Rattle.field.specs.Fields.{goldilocks}
 use Rattle.ring.specs.Power.{pow}
 use Rattle.field.specs.Field.{p, felt}
-use Rattle.columns.specs.Prepare as Prepare
 use Rattle.dag.specs.ArrayLaws.{fill-next, fill-all}
 use Rattle.dag.specs.Arrays as Padded
 use Rattle.coefficients.specs.Arrays as Arrays

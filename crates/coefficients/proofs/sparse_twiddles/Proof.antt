@@ -7,7 +7,6 @@ use native.Mathlib.Omega.{arith}
 use borrow.Author.Needs.{needs}
 use lib.ListN.{length, replicate}
 use Rattle.field.specs.Fields.{goldilocks}
-use Rattle.columns.specs.Prepare as Prepare
 use Rattle.dag.specs.ArrayLaws.{fill-next, fill-all}
 use Rattle.dag.specs.Arrays as Padded
 use Rattle.coefficients.specs.Arrays as Arrays

@@ -8,7 +8,6 @@ use lib.ListN.{length, getD}
 use Rattle.field.specs.Fields.{goldilocks}
 use Rattle.field.specs.Field.{p}
 use Rattle.columns.specs.Columns as Columns
-use Rattle.columns.specs.Prepare as Prepare
 use Rattle.dag.specs.ArrayLaws.{fill-next, fill-all}
 use Rattle.columns.specs.ClassLaws.{below-at}
 use Rattle.coefficients.specs.Terms as Terms

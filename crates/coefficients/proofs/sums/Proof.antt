@@ -1,10 +1,7 @@
 -- The invariant: the table has n rows of s words.
 use Prim.Native.Nat.{_/_}
 use native.Mathlib.Omega.{arith}
-use borrow.Author.Needs.{needs}
-use lib.ListN.{length}
 use Rattle.field.specs.Fields.{goldilocks}
-use Rattle.coefficients.specs.Arrays as Arrays
 use Rattle.coefficients.specs.Split as Split
 use Rattle.coefficients.specs.SplitLaws.{reached-start, reached-next, reached-end, reached-fits, low-powers, rows-fit}
 use Rattle.coefficients.proofs.sums.Statement.{statement}

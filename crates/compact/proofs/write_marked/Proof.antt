@@ -3,7 +3,6 @@ use mathlib.Core.Path.{_≡_, refl, sym, _∙_}
 use native.Mathlib.Nat.{le-antisymm}
 use native.Mathlib.Omega.{arith}
 use lib.ListN.{length}
-use Rattle.field.specs.Fields.{goldilocks}
 use Rattle.dag.specs.View.{interleaved}
 use Rattle.dag.specs.ViewLaws.{same-room}
 use Rattle.dag.specs.Nodes.{nodes}

@@ -4,7 +4,6 @@ use Rattle.field.specs.Fields.{goldilocks}
 use Rattle.dag.specs.CheckLaws.{good-told, bad-told}
 use Prim.Native.Nat.{_≤_, _-_}
 use native.Mathlib.Nat.{le-antisymm}
-use native.Mathlib.Numerals.{add-one}
 use native.Mathlib.Omega.{arith}
 use borrow.Author.Needs.{needs}
 use mathlib.Core.Path.{_≡_, refl, sym, _∙_}

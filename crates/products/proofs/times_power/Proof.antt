@@ -1,5 +1,5 @@
 -- `products::times_power` meets its contract. The invariant: result · factor^left is the answer.
-use mathlib.Core.Path.{_≡_, _∙_, ap}
+use mathlib.Core.Path.{_≡_}
 use Prim.Native.Nat.{_<_}
 use borrow.Author.Needs.{needs}
 use Rattle.ring.specs.Power.{pow}

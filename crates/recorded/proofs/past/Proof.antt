@@ -1,8 +1,8 @@
 use Prim.Native.Nat.{_-_, _≤_}
-use mathlib.Core.Path.{_≡_, _∙_, ap}
+use mathlib.Core.Path.{_≡_, _∙_}
 use native.Mathlib.Omega.{arith}
 use borrow.Author.Needs.{needs}
-use Rattle.recorded.specs.Stream.{behind, pastStore, past}
+use Rattle.recorded.specs.Stream.{past}
 use Rattle.recorded.specs.StreamLaws.{past-none, past-next, past-all}
 use Rattle.recorded.proofs.past.Statement.{statement}
 use Rattle.recorded.proofs.past.Tie as tie
