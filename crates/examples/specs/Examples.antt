@@ -16,7 +16,7 @@ use Rattle.compact.specs.Reach.{marked, sweep, marks}
 use Rattle.compact.specs.Compact.{rank, kept, compact, Rooted}
 use Rattle.plan.specs.Plan.{count, mentions, fanout, sharedFactor, commonFactor, orElse, ontoBefore, existingRotation, eitherRotation, planOf}
 use Rattle.normalize.specs.Rounds.{planned, round, fired, rounded, isKept, roundsFrom, normalize, Normal}
-use Rattle.columns.specs.Columns.{logWithin, logLength, isSparse, standalone, placesFrom, withNew, valuesFrom, values, weight, heaviest, dominant, isScaled}
+use Rattle.columns.specs.Columns.{logWithin, logLength, isSparse, standalone, placesFrom, withNew, valuesFrom, values, weight, heaviest, dominant, isScaled, count as occurrences}
 use Rattle.columns.specs.Columns.{scalings, combinationCost, offset, equalEntries, gain, sameEntries, isAmong, saving, savings, threshold, goesOver, form, formNumber}
 use Rattle.columns.specs.Prepare.{total, columns, prepareCheck}
 use Rattle.dag.specs.Arrays.{upTo}

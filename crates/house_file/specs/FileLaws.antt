@@ -18,7 +18,7 @@ use Rattle.dag.specs.CaseLaws.{and-true}
 use Rattle.dag.specs.Refusals.{need, _then_, unlessRefused}
 use Rattle.dag.specs.Check.{roomCheck, listCheck}
 use Rattle.dag.specs.CheckLaws.{then-good, need-good}
-use Rattle.dag.specs.PassLaws.{enough-room, rooted}
+use Rattle.dag.specs.PassLaws.{enough-room, rooted, room-enough as room-fits}
 use Rattle.dag.specs.Store.{front, stored}
 use Rattle.dag.specs.StoreLaws.{sound-well-formed, same-list-agree}
 use Rattle.dag.specs.WordLaws.{nodes-stored, sound-stored, filled-front}

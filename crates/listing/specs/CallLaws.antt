@@ -30,7 +30,7 @@ use Rattle.text.specs.Contracts.{Laid}
 use Rattle.house_file.specs.File.{mostFiled, fileCount, fileRoot, fileView, heldCheck, readAnswer, readList}
 use Rattle.house_file.specs.declared.FileAnswer.the-variants as FileAnswer'
 use Rattle.house_file.specs.Contracts as FileContracts
-use Rattle.house_file.specs.FileLaws.{filed-room, room-enough, read-refused, Read, read-done, read-agrees}
+use Rattle.house_file.specs.FileLaws.{filed-room, room-enough, read-refused, Read, read-done, read-agrees, passed as file-passed}
 use Rattle.listing.specs.Listing.{listed, refusedLine, wordsListing, listing}
 use Rattle.listing.specs.Contracts.{answerText, Lent}
 

@@ -3,7 +3,7 @@ use mathlib.Core.Path.{_≡_, refl, sym, _∙_, ap, ap₂}
 use Prim.Native.Nat.{ℕ, zero, suc, _+_, _<_}
 use native.Mathlib.Nat.{add-zero, add-suc, lt-suc-self, le-step}
 use Rattle.ring.specs.Ring.{Ops, Laws}
-use Rattle.ring.specs.Identities.{mul-one, mul-zero, left-comm}
+use Rattle.ring.specs.Identities.{mul-one, mul-zero, left-comm, add-zero as plus-zero}
 use Rattle.ring.specs.Residue.{residues}
 use Rattle.ring.specs.Power.{pow}
 

@@ -1,7 +1,7 @@
 -- Text as bytes: plain words, numbers in decimal, lines, and what a text store holds.
 use Prim.Native.Nat.{ℕ, zero, suc, _+_, _-_, _/_, _%_}
 use Prim.Native.Char.{code}
-use Prim.Native.String.{String}
+use Prim.Native.String.{String, [] as none, _∷_ as _then_}
 use mathlib.Core.Bool.{true, false}
 use mathlib.Core.List.{List, [], _∷_, _++_}
 use lib.Dec.{ltb}
