@@ -1,5 +1,5 @@
 -- Examples A to L of document 01: each is an answer of a definition and the answer that the document gives.
-use Prim.Native.Nat.{ℕ, zero, suc, _-_}
+use Prim.Native.Nat.{ℕ, zero, suc, _*_, _-_}
 use mathlib.Core.List.{List, [], _∷_, _++_, map}
 use mathlib.Core.Path.{_≡_, refl}
 use lib.ListN.{length, replicate}
@@ -9,27 +9,29 @@ use Rattle.field.specs.Field.{p, felt, quad, same, new}
 use Rattle.field.specs.declared.QuadFelt.{QuadFelt}
 use Rattle.dag.specs.declared.NodeKind.{NodeKind}
 use Rattle.dag.specs.declared.NodeKind.the-variants.{Input, Constant, Add, Sub, Mul, Neg}
-use Rattle.dag.specs.Nodes.{blank, at, sameNode, operands, rename, recordAt, nodes, decode, words, wordsOf, filled}
+use Rattle.dag.specs.View.{interleaved}
+use Rattle.dag.specs.Nodes.{blank, mostRecords, recordWords, at, sameNode, operands, rename, recordAt, nodes, decode, words, wordsOf, filled}
+use Rattle.dag.specs.Store.{stored}
 use Rattle.dag.specs.Lookup.{greatest}
 use Rattle.builder.specs.Steps.{isConstant, isAdd, isSub, isMul, isNeg, element, isThe, lowFirst, addRule, subRule, mulOutcome, negOutcome, follow, addWithin, subWithin, addOutcome, subOutcome, outcome, interned, intern, enter, step, Built, placeOf, recorded}
 use Rattle.compact.specs.Reach.{marked, sweep, marks}
 use Rattle.compact.specs.Compact.{rank, kept, compact, Rooted}
 use Rattle.plan.specs.Plan.{count, mentions, fanout, sharedFactor, commonFactor, orElse, ontoBefore, existingRotation, eitherRotation, planOf}
 use Rattle.normalize.specs.Rounds.{planned, round, fired, rounded, isKept, roundsFrom, normalize, Normal}
-use Rattle.columns.specs.Columns.{logWithin, logLength, isSparse, standalone, placesFrom, withNew, valuesFrom, values, weight, heaviest, dominant, isScaled, count as occurrences}
+use Rattle.columns.specs.Columns.{logWithin, logLength, count as occurrences, isSparse, standalone, placesFrom, withNew, valuesFrom, values, weight, heaviest, dominant, isScaled}
 use Rattle.columns.specs.Columns.{scalings, combinationCost, offset, equalEntries, gain, sameEntries, isAmong, saving, savings, threshold, goesOver, form, formNumber}
 use Rattle.columns.specs.Prepare.{total, columns, prepareCheck}
 use Rattle.dag.specs.Arrays.{upTo}
 use Rattle.dag.specs.Keys.{isKey}
-use Rattle.dag.specs.Check.{formed, earlier, recordCheck, checkAt, rootlessCheck, listCheck}
+use Rattle.dag.specs.Check.{formed, earlier, recordCheck, checkAt, roomCheck, rootlessCheck, listCheck}
 use Rattle.periodic.specs.Builder.{turns, done}
 use Rattle.periodic.specs.Periodic.{buildPeriodicNodes}
-use Rattle.lower.specs.Lower.{periodGood, lowerCheck, lowered, roomCheck, wholeCheck, lowerAnswer, lowerResult}
+use Rattle.lower.specs.Lower.{lowerRoom, lowerStores, periodGood, lowerCheck, lowered, wholeCheck, lowerAnswer, lowerResult}
 use Rattle.lower.specs.declared.LowerAnswer.{LowerAnswer}
 use Rattle.lower.specs.declared.LowerAnswer.the-variants.{Done}
 use Rattle.normalize.specs.Calls.{normalized}
 use Rattle.text.specs.Text.{ascii, digits, decimal, ended, line}
-use Rattle.house_file.specs.File.{number, wordsAt, wordsOfFirst, fileWords, isCount, headCheck, formCheck, heldCheck, fileCheck}
+use Rattle.house_file.specs.File.{number, wordsAt, fileView, isCount, headCheck, formCheck, heldCheck, fileCheck}
 use Rattle.listing.specs.Kinds.{kind}
 use Rattle.listing.specs.Listing.{firstLine, recordLine, recordLines, listed, refusedLine, listing}
 
@@ -190,14 +192,14 @@ K-copies = record {
 abbrev L : Example
 L = record {
   Answer = LowerAnswer;
-  computed = lowerAnswer goldilocks (0 ∷ 0 ∷ 0 ∷ []) 1 [] [] 3 (7 ∷ 7 ∷ 7 ∷ 7 ∷ []) (replicate 12288 7) [];
+  computed = lowerAnswer goldilocks (interleaved (0 ∷ 0 ∷ 0 ∷ [])) 1 [] [] 3 (7 ∷ 7 ∷ 7 ∷ 7 ∷ []) (replicate (recordWords * mostRecords) 7) [];
   stated = Done 1;
 }
 
 abbrev L-copied : Example
 L-copied = record {
   Answer = List ℕ;
-  computed = lowerResult goldilocks (0 ∷ 0 ∷ 0 ∷ []) 1 [] [] 3 (7 ∷ 7 ∷ 7 ∷ 7 ∷ []) (replicate 12288 7) [];
+  computed = lowerResult goldilocks (interleaved (0 ∷ 0 ∷ 0 ∷ [])) 1 [] [] 3 (7 ∷ 7 ∷ 7 ∷ 7 ∷ []) (replicate (recordWords * mostRecords) 7) [];
   stated = 0 ∷ 0 ∷ 0 ∷ blank ∷ [];
 }
 
@@ -221,5 +223,5 @@ pub examples : List Example
 examples = A ∷ A-refused ∷ B ∷ C-normalized ∷ C-compacted ∷ D ∷ E ∷ F ∷ G ∷ H ∷ I ∷ J ∷ K-three ∷ K-four-below ∷ K-four-with ∷ K-copies ∷ L ∷ L-copied ∷ []
 
 pub all-examples : All examples
-unfolding examples felt quad same at sameNode operands rename isConstant isAdd isSub isMul isNeg element isThe lowFirst addRule subRule mulOutcome negOutcome follow addWithin subWithin addOutcome subOutcome outcome interned intern enter step placeOf recorded marked sweep marks rank kept compact count mentions fanout sharedFactor commonFactor orElse ontoBefore existingRotation eitherRotation planOf planned round fired rounded isKept roundsFrom normalize unit logWithin logLength occurrences isSparse standalone placesFrom withNew valuesFrom values weight heaviest dominant isScaled scalings combinationCost offset equalEntries gain sameEntries isAmong saving savings goesOver form upTo lowerCheck rootlessCheck checkAt recordCheck formed earlier isKey prepareCheck firstRefused total columns periodGood lowered buildPeriodicNodes turns done recordAt nodes decode words wordsOf filled choices listCheck roomCheck wholeCheck lowerAnswer lowerResult normalized ascii digits decimal ended line number wordsAt wordsOfFirst fileWords isCount headCheck formCheck heldCheck fileCheck kind firstLine recordLine recordLines listed refusedLine listing greatest
+unfolding examples felt quad same at sameNode operands rename isConstant isAdd isSub isMul isNeg element isThe lowFirst addRule subRule mulOutcome negOutcome follow addWithin subWithin addOutcome subOutcome outcome interned intern enter step placeOf recorded marked sweep marks rank kept compact count mentions fanout sharedFactor commonFactor orElse ontoBefore existingRotation eitherRotation planOf planned round fired rounded isKept roundsFrom normalize unit logWithin logLength occurrences isSparse standalone placesFrom withNew valuesFrom values weight heaviest dominant isScaled scalings combinationCost offset equalEntries gain sameEntries isAmong saving savings goesOver form upTo lowerCheck lowerStores lowerRoom interleaved stored rootlessCheck checkAt recordCheck formed earlier isKey prepareCheck firstRefused total columns periodGood lowered buildPeriodicNodes turns done recordAt nodes decode words wordsOf filled choices listCheck roomCheck wholeCheck lowerAnswer lowerResult normalized ascii digits decimal ended line number wordsAt fileView isCount headCheck formCheck heldCheck fileCheck kind firstLine recordLine recordLines listed refusedLine listing greatest
 all-examples = (refl, (refl, (refl, (refl, (refl, (refl, (refl, (refl, (refl, (refl, (refl, (refl, (three-sparse, (four-below, (four-with, (copies-sparse, (refl, (refl, tt))))))))))))))))))
