@@ -8,7 +8,7 @@ use lib.Seq.{getD-take, length-take-le}
 use Rattle.field.specs.Fields.{Bounds}
 use Rattle.dag.specs.View.{View, interleaved, Agree}
 use Rattle.dag.specs.Nodes.{recordAt, nodes}
-use Rattle.dag.specs.Refusals.{firstRefused}
+use Rattle.dag.specs.Refusals.{firstRefused, _then_}
 use Rattle.dag.specs.Check.{checkAt, recordsCheck, rootlessCheck, listCheck}
 use Rattle.dag.specs.PassLaws.{enough-room}
 use Rattle.dag.specs.Store.{Alike, front, Sound}

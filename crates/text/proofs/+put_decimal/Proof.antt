@@ -4,7 +4,7 @@ use native.Mathlib.Omega.{arith}
 use lib.ListN.{length}
 use Rattle.text.specs.WritingLaws.{wrote-as, and-then}
 use Rattle.text.specs.DecimalLaws.{decimal-one, decimal-more, decimal-longer}
-use Prim.Native.Nat.{ℕ}
+use Prim.Native.Nat.{ℕ, _<_}
 use borrow.Fn.Kinds.{In}
 use borrow.Fn.PlainCycle.{Measures, is, falls, and}
 use Rattle.text.proofs.put_decimal.Reads as put-decimal
