@@ -11,7 +11,7 @@ use lib.Dec.{leb, eqb}
 use lib.ListN.{getD, length}
 use Rattle.field.specs.Fields.{goldilocks}
 use Rattle.dag.specs.View.{interleaved, Agree}
-use Rattle.dag.specs.ViewLaws.{words-room, agree-nodes, agree-list}
+use Rattle.dag.specs.ViewLaws.{words-room, agree-nodes, alike, alike-list}
 use Rattle.dag.specs.Nodes.{recordWords, nodes, filled}
 use Rattle.dag.specs.NodeLaws.{length-nodes}
 use Rattle.dag.specs.CaseLaws.{and-true}
@@ -114,7 +114,7 @@ module _ (file list words : List ℕ) (n root : ℕ) (en : n ≡ fileCount file)
   unfolding heldCheck fileView
   held =
       ec
-      ∙ (agree-list (interleaved words) (fileView file) n room (omega (arith, en)) whole (goldilocks .bounds) root
+      ∙ (alike-list (interleaved words) (fileView file) n (alike (interleaved words) (fileView file) n room (omega (arith, en)) whole) (goldilocks .bounds) root
       ∙ ap₂ (listCheck (goldilocks .bounds) (fileView file)) en er)
 
   pub done-refused : (r : Refusal) → c ≡ Refused r → Done file list (FileAnswer'.Refused r) list

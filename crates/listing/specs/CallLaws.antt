@@ -7,7 +7,7 @@ use lib.ListN.{length, getD}
 use Rattle.field.specs.Fields.{goldilocks}
 use Rattle.field.specs.Field.{quad, quad-laws}
 use Rattle.dag.specs.View.{View, interleaved, Agree}
-use Rattle.dag.specs.ViewLaws.{words-room, same-room, agree-nodes, agree-list}
+use Rattle.dag.specs.ViewLaws.{words-room, same-room, alike, alike-nodes, alike-list}
 use Rattle.dag.specs.Nodes.{recordWords, nodes}
 use Rattle.dag.specs.NodeLaws.{length-nodes}
 use Rattle.dag.specs.Arrays.{padded}
@@ -97,7 +97,7 @@ module _ (s : List ℕ) (n root : ℕ) (result : List ℕ) (workRoom : ℕ) (a :
 -- stores that agree, with room for their lists, have the same listing
 agree-listing : (u v : View) (n : ℕ) → n ≤ u .room → n ≤ v .room → Agree u v n → (root resultRoom workRoom : ℕ) → wordsListing u n root resultRoom workRoom ≡ wordsListing v n root resultRoom workRoom
 unfolding wordsListing normalizeCheck normalized
-agree-listing u v n left right a root resultRoom workRoom = rw (agree-list u v n left right a (goldilocks .bounds) root, agree-nodes u v n a)
+agree-listing u v n left right a root resultRoom workRoom = let h = alike u v n left right a in rw (alike-list u v n h (goldilocks .bounds) root, alike-nodes u v n h)
 
 module _ (file list : List ℕ) (h : mostFiled ≤ interleaved list .room) where
   pub file-refused : (r : Refusal) → readAnswer file (interleaved list .room) ≡ FileAnswer'.Refused r → refusedLine r ≡ listing file
