@@ -8,7 +8,7 @@ use Rattle.field.specs.Fields.{Field, modulus}
 use Rattle.columns.specs.Columns.{values, offset}
 use Rattle.columns.specs.Prepare.{allBelow}
 use Rattle.coefficients.specs.Terms.{root}
-use Rattle.periodic.specs.Builder.{Builder, constant, sub}
+use Rattle.periodic.specs.Builder.{Builder, constant, sub, _>>=_}
 use Rattle.periodic.specs.Contracts.{AllInside}
 
 module _ (field : Field) where

@@ -185,7 +185,8 @@ module _ (field : Field) where
       pub stored-ready : Ready field t n
       stored-ready = record { long = d .long; sound = λ _. stored-sound; indexed = stored-holds .indexed }
 
-  module _ (result places : List ℕ) (L : Run (List ℕ)) (work : List ℕ) (count : ℕ) (ns : List ℕ) (holds : Holds field work count (L .list)) (answers : count ≤ mostRecords → ns ≡ L .answer) (r : LowerAnswer) (after listed : List ℕ) (h : HandedOver work count ns result places r after listed) where
+  module _ (result places : List ℕ) (L : Run (List ℕ)) (work : List ℕ) (count : ℕ) (ns : List ℕ) (holds : Holds field work count (L .list)) (answers : count ≤ mostRecords → ns ≡ L .answer)
+      (r : LowerAnswer) (after listed : List ℕ) (h : HandedOver work count ns result places r after listed) where
     fits : count ≤ mostRecords → length (L .list) ≡ count
     fits i = ap length (sym (holds .list-is i)) ∙ length-nodes (interleaved work) count
 

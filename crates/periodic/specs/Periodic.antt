@@ -15,7 +15,7 @@ use Rattle.dag.specs.Arrays.{upTo}
 use Rattle.columns.specs.declared.Form.{Form}
 use Rattle.columns.specs.declared.Form.the-variants.{Sparse, Dense, Basis}
 use Rattle.coefficients.specs.Terms.{root, sizeInverse, dense, scaledValue, twiddle}
-use Rattle.periodic.specs.Builder.{Builder, done, turns, input, constant, add, sub, mul, also}
+use Rattle.periodic.specs.Builder.{Builder, done, turns, input, constant, add, sub, mul, also, _>>=_}
 
 -- a list from its end
 unfoldable pub backwards : List ℕ → List ℕ

@@ -71,7 +71,8 @@ module _ (field : Field) where
       subst (λ x. Listing field s n q after k places x) i (record { ran = ran-as field s n m after k (λ ps. take c places ≡ ps) q (h .runs) (d .ran); inside = d .inside })
 
   -- places listed, and then a computation on them
-  pub then-listed : (s : List ℕ) (n : ℕ) (m : Builder (List ℕ)) (s1 : List ℕ) (k1 : ℕ) (places : List ℕ) (c : ℕ) (f : List ℕ → Builder ℕ) (s2 : List ℕ) (r2 : Entered) → Listing field s n m s1 k1 places c → Entering field s1 k1 (f (take c places)) s2 r2 → Entering field s n (m >>= f) s2 r2
+  pub then-listed : (s : List ℕ) (n : ℕ) (m : Builder (List ℕ)) (s1 : List ℕ) (k1 : ℕ) (places : List ℕ) (c : ℕ) (f : List ℕ → Builder ℕ) (s2 : List ℕ) (r2 : Entered)
+      → Listing field s n m s1 k1 places c → Entering field s1 k1 (f (take c places)) s2 r2 → Entering field s n (m >>= f) s2 r2
   then-listed s n m s1 k1 places c f s2 r2 d e =
       record {
         ran = ran-bind field s n m s1 k1 (λ ps. take c places ≡ ps) f s2 (r2 .count) (λ a. r2 .place ≡ a) (d .ran) (e .ran .kept) (e .ran .longer) (λ a q. subst (λ x. Ran field s1 k1 (f x) s2 (r2 .count) (λ a. r2 .place ≡ a)) q (e .ran));

@@ -14,7 +14,13 @@ use Rattle.normalize.proofs.round.Statement.{statement}
 use Rattle.normalize.proofs.round.Tie as tie
 
 abbrev Inv-loop : tie.InvT-loop
-Inv-loop list n own fan work₀ links₀ map₀ count₀ fired₀ i₀ work links map count fired i = (i ≤ n) × (length work ≡ length work₀) × (length map ≡ length map₀) × Contracts.RoundHeld goldilocks list n fan i work map count fired × (length links ≡ length links₀) × NodeIndex (Nodes.nodes (interleaved work) count) links
+Inv-loop list n own fan work₀ links₀ map₀ count₀ fired₀ i₀ work links map count fired i =
+    (i ≤ n)
+    × (length work ≡ length work₀)
+    × (length map ≡ length map₀)
+    × Contracts.RoundHeld goldilocks list n fan i work map count fired
+    × (length links ≡ length links₀)
+    × NodeIndex (Nodes.nodes (interleaved work) count) links
 
 abbrev μ-loop : tie.MeasureT-loop
 μ-loop list n own fan work₀ links₀ map₀ count₀ fired₀ i₀ work links map count fired i = n - i
