@@ -32,7 +32,7 @@ returns c =
     let e = b .ace-lower .ensures in
     let n = b .before .before .before .before .before .before .number .ensures in
     let period = b .before .before .before .before .before .number2 .ensures in
-    record { told = c .answers .ensures ∙ rw (e .1 .1 .1, n, period); first = e .0 ∙ rw (n, period); second = e .1 .0 ∙ rw (n, period); third = e .1 .1 .0 ∙ rw (n, period) }
+    record { told = c .answers .ensures ∙ rw (e .1 .1 .1, n, period); first = rw (n, period) at (e .0); second = rw (n, period) at (e .1 .0); third = rw (n, period) at (e .1 .1 .0) }
 
 pub lower-spec : {M : Type 1} → statement M
 lower-spec =
