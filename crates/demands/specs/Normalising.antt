@@ -3,7 +3,7 @@ use Prim.Native.Nat.{ℕ, _+_, _*_, _≤_}
 use mathlib.Core.Bool.{false}
 use mathlib.Core.List.{List, [], _∷_}
 use mathlib.Core.Logic.{_⊎_, _↔_}
-use mathlib.Core.Path.{_≡_, refl, sym, _∙_, ap, ap₂}
+use mathlib.Core.Path.{_≡_, refl, sym, _∙_, ap, ap₂, subst}
 use native.Mathlib.Omega.{arith}
 use lib.ListN.{getD, length}
 use Rattle.field.specs.Fields.{Field, Low, elementLaws}
@@ -176,7 +176,7 @@ module _ (field : Field) where
       λ (c, a, r). answer-unchanged .0 (sym answer-list ∙ (ap (nodes (interleaved store)) c ∙ agree-nodes (interleaved store) s n a), r),
       λ f. let (l, r) = answer-unchanged .1 f in
           let c = ap length l ∙ length-nodes s n in
-          let there : Sound (field .bounds) (interleaved store) n = rw (← c) sound in
+          let there = subst (Sound (field .bounds) (interleaved store)) c sound in
           (c, same-list-agree (field .bounds) (interleaved store) s n there (passed .list .sound) (ap (nodes (interleaved store)) (sym c) ∙ (answer-list ∙ l)), r),
     )
 
