@@ -13,7 +13,7 @@ use Rattle.dag.specs.NodeLaws.{decode-words}
 use Rattle.dag.specs.CaseLaws.{cond-elim, and-true, or-true}
 use Rattle.dag.specs.declared.NodeKind.{NodeKind}
 use Rattle.dag.specs.declared.NodeKind.the-variants.{Constant, Add, Sub, Mul, Neg}
-use Rattle.builder.specs.Steps.{isConstant, isAdd, isSub, isMul, isNeg, isThe, element, lowFirst, addRule, subRule, mulOutcome, negOutcome}
+use Rattle.builder.specs.Steps.{isConstant, isAdd, isSub, isNeg, isThe, element, lowFirst, addRule, subRule, mulOutcome, negOutcome}
 use Rattle.builder.specs.declared.Rule.{Rule}
 use Rattle.builder.specs.declared.Rule.the-variants.{Use, Make, HandOver}
 use Rattle.builder.specs.declared.Outcome.{Outcome}
@@ -34,10 +34,6 @@ add-is x e = kind 2 x e
 pub sub-is : (x : NodeKind) → isSub x ≡ true → x ≡ Sub (first x) (second x)
 unfolding isSub decode
 sub-is x e = kind 3 x e
-
-pub mul-is : (x : NodeKind) → isMul x ≡ true → x ≡ Mul (first x) (second x)
-unfolding isMul decode
-mul-is x e = kind 4 x e
 
 pub neg-is : (x : NodeKind) → isNeg x ≡ true → x ≡ Neg (first x)
 unfolding isNeg decode

@@ -16,7 +16,7 @@ use Rattle.field.specs.Fields.{Field, modulus, coordinateLaws}
 use Rattle.ring.specs.Ring.{Ops, Laws}
 use Rattle.ring.specs.Identities.{mul-one, left-comm}
 use Rattle.ring.specs.Power.{pow, pow-zero, pow-add, pow-mul, low-pow, one-pow}
-use Rattle.ring.specs.Sums.{sum, sum-zero, sum-suc, sum-cong, sum-scale, low-sum}
+use Rattle.ring.specs.Sums.{sum, sum-zero, sum-suc, sum-cong, sum-scale}
 use Rattle.dag.specs.CaseLaws.{le-or-lt, below-suc, cond-elim}
 use Rattle.columns.specs.Columns.{logLength}
 use Rattle.columns.specs.Contracts.{Column}
@@ -81,10 +81,6 @@ module _ {o : Ops ℕ} (L : Laws o) where
             ap (pow o v) exponent
             ∙ (pow-add L v (h * i) (P * i)
             ∙ (ap (o .mul (pow o v (h * i))) (pow-mul L v P i ∙ (ap (λ x. pow o x i) e ∙ one-pow L i)) ∙ mul-one L (pow o v (h * i)) (low-pow L v (h * i))))
-
-    pub low-part : (s n r h : ℕ) → L .Low (part o v c s n r h)
-    unfolding part
-    low-part s n r h = low-sum L (λ i. o .mul (getD c (s * i + r) 0) (pow o v (h * i))) n
 
     -- one row of all entries
     pub level-start : (s : ℕ) (t : List ℕ) → ((r : ℕ) → r < s → (getD t r 0 ≡ getD c r 0) × L .Low (getD c r 0)) → Level o v c s 1 t

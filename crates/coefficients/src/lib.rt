@@ -14,7 +14,7 @@ ghost use Rattle.coefficients.specs.Arrays as Arrays;
 ghost use Rattle.coefficients.specs.Split as Split;
 
 // w^k, where w generates the subgroup of the column's rows.
-pub fn root(col: &[u64], k: usize) -> u64
+fn root(col: &[u64], k: usize) -> u64
     ensures { λ r. ⌜ (r ≡ Terms.root goldilocks (now (col .entry)) k) × (r < p) ⌝ }
 {
     felt::pow(felt::two_adic_generator(columns::log_length(col)), k as u64)

@@ -15,10 +15,10 @@ ghost use Rattle.columns.specs.Prepare as Prepare;
 ghost use Rattle.columns.specs.Contracts as Contracts;
 
 // The most columns.
-pub const MOST_COLUMNS: usize = 16;
+const MOST_COLUMNS: usize = 16;
 
 // The longest column has 2^7 entries.
-pub const MOST_LOG: usize = 7;
+const MOST_LOG: usize = 7;
 
 // How a column is evaluated in the circuit.
 pub enum Form {
@@ -119,7 +119,7 @@ fn dense_ops(period: usize) -> usize
 }
 
 // Whether a column by itself is sparse.
-pub fn is_sparse(col: &[u64]) -> bool
+fn is_sparse(col: &[u64]) -> bool
     requires { ⌜ length (now col) ≤ 128 ⌝ }
     ensures { λ r. ⌜ r ≡ Columns.isSparse (now (col .entry)) ⌝ }
 {
@@ -429,7 +429,7 @@ pub fn column_form(lengths: &[u64], entries: &[u64], gains: &[u64], each: &[u64]
 }
 
 // A form's number in an answer.
-pub fn form_number(form: Form) -> u64
+fn form_number(form: Form) -> u64
     ensures { λ r. ⌜ r ≡ Columns.formNumber form ⌝ }
 {
     match form {

@@ -2,7 +2,7 @@
 use Prim.Native.Nat.{ℕ, _≤_, _<_}
 use mathlib.Core.List.{List, [], _∷_}
 use mathlib.Core.Logic.{_↔_}
-use mathlib.Core.Path.{_≡_, refl}
+use mathlib.Core.Path.{_≡_}
 use native.Mathlib.Omega.{arith}
 use lib.ListN.{getD, length}
 use Rattle.field.specs.Fields.{Field, Within}
@@ -13,7 +13,6 @@ use Rattle.dag.specs.Nodes.{nodes}
 use Rattle.dag.specs.Store.{stored}
 use Rattle.dag.specs.NodeLaws.{length-nodes}
 use Rattle.dag.specs.Check.{listCheck}
-use Rattle.dag.specs.Roots.{rootsFrom}
 use Rattle.dag.specs.PassLaws.{Rooted, rooted}
 use Rattle.dag.specs.StoreLaws.{sound-well-formed}
 use Rattle.dag.specs.WellFormed.{WellFormed}
@@ -60,11 +59,6 @@ module _ (field : Field) where
     pub answer-list : nodes (interleaved store) (kept .count) ≡ compacted s n (at-root ∷ []) .list
     unfolding keptOf
     answer-list = rw store-is (nodes-stored result (compacted s n (at-root ∷ []) .list))
-
-    -- its one root
-    pub answer-roots : kept .roots ≡ rootsFrom (new-root ∷ [])
-    unfolding keptOf compacted compact
-    answer-roots = refl
 
     -- it passes the list check
     pub answer-passes : listCheck (field .bounds) (interleaved store) (kept .count) new-root ≡ Good

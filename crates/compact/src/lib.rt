@@ -60,7 +60,7 @@ fn mark_roots(reachable: &mut [bool], roots: Roots)
 }
 
 // Marks what the roots reach: the roots, then from the last place down the operands of each marked record.
-pub fn mark_reachable(list: &[u64], n: usize, roots: Roots, reachable: &mut [bool])
+fn mark_reachable(list: &[u64], n: usize, roots: Roots, reachable: &mut [bool])
     requires { ⌜ Markable (interleaved (now list)) n roots (length (now reachable)) ⌝ }
     ensures { λ _. ⌜ now (reachable .exit) ≡ Reach.sweep (Nodes.nodes (interleaved (now (list .entry))) n) n (Reach.marked (now (reachable .entry)) (rootsOf roots)) ⌝ }
 {
@@ -75,7 +75,7 @@ pub fn mark_reachable(list: &[u64], n: usize, roots: Roots, reachable: &mut [boo
 }
 
 // Fills in the new places of the first n records, and answers how many of them are marked.
-pub fn number_marked(reachable: &[bool], n: usize, remap: &mut [u64]) -> usize
+fn number_marked(reachable: &[bool], n: usize, remap: &mut [u64]) -> usize
     requires { ⌜ (n ≤ length (now reachable)) × (n ≤ length (now remap)) ⌝ }
     ensures { λ r. ⌜ r ≡ Places.rank (now (reachable .entry)) n ⌝ }
     ensures { λ _. ⌜ now (remap .exit) ≡ Places.ranks (now (reachable .entry)) n ++ drop n (now (remap .entry)) ⌝ }
@@ -94,7 +94,7 @@ pub fn number_marked(reachable: &[bool], n: usize, remap: &mut [u64]) -> usize
 }
 
 // Writes the marked ones of the first n records, renamed, to the start of the result store.
-pub fn write_marked(list: &[u64], n: usize, reachable: &[bool], remap: &[u64], result: &mut [u64])
+fn write_marked(list: &[u64], n: usize, reachable: &[bool], remap: &[u64], result: &mut [u64])
     requires { ⌜ Writing (interleaved (now list)) n (now reachable) (now remap) (interleaved (now result) .room) ⌝ }
     ensures { λ _. ⌜ now (result .exit) ≡ written (now (result .entry)) (Places.kept (Nodes.nodes (interleaved (now (list .entry))) n) (now (reachable .entry)) n) ⌝ }
 {

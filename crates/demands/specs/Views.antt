@@ -40,10 +40,6 @@ module _ (field : Field) where
       step-answer = rw (same-rootless 0, same-nodes, room)
 
     module _ (root resultRoom : ℕ) where
-      pub normalize-tests : (workRoom : ℕ) → normalizeCheck field s n root resultRoom workRoom ≡ normalizeCheck field u n root resultRoom workRoom
-      unfolding normalizeCheck
-      normalize-tests workRoom = rw (same-check root)
-
       pub build-answer : (mapWords : ℕ) → buildAnswer field s n root resultRoom mapWords ≡ buildAnswer field u n root resultRoom mapWords
       unfolding buildAnswer buildCheck
       build-answer mapWords = rw (same-check root, same-nodes)

@@ -22,10 +22,10 @@ ghost use Rattle.evaluate.specs.Calls as Calls;
 ghost use Rattle.evaluate.specs.Contracts as Contracts;
 
 // The most entries that an assignment has.
-pub const MOST_ENTRIES: usize = 4096;
+const MOST_ENTRIES: usize = 4096;
 
 // The words of an assignment's entry: key number, c0, c1.
-pub const ENTRY_WORDS: usize = 3;
+const ENTRY_WORDS: usize = 3;
 
 // Evaluate's answer.
 pub struct EvaluateAnswer {
@@ -100,7 +100,7 @@ fn first_bad_entry(entries: &[u64], width: usize, m: usize) -> Checked
 }
 
 // The tests of m entries: 11, 2, then the first bad entry.
-pub fn entries_check(entries: &[u64], width: usize, m: usize) -> Checked
+fn entries_check(entries: &[u64], width: usize, m: usize) -> Checked
     requires { ⌜ (0 < width) × (width ≤ 3) ⌝ }
     ensures { λ r. ⌜ r ≡ Entries.entriesCheck (goldilocks .bounds) width (now (entries .entry)) m ⌝ }
 {

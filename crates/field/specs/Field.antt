@@ -1,9 +1,8 @@
 -- The field: residues modulo p, and pairs of them with u² = 7.
-use mathlib.Core.Path.{_≡_, refl, ap₂}
+use mathlib.Core.Path.{_≡_, refl}
 use mathlib.Core.Bool.{Bool, _&&_}
 use Prim.Native.Nat.{ℕ, _+_, _-_, _^_, _<_}
-use lib.Dec.{T, eqb, eqb→eq, eqb-refl, lit<}
-use mir.Facts.{and-yes, yes-and}
+use lib.Dec.{eqb, lit<}
 use Rattle.ring.specs.Ring.{Ops, Laws, with-low}
 use Rattle.ring.specs.Residue.{residues, residues-laws}
 use Rattle.ring.specs.Pair.{IsPair, pairs, pairs-laws}
@@ -100,20 +99,6 @@ neg-parts x = refl
 -- Whether both coordinates are the same numbers.
 unfoldable pub same : QuadFelt → QuadFelt → Bool
 same x y = eqb (x .c0) (y .c0) && eqb (x .c1) (y .c1)
-
-pub same→eq : (x y : QuadFelt) → T (same x y) → x ≡ y
-unfolding same
-same→eq x y t =
-    ap₂ new
-    (eqb→eq (x .c0) (y .c0) (and-yes (eqb (x .c0) (y .c0)) (eqb (x .c1) (y .c1)) t .0))
-    (eqb→eq (x .c1) (y .c1) (and-yes (eqb (x .c0) (y .c0)) (eqb (x .c1) (y .c1)) t .1))
-
-pub same-refl : (x : QuadFelt) → T (same x x)
-unfolding same
-same-refl x = yes-and (eqb (x .c0) (x .c0)) (eqb (x .c1) (x .c1)) (eqb-refl (x .c0)) (eqb-refl (x .c1))
-
-pub eq→same : (x y : QuadFelt) → x ≡ y → T (same x y)
-eq→same x y e = rw e (same-refl y)
 
 -- (I) u × u = 7
 pub u-squared : quad .mul u u ≡ new uSquared 0

@@ -15,7 +15,7 @@ const BASE: u64 = 4294967296;
 const EPSILON: u64 = 4294967295;
 
 // The sum modulo p of two words whose sum is below 2p: 2^64 = 2^32 − 1 modulo p.
-pub fn fold(a: u64, b: u64) -> u64
+fn fold(a: u64, b: u64) -> u64
     requires { ⌜ a + b < 2 * p ⌝ }
     ensures { λ r. ⌜ (r ≡ (a + b) % p) × (r < p) ⌝ }
 {

@@ -97,18 +97,4 @@ impl QuadFelt {
             false
         }
     }
-
-    // Whether it is 0.
-    pub fn is_zero(self) -> bool
-        ensures { λ r. ⌜ r ≡ spec.same self (quad .zero) ⌝ }
-    {
-        self.same(QuadFelt::ZERO)
-    }
-
-    // Whether it is 1.
-    pub fn is_one(self) -> bool
-        ensures { λ r. ⌜ r ≡ spec.same self (quad .one) ⌝ }
-    {
-        self.same(QuadFelt::ONE)
-    }
 }

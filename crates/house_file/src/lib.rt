@@ -9,7 +9,7 @@ ghost use Rattle.house_file.specs.File as File;
 ghost use Rattle.house_file.specs.Contracts as Contracts;
 
 // The most records that a file has.
-pub const MOST_FILED: u64 = 1024;
+const MOST_FILED: u64 = 1024;
 
 // The words of the longest file's records.
 pub const FILED_WORDS: usize = dag::RECORD_WORDS * MOST_FILED as usize;

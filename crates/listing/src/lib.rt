@@ -69,7 +69,7 @@ fn put_first(out: &mut [u8], count: usize, root: u64, rounds: usize) -> usize
 }
 
 // Writes the listing of an answer: a first line, then a line a record. Answers its length.
-pub fn write_listing(list: &[u64], count: usize, root: u64, rounds: usize, out: &mut [u8]) -> usize
+fn write_listing(list: &[u64], count: usize, root: u64, rounds: usize, out: &mut [u8]) -> usize
     requires { ⌜ (count ≤ interleaved (now list) .room) × (length (Contracts.answerText (interleaved (now list)) count root rounds) ≤ length (now out)) ⌝ }
     ensures { λ r. ⌜ Laid (now (out .entry)) (Contracts.answerText (interleaved (now (list .entry))) count root rounds) (now (out .exit)) r ⌝ }
 {
@@ -80,7 +80,7 @@ pub fn write_listing(list: &[u64], count: usize, root: u64, rounds: usize, out: 
 }
 
 // Writes the line of a refusal. Answers its length.
-pub fn write_refused(r: Refusal, out: &mut [u8]) -> usize
+fn write_refused(r: Refusal, out: &mut [u8]) -> usize
     requires { ⌜ length (Listing.refusedLine r) ≤ length (now out) ⌝ }
     ensures { λ q. ⌜ Laid (now (out .entry)) (Listing.refusedLine r) (now (out .exit)) q ⌝ }
 {
@@ -138,7 +138,7 @@ fn list_in(
 }
 
 // Writes the listing of a house file, or the line of its refusal, 0 bytes behind it. Answers its length.
-pub fn list_file(file: &[u8], out: &mut [u8]) -> usize
+fn list_file(file: &[u8], out: &mut [u8]) -> usize
     requires { ⌜ length (Listing.listing (now file)) ≤ length (now out) ⌝ }
     ensures length { λ r. ⌜ r ≡ length (Listing.listing (now (file .entry))) ⌝ }
     ensures text { λ _. ⌜ now (out .exit) ≡ laid (length (now (out .entry))) (Listing.listing (now (file .entry))) ⌝ }

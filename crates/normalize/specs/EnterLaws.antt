@@ -86,9 +86,6 @@ module _ (field : Field) where
       factored-places : (f < i) × (a < i) × (b < i)
       factored-places = subst (PlanFine i) e (h .plan-fine)
 
-      pub factored-fit : (f < length map) × (a < length map) × (b < length map)
-      factored-fit = let k = factored-places in let g = h .fits in omega arith
-
       module _ (y z : ℕ) (ey : y ≡ read map a) (ez : z ≡ read map b) (q : NodeKind) (eq : q ≡ like x y z) where
         inner-like : q ≡ like x (read map a) (read map b)
         inner-like = eq ∙ rw (ey, ez)

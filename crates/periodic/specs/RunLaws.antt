@@ -108,9 +108,6 @@ module _ (field : Field) where
     unfolding turns
     turn-next i s1 k1 Is s2 k2 Js d kept longer e = rw (add-one i) (ran-bind s n (turns f i a) s1 k1 Is (f i) s2 k2 Js d kept longer e)
 
-    pub turn-all : (i k : ℕ) (s1 : List ℕ) (k1 : ℕ) (Is : A → Type 0) → i ≤ k → k ≤ i → Ran field s n (turns f i a) s1 k1 Is → Ran field s n (turns f k a) s1 k1 Is
-    turn-all i k s1 k1 Is h j d = let e : i ≡ k = omega arith in subst (λ x. Ran field s n (turns f x a) s1 k1 Is) e d
-
   -- turns on a place
   module _ (f : ℕ → ℕ → Builder ℕ) (s : List ℕ) (n a : ℕ) where
     pub enter-none : Inside n a → Entering field s n (turns f 0 a) s (record { place = a; count = n })

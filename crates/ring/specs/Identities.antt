@@ -12,17 +12,11 @@ module _ {A : Type 0} {o : Ops A} (L : Laws o) where
   pub sub-zero : (a : A) → L .Low a → o .sub a (o .zero) ≡ a
   sub-zero a h = reduces L (a ∷ []) (var 0 ⊖ #0) (var 0) tt h
 
-  pub zero-sub : (a : A) → o .sub (o .zero) a ≡ o .neg a
-  zero-sub a = identity L (a ∷ []) (#0 ⊖ var 0) (⊝ (var 0)) tt
-
   pub mul-one : (a : A) → L .Low a → o .mul a (o .one) ≡ a
   mul-one a h = reduces L (a ∷ []) (var 0 ⊗ #1) (var 0) tt h
 
   pub mul-zero : (a : A) → o .mul a (o .zero) ≡ o .zero
   mul-zero a = identity L (a ∷ []) (var 0 ⊗ #0) #0 tt
-
-  pub neg-add : (a : A) → o .add (o .neg a) a ≡ o .zero
-  neg-add a = identity L (a ∷ []) (⊝ (var 0) ⊕ var 0) #0 tt
 
   -- (l − b) + b = l
   pub sub-add-cancel : (l b : A) → L .Low l → o .add (o .sub l b) b ≡ l
@@ -63,23 +57,11 @@ module _ {A : Type 0} {o : Ops A} (L : Laws o) where
   pub factor-add-01 : (f x y : A) → o .add (o .mul f x) (o .mul y f) ≡ o .mul f (o .add x y)
   factor-add-01 f x y = ap (λ (n : A). o .add (o .mul f x) n) (L .mul-comm y f) ∙ factor-add f x y
 
-  pub factor-add-10 : (f x y : A) → o .add (o .mul x f) (o .mul f y) ≡ o .mul f (o .add x y)
-  factor-add-10 f x y = ap (λ (n : A). o .add n (o .mul f y)) (L .mul-comm x f) ∙ factor-add f x y
-
-  pub factor-add-11 : (f x y : A) → o .add (o .mul x f) (o .mul y f) ≡ o .mul f (o .add x y)
-  factor-add-11 f x y = ap (λ (n : A). o .add n (o .mul y f)) (L .mul-comm x f) ∙ factor-add-01 f x y
-
   pub factor-sub : (f x y : A) → o .sub (o .mul f x) (o .mul f y) ≡ o .mul f (o .sub x y)
   factor-sub f x y = sym (L .mul-distrib-sub f x y)
 
   pub factor-sub-01 : (f x y : A) → o .sub (o .mul f x) (o .mul y f) ≡ o .mul f (o .sub x y)
   factor-sub-01 f x y = ap (λ (n : A). o .sub (o .mul f x) n) (L .mul-comm y f) ∙ factor-sub f x y
-
-  pub factor-sub-10 : (f x y : A) → o .sub (o .mul x f) (o .mul f y) ≡ o .mul f (o .sub x y)
-  factor-sub-10 f x y = ap (λ (n : A). o .sub n (o .mul f y)) (L .mul-comm x f) ∙ factor-sub f x y
-
-  pub factor-sub-11 : (f x y : A) → o .sub (o .mul x f) (o .mul y f) ≡ o .mul f (o .sub x y)
-  factor-sub-11 f x y = ap (λ (n : A). o .sub n (o .mul y f)) (L .mul-comm x f) ∙ factor-sub-01 f x y
 
 -- What a rotation asks of an operation.
 module _ {A : Type 0} (f : A → A → A) (comm : (a b : A) → f a b ≡ f b a) (assoc : (a b c : A) → f (f a b) c ≡ f a (f b c)) where
