@@ -10,11 +10,15 @@ use Rattle.dag.specs.Refusals.{need, _then_, firstRefused}
 use Rattle.dag.specs.declared.Refusal.the-variants.{CountOutOfRange, StoreTooShort, UnknownTag, Malformed, OperandNotEarlier, RootOutside}
 use Rattle.dag.specs.declared.Checked.{Checked}
 
+-- an element's coordinates in lowest form
+abbrev pub lowest : Bounds → ℕ → ℕ → Bool
+lowest m a b = ltb a (m .c0-below) && ltb b (m .c1-below)
+
 -- coordinates in lowest form, a number that a key has, an unused word that is 0: what the words of a record with tag t must be
 unfoldable pub formed : Bounds → ℕ → ℕ → ℕ → Bool
 formed m t a b =
     cond (eqb t 0) (isKey a && eqb b 0)
-    (cond (eqb t 1) (ltb a (m .c0-below) && ltb b (m .c1-below))
+    (cond (eqb t 1) (lowest m a b)
     (cond (eqb t 5) (eqb b 0)
     true))
 

@@ -134,6 +134,16 @@ pub fn is_key(k: u64) -> bool
     fields_hold(FIELD_COUNTS[variant], k % 281474976710656)
 }
 
+// Whether two words are an element's coordinates in lowest form.
+pub fn lowest(c0: u64, c1: u64) -> bool
+    ensures { λ r. ⌜ r ≡ Check.lowest (goldilocks .bounds) c0 c1 ⌝ }
+{
+    if c0 < QuadFelt::MODULUS {
+        return c1 < QuadFelt::MODULUS;
+    }
+    false
+}
+
 // Whether the words of a record with tag t are those of a record.
 fn formed(t: u64, a: u64, b: u64) -> bool
     ensures { λ r. ⌜ r ≡ Check.formed (goldilocks .bounds) t a b ⌝ }
@@ -145,10 +155,7 @@ fn formed(t: u64, a: u64, b: u64) -> bool
         return false;
     }
     if t == 1 {
-        if a < QuadFelt::MODULUS {
-            return b < QuadFelt::MODULUS;
-        }
-        return false;
+        return lowest(a, b);
     }
     if t == 5 {
         return b == 0;

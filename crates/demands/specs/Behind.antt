@@ -19,7 +19,7 @@ use Rattle.dag.specs.declared.Checked.{Checked}
 use Rattle.dag.specs.declared.Found.the-variants.{At}
 use Rattle.builder.specs.Calls.{hasRoom, stepAnswer, stepStore}
 use Rattle.builder.specs.declared.StepAnswer.the-variants.{Done}
-use Rattle.evaluate.specs.Entries.{wordsBelow, entryCheck, entriesCheck, entryOf}
+use Rattle.evaluate.specs.Entries.{entryCheck, entriesCheck, entryOf}
 use Rattle.evaluate.specs.Calls.{entryWords, elementOf, given, evaluateCheck, evaluateAnswer}
 use Rattle.columns.specs.Columns.{logWithin}
 use Rattle.periodic.specs.Periodic.{buildPeriodicNodes}
@@ -62,9 +62,9 @@ module _ (field : Field) where
     same-word k h = sym (getD-take (entryWords * m) a k 0 h) ∙ (ap (λ l. getD l k 0) words ∙ getD-take (entryWords * m) c k 0 h)
 
     same-entry : (i : ℕ) → i < m → entryCheck (field .bounds) entryWords a i ≡ entryCheck (field .bounds) entryWords c i
-    unfolding entryCheck wordsBelow
+    unfolding entryCheck
     same-entry i h =
-        rw (same-word (entryWords * i) (omega arith), same-word (entryWords * i + 1 + 0) (omega arith), same-word (entryWords * i + 1 + 1) (omega arith))
+        rw (same-word (entryWords * i) (omega arith), same-word (entryWords * i + 1) (omega arith), same-word (entryWords * i + 2) (omega arith))
 
     same-first : (f g : ℕ → Checked) (k : ℕ) → ((i : ℕ) → i < k → f i ≡ g i) → firstRefused f k ≡ firstRefused g k
     unfolding firstRefused

@@ -1,10 +1,11 @@
 -- Entries of keys (document 01, Evaluate): `width` words each, a key number and then coordinates; of a key's entries the last counts.
-use Prim.Native.Nat.{ℕ, zero, suc, _+_, _*_, _-_, _<_, _≤_}
+use Prim.Native.Nat.{ℕ, _+_, _*_, _<_, _≤_}
 use mathlib.Core.Bool.{Bool, true, false, _&&_}
 use mathlib.Core.List.{List}
-use lib.Dec.{leb, ltb, eqb}
+use lib.Dec.{leb, eqb}
 use lib.ListN.{getD, length}
-use Rattle.field.specs.Fields.{Bounds, bound}
+use Rattle.field.specs.Fields.{Bounds}
+use Rattle.dag.specs.Check.{lowest}
 use Rattle.dag.specs.Keys.{isKey}
 use Rattle.dag.specs.Lookup.{greatest}
 use Rattle.dag.specs.Nodes.{at}
@@ -29,14 +30,10 @@ pub record Lent (width : ℕ) (e : List ℕ) (n : ℕ) : Type 0 where
 abbrev pub keyAt : ℕ → List ℕ → ℕ → ℕ
 keyAt width e i = getD e (width * i) 0
 
--- k words from a place on are coordinates in lowest form: the first is c0
-unfoldable pub wordsBelow : Bounds → List ℕ → ℕ → ℕ → Bool
-wordsBelow m e from zero = true
-wordsBelow m e from (suc k) = wordsBelow m e from k && ltb (getD e (from + k) 0) (bound m k)
-
--- 4: a number no key has, or a coordinate not in lowest form
+-- 4: a number no key has, or coordinates not in lowest form
 unfoldable pub entryCheck : Bounds → ℕ → List ℕ → ℕ → Checked
-entryCheck m width e i = need (isKey (keyAt width e i) && wordsBelow m e (width * i + 1) (width - 1)) (Malformed i)
+entryCheck m width e i =
+    need (isKey (keyAt width e i) && lowest m (getD e (width * i + 1) 0) (getD e (width * i + 2) 0)) (Malformed i)
 
 -- the tests of n entries: 11, 2, then the first bad entry
 unfoldable pub entriesCheck : Bounds → ℕ → List ℕ → ℕ → Checked

@@ -1,57 +1,28 @@
 -- The turns of the loops over entries, and what entries that pass are known to be.
-use Prim.Native.Nat.{ℕ, zero, suc, _+_, _*_, _-_, _≤_, _<_}
+use Prim.Native.Nat.{ℕ, _+_, _*_, _≤_, _<_}
 use mathlib.Core.Bool.{Bool, true, false, _&&_, true≢false}
 use mathlib.Core.List.{List}
 use mathlib.Core.Path.{_≡_, refl, sym, _∙_, ap, subst}
 use native.Mathlib.Nat.{mul-suc, mul-le-mul-left}
 use native.Mathlib.Omega.{arith}
-use borrow.Author.Tests.{lt-ltb, ltb-true, eqb-true, eqb-false}
-use lib.Dec.{ltb, eqb}
+use borrow.Author.Tests.{eqb-true, eqb-false}
+use lib.Dec.{eqb}
 use lib.ListN.{getD, length}
-use Rattle.field.specs.Fields.{Bounds, bound}
+use Rattle.field.specs.Fields.{Bounds}
 use Rattle.dag.specs.View.{View}
+use Rattle.dag.specs.Check.{lowest}
 use Rattle.dag.specs.Keys.{isKey}
 use Rattle.dag.specs.Nodes.{nodes, at, recordAt}
 use Rattle.dag.specs.NodeLaws.{at-nodes}
 use Rattle.dag.specs.SearchLaws.{Greatest, greatest-says}
 use Rattle.dag.specs.declared.NodeKind.{NodeKind}
-use Rattle.dag.specs.CaseLaws.{and-true, below-suc-elim}
 use Rattle.dag.specs.Refusals.{need}
 use Rattle.dag.specs.CheckLaws.{first-next, first-bad}
 use Rattle.dag.specs.declared.Found.{Found}
 use Rattle.dag.specs.declared.Found.the-variants.{At, Missing}
 use Rattle.dag.specs.declared.Refusal.the-variants.{Malformed, Unassigned}
 use Rattle.dag.specs.declared.Checked.the-variants.{Good, Refused}
-use Rattle.evaluate.specs.Entries.{Lent, keyAt, wordsBelow, entryCheck, entryOf, isFound, hasEntry, inputsCheck}
-
--- words in lowest form, one by one
-module _ (m : Bounds) (e : List ℕ) (from : ℕ) where
-  pub words-none : wordsBelow m e from (from - from) ≡ true
-  unfolding wordsBelow
-  words-none = let z : from - from ≡ 0 = omega arith in rw z
-
-  pub words-next : (i : ℕ) → from ≤ i → wordsBelow m e from (i - from) ≡ true → getD e i 0 < bound m (i - from) → wordsBelow m e from (i + 1 - from) ≡ true
-  unfolding wordsBelow
-  words-next i h w b =
-      let next : i + 1 - from ≡ suc (i - from) = omega arith in
-      let here : from + (i - from) ≡ i = omega arith in
-      rw (next, w, here) (lt-ltb (getD e i 0) (bound m (i - from)) b)
-
-  pub word-below : (k j : ℕ) → j < k → wordsBelow m e from k ≡ true → getD e (from + j) 0 < bound m j
-  unfolding wordsBelow
-  word-below zero j h w = absurd (omega arith)
-  word-below (suc k) j h w =
-      let both = and-true (wordsBelow m e from k) (ltb (getD e (from + k) 0) (bound m k)) w in
-      below-suc-elim (λ j. getD e (from + j) 0 < bound m j) k (λ j q. word-below k j q (both .0)) (ltb-true (getD e (from + k) 0) (bound m k) (both .1)) j h
-
-  pub words-fail : (i to : ℕ) → from ≤ i → i < to → bound m (i - from) ≤ getD e i 0 → false ≡ wordsBelow m e from (to - from)
-  words-fail i to h k bad = go (wordsBelow m e from (to - from)) refl
-    where
-      go : (b : Bool) → wordsBelow m e from (to - from) ≡ b → false ≡ b
-      go false w = refl
-      go true w =
-          let here : from + (i - from) ≡ i = omega arith in
-          absurd (let q = rw here at (word-below (to - from) (i - from) (omega arith) w) in omega arith)
+use Rattle.evaluate.specs.Entries.{Lent, keyAt, entryCheck, entryOf, isFound, hasEntry, inputsCheck}
 
 -- the test of one entry
 module _ (m : Bounds) (width : ℕ) (e : List ℕ) (i : ℕ) where
@@ -59,20 +30,17 @@ module _ (m : Bounds) (width : ℕ) (e : List ℕ) (i : ℕ) where
   unfolding entryCheck
   bad-key k = rw k
 
-  rest : width * i + width - (width * i + 1) ≡ width - 1
-  rest = omega arith
-
   bad-rest : (k w : Bool) → w ≡ false → Refused (Malformed i) ≡ need (k && w) (Malformed i)
   bad-rest true w e = rw e
   bad-rest false w e = refl
 
-  pub bad-words : wordsBelow m e (width * i + 1) (width * i + width - (width * i + 1)) ≡ false → Refused (Malformed i) ≡ entryCheck m width e i
+  pub bad-words : lowest m (getD e (width * i + 1) 0) (getD e (width * i + 2) 0) ≡ false → Refused (Malformed i) ≡ entryCheck m width e i
   unfolding entryCheck
-  bad-words w = bad-rest (isKey (keyAt width e i)) (wordsBelow m e (width * i + 1) (width - 1)) (rw rest at w)
+  bad-words w = bad-rest (isKey (keyAt width e i)) (lowest m (getD e (width * i + 1) 0) (getD e (width * i + 2) 0)) w
 
-  pub good-entry : isKey (keyAt width e i) ≡ true → wordsBelow m e (width * i + 1) (width * i + width - (width * i + 1)) ≡ true → Good ≡ entryCheck m width e i
+  pub good-entry : isKey (keyAt width e i) ≡ true → lowest m (getD e (width * i + 1) 0) (getD e (width * i + 2) 0) ≡ true → Good ≡ entryCheck m width e i
   unfolding entryCheck
-  good-entry k w = rw (k, rw rest at w)
+  good-entry k w = rw (k, w)
 
 -- the words of an entry are in the store
 module _ (width : ℕ) (e : List ℕ) (n : ℕ) (lent : Lent width e n) where

@@ -4,15 +4,17 @@ use mathlib.Core.Bool.{_&&_}
 use mathlib.Core.List.{List}
 use mathlib.Core.Path.{_≡_, refl, sym, _∙_, ap, ap₂, subst}
 use native.Mathlib.Numerals.{add-one}
-use native.Mathlib.Nat.{add-zero, add-assoc}
 use native.Mathlib.Omega.{arith}
-use lib.ListN.{length, set}
+use borrow.Author.Tests.{ltb-true}
+use lib.Dec.{ltb}
+use lib.ListN.{getD, length, set}
 use lib.Seq.{getD-set-same, getD-set-other}
 use Rattle.dag.specs.Refusals.{firstRefused}
 use Rattle.field.specs.Fields.{Field, Within, Low, elementLaws}
 use Rattle.field.specs.Field.{new}
 use Rattle.field.specs.declared.QuadFelt.{QuadFelt}
 use Rattle.dag.specs.View.{View}
+use Rattle.dag.specs.Check.{lowest}
 use Rattle.dag.specs.Keys.{isKey}
 use Rattle.dag.specs.Nodes.{nodes, at, recordAt}
 use Rattle.dag.specs.NodeLaws.{length-nodes, at-nodes}
@@ -26,8 +28,8 @@ use Rattle.dag.specs.declared.Found.the-variants.{At, Missing}
 use Rattle.dag.specs.declared.Checked.the-variants.{Good, Refused}
 use Rattle.meaning.specs.Values.{value, valueOf}
 use Rattle.meaning.specs.ValueLaws.{value-at, value-low, valueOf-cong}
-use Rattle.evaluate.specs.Entries.{keyAt, wordsBelow, entryCheck, entryOf, inputsCheck}
-use Rattle.evaluate.specs.EntryLaws.{word-below, entry-inside, an-entry, no-entry}
+use Rattle.evaluate.specs.Entries.{keyAt, entryCheck, entryOf, inputsCheck}
+use Rattle.evaluate.specs.EntryLaws.{entry-inside, an-entry, no-entry}
 use Rattle.evaluate.specs.Calls.{entryWords, elementOf, given}
 use Rattle.evaluate.specs.Contracts.{elementAt, recordAnswer, Valued, Ready, Filled}
 use Rattle.evaluate.specs.RecordLaws.{answered, unanswered}
@@ -39,9 +41,12 @@ module _ (field : Field) where
     entry-low : (i : ℕ) → i < m → Low field (elementOf a (At i))
     unfolding elementOf entryCheck
     entry-low i h =
-        let e = need-good (isKey (keyAt entryWords a i) && wordsBelow (field .bounds) a (entryWords * i + 1) 2) (Malformed i) (first-good (entryCheck (field .bounds) entryWords a) m good i h) in
-        let w = and-true (isKey (keyAt entryWords a i)) (wordsBelow (field .bounds) a (entryWords * i + 1) 2) e .1 in
-        (rw (add-zero (entryWords * i + 1)) at (word-below (field .bounds) a (entryWords * i + 1) 2 0 (omega arith) w), rw (add-assoc (entryWords * i) 1 1) at (word-below (field .bounds) a (entryWords * i + 1) 2 1 (omega arith) w))
+        let c0 = getD a (entryWords * i + 1) 0 in
+        let c1 = getD a (entryWords * i + 2) 0 in
+        let m = field .bounds in
+        let e = need-good (isKey (keyAt entryWords a i) && lowest m c0 c1) (Malformed i) (first-good (entryCheck m entryWords a) _ good i h) in
+        let w = and-true (ltb c0 (m .c0-below)) (ltb c1 (m .c1-below)) (and-true (isKey (keyAt entryWords a i)) (lowest m c0 c1) e .1) in
+        (ltb-true c0 (m .c0-below) (w .0), ltb-true c1 (m .c1-below) (w .1))
 
     found-low : (f : Found) → ((i : ℕ) → f ≡ At i → i < m) → Low field (elementOf a f)
     unfolding elementOf

@@ -5,12 +5,11 @@ use dag::NodeKind;
 use dag::Refusal;
 use field::QuadFelt;
 ghost use mathlib.Core.Path.{_≡_};
-ghost use Prim.Native.Nat.{_+_, _*_, _-_, _^_, _<_, _≤_};
+ghost use Prim.Native.Nat.{_+_, _*_, _^_, _<_, _≤_};
 ghost use lib.ListN.{length, set};
 ghost use Rattle.dag.specs.View.{interleaved};
 ghost use Rattle.dag.specs.Refusals as Refusals;
 ghost use Rattle.field.specs.Fields.{goldilocks};
-ghost use Rattle.field.specs.Field.{p};
 ghost use Rattle.dag.specs.Nodes as Nodes;
 ghost use Rattle.dag.specs.Refusals.{_then_};
 ghost use Rattle.dag.specs.Check.{listCheck};
@@ -53,31 +52,16 @@ fn key_at(entries: &[u64], width: usize, i: usize) -> u64
     entries[width * i]
 }
 
-// Whether the words from place `from` up to place `to` are below p.
-fn words_below(entries: &[u64], from: usize, to: usize) -> bool
-    requires { ⌜ (from ≤ to) × (to ≤ length (now entries)) ⌝ }
-    ensures { λ r. ⌜ r ≡ Entries.wordsBelow (goldilocks .bounds) (now (entries .entry)) from (to - from) ⌝ }
-{
-    let mut i = from;
-    while i < to {
-        if QuadFelt::MODULUS <= entries[i] {
-            return false;
-        }
-        i += 1;
-    }
-    true
-}
-
-// The test of entry i: a number that a key has, coordinates below p.
+// The test of entry i: a number that a key has, coordinates in lowest form.
 fn entry_check(entries: &[u64], width: usize, i: usize) -> Checked
-    requires { ⌜ (0 < width) × (width * i + width ≤ length (now entries)) ⌝ }
+    requires { ⌜ (2 < width) × (width * i + width ≤ length (now entries)) ⌝ }
     ensures { λ r. ⌜ r ≡ Entries.entryCheck (goldilocks .bounds) width (now (entries .entry)) i ⌝ }
 {
     let at = width * i;
     if !dag::is_key(key_at(entries, width, i)) {
         return Checked::Refused(Refusal::Malformed(i));
     }
-    if !words_below(entries, at + 1, at + width) {
+    if !dag::lowest(entries[at + 1], entries[at + 2]) {
         return Checked::Refused(Refusal::Malformed(i));
     }
     Checked::Good
@@ -85,7 +69,7 @@ fn entry_check(entries: &[u64], width: usize, i: usize) -> Checked
 
 // The first bad entry among the first m.
 fn first_bad_entry(entries: &[u64], width: usize, m: usize) -> Checked
-    requires { ⌜ Lent width (now entries) m ⌝ }
+    requires { ⌜ (2 < width) × Lent width (now entries) m ⌝ }
     ensures { λ r. ⌜ r ≡ Refusals.firstRefused (Entries.entryCheck (goldilocks .bounds) width (now (entries .entry))) m ⌝ }
 {
     let mut i = 0;
@@ -101,7 +85,7 @@ fn first_bad_entry(entries: &[u64], width: usize, m: usize) -> Checked
 
 // The tests of m entries: 11, 2, then the first bad entry.
 fn entries_check(entries: &[u64], width: usize, m: usize) -> Checked
-    requires { ⌜ (0 < width) × (width ≤ 3) ⌝ }
+    requires { ⌜ (2 < width) × (width ≤ 3) ⌝ }
     ensures { λ r. ⌜ r ≡ Entries.entriesCheck (goldilocks .bounds) width (now (entries .entry)) m ⌝ }
 {
     if MOST_ENTRIES < m {

@@ -1,5 +1,5 @@
 -- What describes a field: which coordinates are in lowest form, its rings with their laws, its generators, one half.
-use Prim.Native.Nat.{ℕ, zero, suc, _+_, _^_, _<_, _≤_}
+use Prim.Native.Nat.{ℕ, _+_, _^_, _<_, _≤_}
 use mathlib.Core.Path.{_≡_, refl}
 use native.Mathlib.Omega.{arith}
 use lib.Dec.{lit<}
@@ -14,11 +14,6 @@ use Rattle.field.specs.declared.QuadFelt.{QuadFelt}
 pub record Bounds : Type 0 where
   pub c0-below : ℕ
   pub c1-below : ℕ
-
--- coordinate j is below this
-abbrev pub bound : Bounds → ℕ → ℕ
-bound m zero = m .c0-below
-bound m (suc j) = m .c1-below
 
 abbrev pub Within : Bounds → QuadFelt → Type 0
 Within m x = (x .c0 < m .c0-below) × (x .c1 < m .c1-below)
@@ -96,7 +91,3 @@ goldilocks =
       half-inverse = Generators.half-inverse;
       columns-fit = omega arith;
     }
-
-pub bound-p : (j : ℕ) → bound (goldilocks .bounds) j ≡ p
-bound-p zero = refl
-bound-p (suc j) = refl

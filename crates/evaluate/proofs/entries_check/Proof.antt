@@ -17,7 +17,9 @@ unfolding Entries.entriesCheck
 returns-2 c = rw (le-leb _ _ (c .before .if1 .left), lt-leb _ _ (c .if2 .taken))
 
 first-bad-entry-requires : tie.Need-first-bad-entry-requires
-first-bad-entry-requires c κs = record { wide = c .before .before .before .pre .0; room = c .if2 .left }
+first-bad-entry-requires c κs =
+    let wide = c .before .before .before .pre .0 in
+    (wide, record { wide = omega arith; room = c .if2 .left })
 
 returns-3 : tie.Need-returns-3
 unfolding Entries.entriesCheck

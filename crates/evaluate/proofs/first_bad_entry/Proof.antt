@@ -23,7 +23,7 @@ unfolding firstRefused
 loop-holds c = (omega arith, refl)
 
 entry-check-requires : tie.Need-entry-check-requires Inv-loop μ-loop
-entry-check-requires c κs = (c .before .before .before .pre .wide, entry-room _ _ _ (c .before .before .before .pre) _ (omega arith))
+entry-check-requires c κs = (c .before .before .before .pre .0, entry-room _ _ _ (c .before .before .before .pre .1) _ (omega arith))
 
 is-refused-requires : tie.Need-is-refused-requires Inv-loop μ-loop
 is-refused-requires c κs = search needs
