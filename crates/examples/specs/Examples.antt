@@ -223,5 +223,15 @@ pub examples : List Example
 examples = A ∷ A-refused ∷ B ∷ C-normalized ∷ C-compacted ∷ D ∷ E ∷ F ∷ G ∷ H ∷ I ∷ J ∷ K-three ∷ K-four-below ∷ K-four-with ∷ K-copies ∷ L ∷ L-copied ∷ []
 
 pub all-examples : All examples
-unfolding examples felt quad same at sameNode operands rename isConstant isAdd isSub isMul isNeg element isThe lowFirst addRule subRule mulOutcome negOutcome follow addWithin subWithin addOutcome subOutcome outcome interned intern enter step placeOf recorded marked sweep marks rank kept compact count mentions fanout sharedFactor commonFactor orElse ontoBefore existingRotation eitherRotation planOf planned round fired rounded isKept roundsFrom normalize unit logWithin logLength occurrences isSparse standalone placesFrom withNew valuesFrom values weight heaviest dominant isScaled scalings combinationCost offset equalEntries gain sameEntries isAmong saving savings goesOver form upTo lowerCheck lowerStores lowerRoom interleaved stored rootlessCheck checkAt recordCheck formed earlier isKey prepareCheck firstRefused total columns periodGood lowered buildPeriodicNodes turns done recordAt nodes decode words wordsOf filled choices listCheck roomCheck wholeCheck lowerAnswer lowerResult normalized ascii digits decimal ended line number wordsAt fileView isCount headCheck formCheck heldCheck fileCheck kind firstLine recordLine recordLines listed refusedLine listing greatest
+unfolding
+  examples felt quad same at sameNode operands rename isConstant isAdd isSub isMul isNeg element isThe lowFirst addRule subRule
+  mulOutcome negOutcome follow addWithin subWithin addOutcome subOutcome outcome interned intern enter step placeOf recorded marked
+  sweep marks rank kept compact count mentions fanout sharedFactor commonFactor orElse ontoBefore existingRotation eitherRotation
+  planOf planned round fired rounded isKept roundsFrom normalize unit logWithin logLength occurrences isSparse standalone placesFrom
+  withNew valuesFrom values weight heaviest dominant isScaled scalings combinationCost offset equalEntries gain sameEntries isAmong
+  saving savings goesOver form upTo lowerCheck lowerStores lowerRoom interleaved stored rootlessCheck checkAt recordCheck formed
+  earlier isKey prepareCheck firstRefused total columns periodGood lowered buildPeriodicNodes turns done recordAt nodes decode words
+  wordsOf filled choices listCheck roomCheck wholeCheck lowerAnswer lowerResult normalized ascii digits decimal ended line number
+  wordsAt fileView isCount headCheck formCheck heldCheck fileCheck kind firstLine recordLine recordLines listed refusedLine listing
+  greatest
 all-examples = (refl, (refl, (refl, (refl, (refl, (refl, (refl, (refl, (refl, (refl, (refl, (refl, (three-sparse, (four-below, (four-with, (copies-sparse, (refl, (refl, tt))))))))))))))))))
