@@ -46,9 +46,13 @@ normalizeWords a = listWords (a .checked) (a .count) (a .roots) (a .rounds)
 abbrev pub evaluateWords : EvaluateAnswer → List ℕ
 evaluateWords a = answerWords (a .checked) (a .value .c0) (a .value .c1) 0
 
+-- the words of a refusal of Prepare
+abbrev pub refusedForms : Refusal → List ℕ
+refusedForms r = number r ∷ place r ∷ replicate 16 0
+
 abbrev pub checkedWords : Checked → ℕ → List ℕ → List ℕ
 checkedWords Checked.Good count forms = 0 ∷ count ∷ forms
-checkedWords (Checked.Refused r) count forms = number r ∷ place r ∷ replicate 16 0
+checkedWords (Checked.Refused r) count forms = refusedForms r
 
 abbrev pub prepareWords : PrepareAnswer → List ℕ
 prepareWords a = checkedWords (a .checked) (a .count) (a .forms)

@@ -1,4 +1,5 @@
-// The exported calls, for C and Rust (include/ace.h): each lends its stores to the library and writes the answer's words.
+// The exported calls, for C and Rust (include/ace.h): each takes a field number, lends its stores to the library and writes the
+// answer's words.
 use builder::BuildAnswer;
 use builder::StepAnswer;
 use columns::PrepareAnswer;
@@ -7,21 +8,16 @@ use dag::Checked;
 use dag::Refusal;
 use dag::Roots;
 use evaluate::EvaluateAnswer;
+use field::FieldNumber;
 use lower::LowerAnswer;
 use normalize::NormalizeAnswer;
 ghost use mathlib.Core.Path.{_≡_};
 ghost use mathlib.Core.List.{_∷_};
-ghost use lib.ListN.{length};
-ghost use Rattle.field.specs.Fields.{goldilocks};
-ghost use Rattle.dag.specs.View.{interleaved};
-ghost use Rattle.builder.specs.Calls as Calls;
-ghost use Rattle.columns.specs.Prepare as Prepare;
-ghost use Rattle.compact.specs.Calls as Compaction;
-ghost use Rattle.evaluate.specs.Calls as Evaluation;
-ghost use Rattle.lower.specs.Lower as Lowering;
-ghost use Rattle.normalize.specs.Calls as Normalising;
 ghost use Rattle.ace.specs.Answers as Answers;
-ghost use Rattle.field.specs.Field.{p};
+ghost use Rattle.ace.specs.Calls as Calls;
+
+// The interface that include/ace.h names: a caller built against another number is wrong.
+const INTERFACE: u64 = 2;
 
 // A refusal's words.
 fn refused_words(r: Refusal) -> [u64; 4]
@@ -108,6 +104,13 @@ fn form_words(first: u64, second: u64, forms: [u64; 16]) -> [u64; 18]
     words
 }
 
+// The words of a refusal of Prepare.
+fn refused_forms(r: Refusal) -> [u64; 18]
+    ensures { λ w. ⌜ w ≡ Answers.refusedForms r ⌝ }
+{
+    form_words(dag::number_of(r), dag::place_of(r) as u64, [0u64; 16])
+}
+
 // The words of Prepare's answer.
 fn prepare_words(a: PrepareAnswer) -> [u64; 18]
     ensures { λ w. ⌜ w ≡ Answers.prepareWords a ⌝ }
@@ -116,9 +119,7 @@ fn prepare_words(a: PrepareAnswer) -> [u64; 18]
     let forms = a.forms;
     match checked {
         Checked::Good => form_words(0, a.count as u64, forms),
-        Checked::Refused(r) => {
-            form_words(dag::number_of(r), dag::place_of(r) as u64, [0u64; 16])
-        }
+        Checked::Refused(r) => refused_forms(r),
     }
 }
 
@@ -135,6 +136,7 @@ fn lower_words(a: LowerAnswer) -> [u64; 4]
 // Step. Accepted: place, new n.
 #[no_mangle]
 pub extern "C" fn ace_step(
+    field: u64,
     list: &mut [u64],
     n: usize,
     tag: u64,
@@ -142,15 +144,24 @@ pub extern "C" fn ace_step(
     second: u64,
     answer: &mut [u64; 4],
 )
-    ensures store { λ _. ⌜ now (list .exit) ≡ Calls.stepStore goldilocks (now (list .entry)) n tag first second ⌝ }
-    ensures answer { λ _. ⌜ now (answer .exit) ≡ Answers.stepWords (Calls.stepAnswer goldilocks (interleaved (now (list .entry))) n tag first second) ⌝ }
+    ensures store { λ _. ⌜ now (list .exit) ≡ Calls.stepList field (now (list .entry)) n tag first second ⌝ }
+    ensures answer { λ _. ⌜ now (answer .exit) ≡ Calls.stepAnswer field (now (list .entry)) n tag first second ⌝ }
 {
-    *answer = step_words(builder::step(list, n, tag, first, second));
+    let known = field::numbered(field);
+    match known {
+        FieldNumber::Known(prime) => {
+            *answer = step_words(builder::step(prime, list, n, tag, first, second));
+        }
+        FieldNumber::Unknown => {
+            *answer = refused_words(Refusal::FieldNumber);
+        }
+    }
 }
 
 // Build. Accepted: count, root's place.
 #[no_mangle]
 pub extern "C" fn ace_build(
+    field: u64,
     list: &[u64],
     n: usize,
     root: usize,
@@ -158,31 +169,49 @@ pub extern "C" fn ace_build(
     map: &mut [u64],
     answer: &mut [u64; 4],
 )
-    ensures result { λ _. ⌜ now (result .exit) ≡ Calls.buildResult goldilocks (interleaved (now (list .entry))) n root (now (result .entry)) (length (now (map .entry))) ⌝ }
-    ensures map { λ _. ⌜ now (map .exit) ≡ Calls.buildMap goldilocks (interleaved (now (list .entry))) n root (interleaved (now (result .entry)) .room) (now (map .entry)) ⌝ }
-    ensures answer { λ _. ⌜ now (answer .exit) ≡ Answers.buildWords (Calls.buildAnswer goldilocks (interleaved (now (list .entry))) n root (interleaved (now (result .entry)) .room) (length (now (map .entry)))) ⌝ }
+    ensures result { λ _. ⌜ now (result .exit) ≡ Calls.buildResult field (now (list .entry)) n root (now (result .entry)) (now (map .entry)) ⌝ }
+    ensures map { λ _. ⌜ now (map .exit) ≡ Calls.buildMap field (now (list .entry)) n root (now (result .entry)) (now (map .entry)) ⌝ }
+    ensures answer { λ _. ⌜ now (answer .exit) ≡ Calls.buildAnswer field (now (list .entry)) n root (now (result .entry)) (now (map .entry)) ⌝ }
 {
-    *answer = build_words(builder::build(list, n, root, result, map));
+    let known = field::numbered(field);
+    match known {
+        FieldNumber::Known(prime) => {
+            *answer = build_words(builder::build(prime, list, n, root, result, map));
+        }
+        FieldNumber::Unknown => {
+            *answer = refused_words(Refusal::FieldNumber);
+        }
+    }
 }
 
 // Compact. Accepted: count, root.
 #[no_mangle]
 pub extern "C" fn ace_compact(
+    field: u64,
     list: &[u64],
     n: usize,
     root: usize,
     result: &mut [u64],
     answer: &mut [u64; 4],
 )
-    ensures result { λ _. ⌜ now (result .exit) ≡ Compaction.compactResult goldilocks (interleaved (now (list .entry))) n root (now (result .entry)) ⌝ }
-    ensures answer { λ _. ⌜ now (answer .exit) ≡ Answers.compactWords (Compaction.compactAnswer goldilocks (interleaved (now (list .entry))) n root (interleaved (now (result .entry)) .room)) ⌝ }
+    ensures result { λ _. ⌜ now (result .exit) ≡ Calls.compactResult field (now (list .entry)) n root (now (result .entry)) ⌝ }
+    ensures answer { λ _. ⌜ now (answer .exit) ≡ Calls.compactAnswer field (now (list .entry)) n root (now (result .entry)) ⌝ }
 {
-    *answer = compact_words(compact::compact(list, n, root, result));
+    let known = field::numbered(field);
+    match known {
+        FieldNumber::Known(prime) => {
+            *answer = compact_words(compact::compact(prime, list, n, root, result));
+        }
+        FieldNumber::Unknown => {
+            *answer = refused_words(Refusal::FieldNumber);
+        }
+    }
 }
 
 // Normalise. Accepted: count, root, rounds kept.
 #[no_mangle]
 pub extern "C" fn ace_normalize(
+    field: u64,
     list: &[u64],
     n: usize,
     root: usize,
@@ -190,16 +219,25 @@ pub extern "C" fn ace_normalize(
     work: &mut [u64],
     answer: &mut [u64; 4],
 )
-    ensures result { λ _. ⌜ now (result .exit) ≡ Normalising.normalizeResult goldilocks (interleaved (now (list .entry))) n root (now (result .entry)) (interleaved (now (work .entry)) .room) ⌝ }
-    ensures work { λ _. ⌜ now (work .exit) ≡ Normalising.normalizeWork goldilocks (interleaved (now (list .entry))) n root (interleaved (now (result .entry)) .room) (now (work .entry)) ⌝ }
-    ensures answer { λ _. ⌜ now (answer .exit) ≡ Answers.normalizeWords (Normalising.normalizeAnswer goldilocks (interleaved (now (list .entry))) n root (interleaved (now (result .entry)) .room) (interleaved (now (work .entry)) .room)) ⌝ }
+    ensures result { λ _. ⌜ now (result .exit) ≡ Calls.normalizeResult field (now (list .entry)) n root (now (result .entry)) (now (work .entry)) ⌝ }
+    ensures work { λ _. ⌜ now (work .exit) ≡ Calls.normalizeWork field (now (list .entry)) n root (now (result .entry)) (now (work .entry)) ⌝ }
+    ensures answer { λ _. ⌜ now (answer .exit) ≡ Calls.normalizeAnswer field (now (list .entry)) n root (now (result .entry)) (now (work .entry)) ⌝ }
 {
-    *answer = normalize_words(normalize::normalize(list, n, root, result, work));
+    let known = field::numbered(field);
+    match known {
+        FieldNumber::Known(prime) => {
+            *answer = normalize_words(normalize::normalize(prime, list, n, root, result, work));
+        }
+        FieldNumber::Unknown => {
+            *answer = refused_words(Refusal::FieldNumber);
+        }
+    }
 }
 
 // Evaluate. Accepted: c0, c1.
 #[no_mangle]
 pub extern "C" fn ace_evaluate(
+    field: u64,
     list: &[u64],
     n: usize,
     root: usize,
@@ -207,22 +245,39 @@ pub extern "C" fn ace_evaluate(
     m: usize,
     answer: &mut [u64; 4],
 )
-    ensures answer { λ _. ⌜ now (answer .exit) ≡ Answers.evaluateWords (Evaluation.evaluateAnswer goldilocks (interleaved (now (list .entry))) n root (now (assignment .entry)) m) ⌝ }
+    ensures answer { λ _. ⌜ now (answer .exit) ≡ Calls.evaluateAnswer field (now (list .entry)) n root (now (assignment .entry)) m ⌝ }
 {
-    *answer = evaluate_words(evaluate::evaluate(list, n, root, assignment, m));
+    let known = field::numbered(field);
+    match known {
+        FieldNumber::Known(prime) => {
+            *answer = evaluate_words(evaluate::evaluate(prime, list, n, root, assignment, m));
+        }
+        FieldNumber::Unknown => {
+            *answer = refused_words(Refusal::FieldNumber);
+        }
+    }
 }
 
 // Prepare. Accepted: columns, then a form each.
 #[no_mangle]
-pub extern "C" fn ace_prepare(lengths: &[u64], entries: &[u64], answer: &mut [u64; 18])
-    ensures answer { λ _. ⌜ now (answer .exit) ≡ Answers.prepareWords (Prepare.prepare p (now (lengths .entry)) (now (entries .entry))) ⌝ }
+pub extern "C" fn ace_prepare(field: u64, lengths: &[u64], entries: &[u64], answer: &mut [u64; 18])
+    ensures answer { λ _. ⌜ now (answer .exit) ≡ Calls.prepareAnswer field (now (lengths .entry)) (now (entries .entry)) ⌝ }
 {
-    *answer = prepare_words(columns::prepare(lengths, entries));
+    let known = field::numbered(field);
+    match known {
+        FieldNumber::Known(prime) => {
+            *answer = prepare_words(columns::prepare(prime, lengths, entries));
+        }
+        FieldNumber::Unknown => {
+            *answer = refused_forms(Refusal::FieldNumber);
+        }
+    }
 }
 
 // Lower. Accepted: count.
 #[no_mangle]
 pub extern "C" fn ace_lower(
+    field: u64,
     list: &[u64],
     n: usize,
     lengths: &[u64],
@@ -233,10 +288,36 @@ pub extern "C" fn ace_lower(
     places: &mut [u64],
     answer: &mut [u64; 4],
 )
-    ensures result { λ _. ⌜ now (result .exit) ≡ Lowering.lowerResult goldilocks (interleaved (now (list .entry))) n (now (lengths .entry)) (now (entries .entry)) period (now (result .entry)) (now (work .entry)) (now (places .entry)) ⌝ }
-    ensures work { λ _. ⌜ now (work .exit) ≡ Lowering.lowerWork goldilocks (interleaved (now (list .entry))) n (now (lengths .entry)) (now (entries .entry)) period (now (result .entry)) (now (work .entry)) (now (places .entry)) ⌝ }
-    ensures places { λ _. ⌜ now (places .exit) ≡ Lowering.lowerPlaces goldilocks (interleaved (now (list .entry))) n (now (lengths .entry)) (now (entries .entry)) period (now (result .entry)) (now (work .entry)) (now (places .entry)) ⌝ }
-    ensures answer { λ _. ⌜ now (answer .exit) ≡ Answers.lowerWords (Lowering.lowerAnswer goldilocks (interleaved (now (list .entry))) n (now (lengths .entry)) (now (entries .entry)) period (now (result .entry)) (now (work .entry)) (now (places .entry))) ⌝ }
+    ensures result { λ _. ⌜ now (result .exit) ≡ Calls.lowerResult field (now (list .entry)) n (now (lengths .entry)) (now (entries .entry)) period (now (result .entry)) (now (work .entry)) (now (places .entry)) ⌝ }
+    ensures work { λ _. ⌜ now (work .exit) ≡ Calls.lowerWork field (now (list .entry)) n (now (lengths .entry)) (now (entries .entry)) period (now (result .entry)) (now (work .entry)) (now (places .entry)) ⌝ }
+    ensures places { λ _. ⌜ now (places .exit) ≡ Calls.lowerPlaces field (now (list .entry)) n (now (lengths .entry)) (now (entries .entry)) period (now (result .entry)) (now (work .entry)) (now (places .entry)) ⌝ }
+    ensures answer { λ _. ⌜ now (answer .exit) ≡ Calls.lowerAnswer field (now (list .entry)) n (now (lengths .entry)) (now (entries .entry)) period (now (result .entry)) (now (work .entry)) (now (places .entry)) ⌝ }
 {
-    *answer = lower_words(lower::lower(list, n, lengths, entries, period, result, work, places));
+    let known = field::numbered(field);
+    match known {
+        FieldNumber::Known(prime) => {
+            *answer = lower_words(lower::lower(
+                prime,
+                list,
+                n,
+                lengths,
+                entries,
+                period,
+                result,
+                work,
+                places,
+            ));
+        }
+        FieldNumber::Unknown => {
+            *answer = refused_words(Refusal::FieldNumber);
+        }
+    }
+}
+
+// The interface's number.
+#[no_mangle]
+pub extern "C" fn ace_interface() -> u64
+    ensures { λ r. ⌜ r ≡ 2 ⌝ }
+{
+    INTERFACE
 }

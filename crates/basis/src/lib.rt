@@ -1,11 +1,12 @@
 // The value of a column in basis: the Lagrange basis of its rows, and the classes of its entries over it.
 use builder::Entered;
+use field::Prime;
 use field::felt;
 ghost use mathlib.Core.Path.{_≡_};
 ghost use Prim.Native.Nat.{_+_, _-_, _<_, _≤_};
 ghost use lib.ListN.{length};
-ghost use Rattle.field.specs.Fields.{goldilocks};
-ghost use Rattle.field.specs.Field.{p};
+ghost use Rattle.field.specs.Fields.{fieldOf};
+ghost use Rattle.field.specs.Field.{modulusOf, elements};
 ghost use Rattle.dag.specs.Arrays.{padded};
 ghost use Rattle.columns.specs.Contracts as ColumnContracts;
 ghost use Rattle.periodic.specs.Periodic as Periodic;
@@ -13,16 +14,17 @@ ghost use Rattle.periodic.specs.Contracts as PeriodicContracts;
 ghost use Rattle.basis.specs.Contracts as Contracts;
 
 // point − w^k, from w^k.
-fn basis_factor(list: &mut [u64], n: usize, point: usize, root: u64) -> Entered
-    requires { ⌜ PeriodicContracts.Ready goldilocks (now list) n × PeriodicContracts.Inside n point × (root < p) ⌝ }
-    ensures { λ r. ⌜ PeriodicContracts.Entering goldilocks (now (list .entry)) n (Contracts.factor goldilocks point root) (now (list .exit)) r ⌝ }
+fn basis_factor(prime: Prime, list: &mut [u64], n: usize, point: usize, root: u64) -> Entered
+    requires { ⌜ PeriodicContracts.Ready (fieldOf prime) (now list) n × PeriodicContracts.Inside n point × (root < modulusOf prime) ⌝ }
+    ensures { λ r. ⌜ PeriodicContracts.Entering (fieldOf prime) (now (list .entry)) n (Contracts.factor (fieldOf prime) point root) (now (list .exit)) r ⌝ }
 {
-    let root = periodic::constant(list, n, root);
-    periodic::sub(list, root.count, point, root.place)
+    let root = periodic::constant(prime, list, n, root);
+    periodic::sub(prime, list, root.count, point, root.place)
 }
 
 // point − w^k for each row k, into a store of places; answers the count.
 fn basis_factors(
+    prime: Prime,
     list: &mut [u64],
     n: usize,
     point: usize,
@@ -30,13 +32,13 @@ fn basis_factors(
     col: &[u64],
     places: &mut [u64],
 ) -> usize
-    requires { ⌜ PeriodicContracts.Ready goldilocks (now list) n × PeriodicContracts.Inside n point × (length (now col) ≤ length (now places)) × Contracts.Roots goldilocks (now col) (now roots) × (length (now col) ≤ 128) ⌝ }
-    ensures { λ r. ⌜ PeriodicContracts.Listing goldilocks (now (list .entry)) n (Periodic.factors goldilocks (now (col .entry)) point) (now (list .exit)) r (now (places .exit)) (length (now (col .entry))) ⌝ }
+    requires { ⌜ PeriodicContracts.Ready (fieldOf prime) (now list) n × PeriodicContracts.Inside n point × (length (now col) ≤ length (now places)) × Contracts.Roots (fieldOf prime) (now col) (now roots) × (length (now col) ≤ 128) ⌝ }
+    ensures { λ r. ⌜ PeriodicContracts.Listing (fieldOf prime) (now (list .entry)) n (Periodic.factors (fieldOf prime) (now (col .entry)) point) (now (list .exit)) r (now (places .exit)) (length (now (col .entry))) ⌝ }
 {
     let mut count = n;
     let mut k = 0;
     while k < col.len() {
-        let e = basis_factor(list, count, point, roots[k]);
+        let e = basis_factor(prime, list, count, point, roots[k]);
         places[k] = e.place as u64;
         count = e.count;
         k += 1;
@@ -60,6 +62,7 @@ fn backwards(places: &[u64]) -> [u64; 128]
 
 // Element j of the basis, from the products before and behind it.
 fn element(
+    prime: Prime,
     list: &mut [u64],
     n: usize,
     roots: &[u64; 128],
@@ -68,21 +71,23 @@ fn element(
     col: &[u64],
     j: usize,
 ) -> Entered
-    requires { ⌜ PeriodicContracts.Ready goldilocks (now list) n × Contracts.Products goldilocks n (now col) (now roots) (now prefix) (now suffix) × (j < length (now col)) ⌝ }
-    ensures { λ r. ⌜ PeriodicContracts.Entering goldilocks (now (list .entry)) n (Periodic.element goldilocks (now (col .entry)) (now (prefix .entry)) (now (suffix .entry)) j) (now (list .exit)) r ⌝ }
+    requires { ⌜ PeriodicContracts.Ready (fieldOf prime) (now list) n × Contracts.Products (fieldOf prime) n (now col) (now roots) (now prefix) (now suffix) × (j < length (now col)) ⌝ }
+    ensures { λ r. ⌜ PeriodicContracts.Entering (fieldOf prime) (now (list .entry)) n (Periodic.element (fieldOf prime) (now (col .entry)) (now (prefix .entry)) (now (suffix .entry)) j) (now (list .exit)) r ⌝ }
 {
     let product = periodic::mul(
+        prime,
         list,
         n,
         prefix[j] as usize,
         suffix[col.len() - 1 - j] as usize,
     );
-    let root = periodic::constant(list, product.count, roots[j]);
-    periodic::mul(list, root.count, root.place, product.place)
+    let root = periodic::constant(prime, list, product.count, roots[j]);
+    periodic::mul(prime, list, root.count, root.place, product.place)
 }
 
 // The sum of a class with row j added, where its entry is v.
 fn class_turn(
+    prime: Prime,
     list: &mut [u64],
     n: usize,
     roots: &[u64; 128],
@@ -93,8 +98,8 @@ fn class_turn(
     j: usize,
     acc: usize,
 ) -> Entered
-    requires { ⌜ PeriodicContracts.Ready goldilocks (now list) n × Contracts.Products goldilocks n (now col) (now roots) (now prefix) (now suffix) × (j < length (now col)) × PeriodicContracts.Inside n acc ⌝ }
-    ensures { λ r. ⌜ PeriodicContracts.Entering goldilocks (now (list .entry)) n (Periodic.classTurn goldilocks (now (col .entry)) (now (prefix .entry)) (now (suffix .entry)) v j acc) (now (list .exit)) r ⌝ }
+    requires { ⌜ PeriodicContracts.Ready (fieldOf prime) (now list) n × Contracts.Products (fieldOf prime) n (now col) (now roots) (now prefix) (now suffix) × (j < length (now col)) × PeriodicContracts.Inside n acc ⌝ }
+    ensures { λ r. ⌜ PeriodicContracts.Entering (fieldOf prime) (now (list .entry)) n (Periodic.classTurn (fieldOf prime) (now (col .entry)) (now (prefix .entry)) (now (suffix .entry)) v j acc) (now (list .exit)) r ⌝ }
 {
     if col[j] != v {
         return Entered {
@@ -102,12 +107,13 @@ fn class_turn(
             count: n,
         };
     }
-    let e = element(list, n, roots, prefix, suffix, col, j);
-    periodic::add(list, e.count, acc, e.place)
+    let e = element(prime, list, n, roots, prefix, suffix, col, j);
+    periodic::add(prime, list, e.count, acc, e.place)
 }
 
 // The sum of the elements whose entry is v.
 fn class_sum(
+    prime: Prime,
     list: &mut [u64],
     n: usize,
     roots: &[u64; 128],
@@ -116,13 +122,24 @@ fn class_sum(
     col: &[u64],
     v: u64,
 ) -> Entered
-    requires { ⌜ PeriodicContracts.Ready goldilocks (now list) n × Contracts.Products goldilocks n (now col) (now roots) (now prefix) (now suffix) ⌝ }
-    ensures { λ r. ⌜ PeriodicContracts.Entering goldilocks (now (list .entry)) n (Periodic.classSum goldilocks (now (col .entry)) (now (prefix .entry)) (now (suffix .entry)) v) (now (list .exit)) r ⌝ }
+    requires { ⌜ PeriodicContracts.Ready (fieldOf prime) (now list) n × Contracts.Products (fieldOf prime) n (now col) (now roots) (now prefix) (now suffix) ⌝ }
+    ensures { λ r. ⌜ PeriodicContracts.Entering (fieldOf prime) (now (list .entry)) n (Periodic.classSum (fieldOf prime) (now (col .entry)) (now (prefix .entry)) (now (suffix .entry)) v) (now (list .exit)) r ⌝ }
 {
-    let mut acc = periodic::constant(list, n, 0);
+    let mut acc = periodic::constant(prime, list, n, 0);
     let mut j = 0;
     while j < col.len() {
-        acc = class_turn(list, acc.count, roots, prefix, suffix, col, v, j, acc.place);
+        acc = class_turn(
+            prime,
+            list,
+            acc.count,
+            roots,
+            prefix,
+            suffix,
+            col,
+            v,
+            j,
+            acc.place,
+        );
         j += 1;
     }
     acc
@@ -130,6 +147,7 @@ fn class_sum(
 
 // The sum with the term of the class of value v, where it is one asked for: of the classes with coefficient −1, or of the others.
 fn term_turn(
+    prime: Prime,
     list: &mut [u64],
     n: usize,
     roots: &[u64; 128],
@@ -141,8 +159,8 @@ fn term_turn(
     sum: usize,
     minus: bool,
 ) -> Entered
-    requires { ⌜ PeriodicContracts.Ready goldilocks (now list) n × Contracts.Products goldilocks n (now col) (now roots) (now prefix) (now suffix) × PeriodicContracts.Inside n sum × Contracts.Class goldilocks (now col) d v ⌝ }
-    ensures { λ r. ⌜ PeriodicContracts.Entering goldilocks (now (list .entry)) n (Periodic.termTurn goldilocks (now (col .entry)) minus (now (prefix .entry)) (now (suffix .entry)) v sum) (now (list .exit)) r ⌝ }
+    requires { ⌜ PeriodicContracts.Ready (fieldOf prime) (now list) n × Contracts.Products (fieldOf prime) n (now col) (now roots) (now prefix) (now suffix) × PeriodicContracts.Inside n sum × Contracts.Class (fieldOf prime) (now col) d v ⌝ }
+    ensures { λ r. ⌜ PeriodicContracts.Entering (fieldOf prime) (now (list .entry)) n (Periodic.termTurn (fieldOf prime) (now (col .entry)) minus (now (prefix .entry)) (now (suffix .entry)) v sum) (now (list .exit)) r ⌝ }
 {
     let same = Entered {
         place: sum,
@@ -151,21 +169,22 @@ fn term_turn(
     if v == d {
         return same;
     }
-    let k = felt::sub(v, d);
-    if felt::is_minus_one(k) != minus {
+    let k = felt::sub(prime, v, d);
+    if felt::is_minus_one(prime, k) != minus {
         return same;
     }
-    let class = class_sum(list, n, roots, prefix, suffix, col, v);
+    let class = class_sum(prime, list, n, roots, prefix, suffix, col, v);
     if minus {
-        return periodic::sub(list, class.count, sum, class.place);
+        return periodic::sub(prime, list, class.count, sum, class.place);
     }
-    let scale = periodic::constant(list, class.count, k);
-    let term = periodic::mul(list, scale.count, scale.place, class.place);
-    periodic::add(list, term.count, sum, term.place)
+    let scale = periodic::constant(prime, list, class.count, k);
+    let term = periodic::mul(prime, list, scale.count, scale.place, class.place);
+    periodic::add(prime, list, term.count, sum, term.place)
 }
 
 // The sum with those terms of all classes.
 fn all_terms(
+    prime: Prime,
     list: &mut [u64],
     n: usize,
     roots: &[u64; 128],
@@ -177,8 +196,8 @@ fn all_terms(
     start: usize,
     minus: bool,
 ) -> Entered
-    requires { ⌜ PeriodicContracts.Ready goldilocks (now list) n × Contracts.Products goldilocks n (now col) (now roots) (now prefix) (now suffix) × PeriodicContracts.Inside n start × Contracts.Offset goldilocks (now col) (now values) d ⌝ }
-    ensures { λ r. ⌜ PeriodicContracts.Entering goldilocks (now (list .entry)) n (Periodic.allTerms goldilocks (now (col .entry)) minus (now (prefix .entry)) (now (suffix .entry)) start) (now (list .exit)) r ⌝ }
+    requires { ⌜ PeriodicContracts.Ready (fieldOf prime) (now list) n × Contracts.Products (fieldOf prime) n (now col) (now roots) (now prefix) (now suffix) × PeriodicContracts.Inside n start × Contracts.Offset (fieldOf prime) (now col) (now values) d ⌝ }
+    ensures { λ r. ⌜ PeriodicContracts.Entering (fieldOf prime) (now (list .entry)) n (Periodic.allTerms (fieldOf prime) (now (col .entry)) minus (now (prefix .entry)) (now (suffix .entry)) start) (now (list .exit)) r ⌝ }
 {
     let mut sum = Entered {
         place: start,
@@ -187,6 +206,7 @@ fn all_terms(
     let mut k = 0;
     while k < values.len() {
         sum = term_turn(
+            prime,
             list,
             sum.count,
             roots,
@@ -205,6 +225,7 @@ fn all_terms(
 
 // The offset and the classes of a column, over the products before and behind each row.
 fn basis_sum(
+    prime: Prime,
     list: &mut [u64],
     n: usize,
     roots: &[u64; 128],
@@ -212,15 +233,16 @@ fn basis_sum(
     suffix: &[u64],
     col: &[u64],
 ) -> Entered
-    requires { ⌜ PeriodicContracts.Ready goldilocks (now list) n × Contracts.Products goldilocks n (now col) (now roots) (now prefix) (now suffix) × ColumnContracts.Column p (now col) ⌝ }
-    ensures { λ r. ⌜ PeriodicContracts.Entering goldilocks (now (list .entry)) n (Periodic.basisSum goldilocks (now (col .entry)) (now (prefix .entry)) (now (suffix .entry))) (now (list .exit)) r ⌝ }
+    requires { ⌜ PeriodicContracts.Ready (fieldOf prime) (now list) n × Contracts.Products (fieldOf prime) n (now col) (now roots) (now prefix) (now suffix) × ColumnContracts.Column (modulusOf prime) (now col) ⌝ }
+    ensures { λ r. ⌜ PeriodicContracts.Entering (fieldOf prime) (now (list .entry)) n (Periodic.basisSum (fieldOf prime) (now (col .entry)) (now (prefix .entry)) (now (suffix .entry))) (now (list .exit)) r ⌝ }
 {
     let mut store = [0u64; 128];
     let t = columns::values(col, &mut store);
     let values = &store[..t];
-    let d = columns::offset(col, values);
-    let start = periodic::constant(list, n, d);
+    let d = columns::offset(prime, col, values);
+    let start = periodic::constant(prime, list, n, d);
     let sum = all_terms(
+        prime,
         list,
         start.count,
         roots,
@@ -233,6 +255,7 @@ fn basis_sum(
         false,
     );
     all_terms(
+        prime,
         list,
         sum.count,
         roots,
@@ -248,6 +271,7 @@ fn basis_sum(
 
 // The products behind each row, from its factors and the products before it, and then the sum.
 fn basis_back(
+    prime: Prime,
     list: &mut [u64],
     n: usize,
     roots: &[u64; 128],
@@ -255,14 +279,15 @@ fn basis_back(
     prefix: &[u64],
     col: &[u64],
 ) -> Entered
-    requires { ⌜ PeriodicContracts.Ready goldilocks (now list) n × Contracts.Products goldilocks n (now col) (now roots) (now prefix) (now factors) × ColumnContracts.Column p (now col) ⌝ }
-    ensures { λ r. ⌜ PeriodicContracts.Entering goldilocks (now (list .entry)) n (Periodic.basisBack goldilocks (now (col .entry)) (now (factors .entry)) (now (prefix .entry))) (now (list .exit)) r ⌝ }
+    requires { ⌜ PeriodicContracts.Ready (fieldOf prime) (now list) n × Contracts.Products (fieldOf prime) n (now col) (now roots) (now prefix) (now factors) × ColumnContracts.Column (modulusOf prime) (now col) ⌝ }
+    ensures { λ r. ⌜ PeriodicContracts.Entering (fieldOf prime) (now (list .entry)) n (Periodic.basisBack (fieldOf prime) (now (col .entry)) (now (factors .entry)) (now (prefix .entry))) (now (list .exit)) r ⌝ }
 {
     let period = col.len();
-    let one = periodic::constant(list, n, 1);
+    let one = periodic::constant(prime, list, n, 1);
     let turned = backwards(factors);
     let mut suffix = [0u64; 128];
     let count = periodic::chain(
+        prime,
         list,
         one.count,
         one.place,
@@ -270,21 +295,29 @@ fn basis_back(
         period - 1,
         &mut suffix,
     );
-    basis_sum(list, count, roots, prefix, &suffix[..period], col)
+    basis_sum(prime, list, count, roots, prefix, &suffix[..period], col)
 }
 
 // The factors and the products before each row, and then the rest.
-fn basis_front(list: &mut [u64], n: usize, point: usize, roots: &[u64; 128], col: &[u64]) -> Entered
-    requires { ⌜ PeriodicContracts.Ready goldilocks (now list) n × PeriodicContracts.Inside n point × ColumnContracts.Column p (now col) × Contracts.Roots goldilocks (now col) (now roots) ⌝ }
-    ensures { λ r. ⌜ PeriodicContracts.Entering goldilocks (now (list .entry)) n (Periodic.basisFront goldilocks (now (col .entry)) point) (now (list .exit)) r ⌝ }
+fn basis_front(
+    prime: Prime,
+    list: &mut [u64],
+    n: usize,
+    point: usize,
+    roots: &[u64; 128],
+    col: &[u64],
+) -> Entered
+    requires { ⌜ PeriodicContracts.Ready (fieldOf prime) (now list) n × PeriodicContracts.Inside n point × ColumnContracts.Column (modulusOf prime) (now col) × Contracts.Roots (fieldOf prime) (now col) (now roots) ⌝ }
+    ensures { λ r. ⌜ PeriodicContracts.Entering (fieldOf prime) (now (list .entry)) n (Periodic.basisFront (fieldOf prime) (now (col .entry)) point) (now (list .exit)) r ⌝ }
 {
     let period = col.len();
     let mut store = [0u64; 128];
-    let listed = basis_factors(list, n, point, roots, col, &mut store);
+    let listed = basis_factors(prime, list, n, point, roots, col, &mut store);
     let factors = &store[..period];
-    let scale = periodic::constant(list, listed, coefficients::size_inverse(col));
+    let scale = periodic::constant(prime, list, listed, coefficients::size_inverse(prime, col));
     let mut prefix = [0u64; 128];
     let count = periodic::chain(
+        prime,
         list,
         scale.count,
         scale.place,
@@ -292,15 +325,15 @@ fn basis_front(list: &mut [u64], n: usize, point: usize, roots: &[u64; 128], col
         period - 1,
         &mut prefix,
     );
-    basis_back(list, count, roots, factors, &prefix[..period], col)
+    basis_back(prime, list, count, roots, factors, &prefix[..period], col)
 }
 
 // The value of a column in basis whose point is ZK squared k times.
-pub fn basis_value(list: &mut [u64], n: usize, col: &[u64], k: usize) -> Entered
-    requires { ⌜ PeriodicContracts.Ready goldilocks (now list) n × ColumnContracts.Column p (now col) ⌝ }
-    ensures { λ r. ⌜ PeriodicContracts.Entering goldilocks (now (list .entry)) n (Periodic.basisValue goldilocks (now (col .entry)) k) (now (list .exit)) r ⌝ }
+pub fn basis_value(prime: Prime, list: &mut [u64], n: usize, col: &[u64], k: usize) -> Entered
+    requires { ⌜ PeriodicContracts.Ready (fieldOf prime) (now list) n × ColumnContracts.Column (modulusOf prime) (now col) ⌝ }
+    ensures { λ r. ⌜ PeriodicContracts.Entering (fieldOf prime) (now (list .entry)) n (Periodic.basisValue (fieldOf prime) (now (col .entry)) k) (now (list .exit)) r ⌝ }
 {
-    let z = periodic::z_power(list, n, k);
-    let roots = coefficients::roots(col);
-    basis_front(list, z.count, z.place, &roots, col)
+    let z = periodic::z_power(prime, list, n, k);
+    let roots = coefficients::roots(prime, col);
+    basis_front(prime, list, z.count, z.place, &roots, col)
 }

@@ -14,7 +14,7 @@ use Rattle.dag.specs.Refusals.{need}
 use Rattle.dag.specs.Check.{recordCheck, rootlessCheck}
 use Rattle.dag.specs.CheckLaws.{then-good, passed, faithful}
 use Rattle.dag.specs.PassLaws.{listed}
-use Rattle.dag.specs.Store.{Sound, put, written}
+use Rattle.dag.specs.Store.{Records, put, written}
 use Rattle.dag.specs.WordLaws.{written-put, written-own}
 use Rattle.dag.specs.declared.NodeKind.{NodeKind}
 use Rattle.dag.specs.declared.Refusal.{Refusal}
@@ -31,48 +31,48 @@ use Rattle.builder.specs.declared.StepAnswer.the-variants as StepAnswer'
 pub stepped-as : (s : List ℕ) (n : ℕ) (b d : Built) (r : StepAnswer) (after : List ℕ) → b ≡ d → Stepped s n d r after → Stepped s n b r after
 stepped-as s n b d r after e h = rw e h
 
-module _ (field : Field) where
-  module _ (s : List ℕ) (n : ℕ) (sound : Sound (field .bounds) (interleaved s) n) where
-    room-there : (i : ℕ) → stepRoomCheck (interleaved s) n (appended (nodes (interleaved s) n) (Place i)) ≡ Good
+module _ (s : List ℕ) (n : ℕ) (records : Records (interleaved s) n) where
+  room-there : (i : ℕ) → stepRoomCheck (interleaved s) n (appended (nodes (interleaved s) n) (Place i)) ≡ Good
+  unfolding stepRoomCheck
+  room-there i = rw (length-nodes (interleaved s) n, le-leb n n (omega arith))
+
+  -- a place that is there
+  pub stays : (i : ℕ) (b : Built) → b ≡ appended (nodes (interleaved s) n) (Place i) → Stepped s n b (StepAnswer'.Done i n) s
+  stays i b e = record { answer = rw (e, room-there i, length-nodes (interleaved s) n); store = rw (e, room-there i) (sym (written-own (records .0) s n (records .1))) }
+
+  module _ (y : NodeKind) where
+    abbrev longer : Built
+    longer = appended (nodes (interleaved s) n) (Node y)
+
+    room-new : stepRoomCheck (interleaved s) n longer ≡ need (hasRoom (interleaved s) n) NoRoom
     unfolding stepRoomCheck
-    room-there i = rw (length-nodes (interleaved s) n, le-leb n n (omega arith))
+    room-new = rw (length-snoc (nodes (interleaved s) n) y, length-nodes (interleaved s) n, lt-leb (suc n) n (omega arith))
 
-    -- a place that is there
-    pub stays : (i : ℕ) (b : Built) → b ≡ appended (nodes (interleaved s) n) (Place i) → Stepped s n b (StepAnswer'.Done i n) s
-    stays i b e = record { answer = rw (e, room-there i, length-nodes (interleaved s) n); store = rw (e, room-there i) (sym (written-own (field .bounds) s n sound)) }
+    refuses : hasRoom (interleaved s) n ≡ false → Stepped s n longer (StepAnswer'.Refused NoRoom) s
+    refuses e = record { answer = rw (room-new, e); store = rw (room-new, e) }
 
-    module _ (y : NodeKind) where
-      abbrev longer : Built
-      longer = appended (nodes (interleaved s) n) (Node y)
+    pub list-full : mostRecords ≤ n → Stepped s n longer (StepAnswer'.Refused NoRoom) s
+    unfolding hasRoom
+    list-full h = refuses (rw (le-ltb n mostRecords h))
 
-      room-new : stepRoomCheck (interleaved s) n longer ≡ need (hasRoom (interleaved s) n) NoRoom
-      unfolding stepRoomCheck
-      room-new = rw (length-snoc (nodes (interleaved s) n) y, length-nodes (interleaved s) n, lt-leb (suc n) n (omega arith))
+    pub store-short : n < mostRecords → interleaved s .room ≤ n → Stepped s n longer (StepAnswer'.Refused NoRoom) s
+    unfolding hasRoom
+    store-short h k = refuses (rw (lt-ltb n mostRecords h) (le-ltb n (interleaved s .room) k))
 
-      refuses : hasRoom (interleaved s) n ≡ false → Stepped s n longer (StepAnswer'.Refused NoRoom) s
-      refuses e = record { answer = rw (room-new, e); store = rw (room-new, e) }
+    put-written : n < interleaved s .room → put s n y ≡ written s (nodes (interleaved s) n ++ (y ∷ []))
+    put-written k = rw (written-own (records .0) s n (records .1), length-nodes (interleaved s) n) at (written-put s (nodes (interleaved s) n) y (rw (length-nodes (interleaved s) n) k))
 
-      pub list-full : mostRecords ≤ n → Stepped s n longer (StepAnswer'.Refused NoRoom) s
-      unfolding hasRoom
-      list-full h = refuses (rw (le-ltb n mostRecords h))
+    pub appends : (after : List ℕ) → n < mostRecords → n < interleaved s .room → after ≡ put s n y → Stepped s n longer (StepAnswer'.Done n (n + 1)) after
+    unfolding hasRoom
+    appends after h k e =
+        let room : hasRoom (interleaved s) n ≡ true = rw (lt-ltb n mostRecords h) (lt-ltb n (interleaved s .room) k) in
+        record {
+          answer = rw (room-new, room, length-snoc (nodes (interleaved s) n) y, length-nodes (interleaved s) n, add-one n);
+          store = rw (room-new, room) (e ∙ put-written k);
+        }
 
-      pub store-short : n < mostRecords → interleaved s .room ≤ n → Stepped s n longer (StepAnswer'.Refused NoRoom) s
-      unfolding hasRoom
-      store-short h k = refuses (rw (lt-ltb n mostRecords h) (le-ltb n (interleaved s .room) k))
-
-      put-written : n < interleaved s .room → put s n y ≡ written s (nodes (interleaved s) n ++ (y ∷ []))
-      put-written k = rw (written-own (field .bounds) s n sound, length-nodes (interleaved s) n) at (written-put s (nodes (interleaved s) n) y (rw (length-nodes (interleaved s) n) k))
-
-      pub appends : (after : List ℕ) → n < mostRecords → n < interleaved s .room → after ≡ put s n y → Stepped s n longer (StepAnswer'.Done n (n + 1)) after
-      unfolding hasRoom
-      appends after h k e =
-          let room : hasRoom (interleaved s) n ≡ true = rw (lt-ltb n mostRecords h) (lt-ltb n (interleaved s .room) k) in
-          record {
-            answer = rw (room-new, room, length-snoc (nodes (interleaved s) n) y, length-nodes (interleaved s) n, add-one n);
-            store = rw (room-new, room) (e ∙ put-written k);
-          }
-
-  -- the step, by what its request comes to
+-- the step, by what its request comes to
+module _ (field : Field) where
   module _ (l : List NodeKind) (x : NodeKind) (o : Outcome) (e : o ≡ outcome (field .elements) l x) where
     pub step-placed : (i : ℕ) → o ≡ Place i → step (field .elements) l x ≡ appended l (Place i)
     unfolding step enter

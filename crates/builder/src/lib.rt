@@ -4,14 +4,15 @@ use dag::Found;
 use dag::NodeKind;
 use dag::Refusal;
 use dag::Roots;
+use field::Prime;
 use field::QuadFelt;
 ghost use mathlib.Core.Path.{_≡_};
 ghost use mathlib.Core.Bool.{_&&_, not};
 ghost use Prim.Native.Nat.{_<_, _≤_};
 ghost use lib.Dec.{eqb};
 ghost use lib.ListN.{length};
-ghost use Rattle.field.specs.Fields.{goldilocks};
-ghost use Rattle.field.specs.Field.{quad};
+ghost use Rattle.field.specs.Fields.{fieldOf};
+ghost use Rattle.field.specs.Field.{elements};
 ghost use Rattle.dag.specs.View.{interleaved};
 ghost use Rattle.dag.specs.Nodes as Nodes;
 ghost use Rattle.dag.specs.Store as Store;
@@ -159,12 +160,12 @@ pub fn low_mul(a: usize, b: usize) -> NodeKind
 }
 
 // add(a, b), where places a and b hold x and y.
-fn add_rule(x: NodeKind, y: NodeKind, a: usize, b: usize) -> Rule
-    requires { ⌜ Contracts.ConstantsBelow goldilocks x y ⌝ }
-    ensures { λ r. ⌜ r ≡ Steps.addRule quad x y a b ⌝ }
+fn add_rule(prime: Prime, x: NodeKind, y: NodeKind, a: usize, b: usize) -> Rule
+    requires { ⌜ Contracts.ConstantsBelow (fieldOf prime) x y ⌝ }
+    ensures { λ r. ⌜ r ≡ Steps.addRule (elements prime) x y a b ⌝ }
 {
     if both_constant(x, y) {
-        return Rule::Make(NodeKind::Constant(element(x).add(element(y))));
+        return Rule::Make(NodeKind::Constant(element(x).add(prime, element(y))));
     }
     if is_the(QuadFelt::ZERO, x) {
         return Rule::Use(b);
@@ -188,12 +189,12 @@ fn add_rule(x: NodeKind, y: NodeKind, a: usize, b: usize) -> Rule
 }
 
 // sub(a, b), where places a and b hold x and y.
-fn sub_rule(x: NodeKind, y: NodeKind, a: usize, b: usize) -> Rule
-    requires { ⌜ Contracts.ConstantsBelow goldilocks x y ⌝ }
-    ensures { λ r. ⌜ r ≡ Steps.subRule quad x y a b ⌝ }
+fn sub_rule(prime: Prime, x: NodeKind, y: NodeKind, a: usize, b: usize) -> Rule
+    requires { ⌜ Contracts.ConstantsBelow (fieldOf prime) x y ⌝ }
+    ensures { λ r. ⌜ r ≡ Steps.subRule (elements prime) x y a b ⌝ }
 {
     if both_constant(x, y) {
-        return Rule::Make(NodeKind::Constant(element(x).sub(element(y))));
+        return Rule::Make(NodeKind::Constant(element(x).sub(prime, element(y))));
     }
     if is_the(QuadFelt::ZERO, y) {
         return Rule::Use(a);
@@ -217,12 +218,12 @@ fn sub_rule(x: NodeKind, y: NodeKind, a: usize, b: usize) -> Rule
 }
 
 // mul(a, b), where places a and b hold x and y.
-fn mul_outcome(x: NodeKind, y: NodeKind, a: usize, b: usize) -> Outcome
-    requires { ⌜ Contracts.ConstantsBelow goldilocks x y ⌝ }
-    ensures { λ r. ⌜ r ≡ Steps.mulOutcome quad x y a b ⌝ }
+fn mul_outcome(prime: Prime, x: NodeKind, y: NodeKind, a: usize, b: usize) -> Outcome
+    requires { ⌜ Contracts.ConstantsBelow (fieldOf prime) x y ⌝ }
+    ensures { λ r. ⌜ r ≡ Steps.mulOutcome (elements prime) x y a b ⌝ }
 {
     if both_constant(x, y) {
-        return Outcome::Node(NodeKind::Constant(element(x).mul(element(y))));
+        return Outcome::Node(NodeKind::Constant(element(x).mul(prime, element(y))));
     }
     if is_the(QuadFelt::ZERO, x) {
         return Outcome::Node(NodeKind::Constant(QuadFelt::ZERO));
@@ -240,54 +241,60 @@ fn mul_outcome(x: NodeKind, y: NodeKind, a: usize, b: usize) -> Outcome
 }
 
 // neg(a), where place a holds x.
-fn neg_outcome(x: NodeKind, a: usize) -> Outcome
-    requires { ⌜ Contracts.ConstantBelow goldilocks x ⌝ }
-    ensures { λ r. ⌜ r ≡ Steps.negOutcome quad x a ⌝ }
+fn neg_outcome(prime: Prime, x: NodeKind, a: usize) -> Outcome
+    requires { ⌜ Contracts.ConstantBelow (fieldOf prime) x ⌝ }
+    ensures { λ r. ⌜ r ≡ Steps.negOutcome (elements prime) x a ⌝ }
 {
     if has_tag(x, CONSTANT) {
-        return Outcome::Node(NodeKind::Constant(element(x).neg()));
+        return Outcome::Node(NodeKind::Constant(element(x).neg(prime)));
     }
     Outcome::Node(NodeKind::Neg(a))
 }
 
 // What add(a, b) on the first n records comes to.
-fn add_outcome(list: &[u64], n: usize, a: usize, b: usize) -> Outcome
-    requires { ⌜ Contracts.Operands goldilocks (interleaved (now list)) n a b ⌝ }
-    ensures { λ r. ⌜ r ≡ Steps.addOutcome quad (Nodes.nodes (interleaved (now (list .entry))) n) a b ⌝ }
+fn add_outcome(prime: Prime, list: &[u64], n: usize, a: usize, b: usize) -> Outcome
+    requires { ⌜ Contracts.Operands (fieldOf prime) (interleaved (now list)) n a b ⌝ }
+    ensures { λ r. ⌜ r ≡ Steps.addOutcome (elements prime) (Nodes.nodes (interleaved (now (list .entry))) n) a b ⌝ }
 {
-    let rule = add_rule(dag::node_at(list, a), dag::node_at(list, b), a, b);
+    let rule = add_rule(prime, dag::node_at(list, a), dag::node_at(list, b), a, b);
     match rule {
         Rule::Use(i) => Outcome::Place(i),
         Rule::Make(x) => Outcome::Node(x),
-        Rule::HandOver(c, d) => sub_outcome(list, n, c, d),
+        Rule::HandOver(c, d) => sub_outcome(prime, list, n, c, d),
     }
 }
 
 // What sub(a, b) on the first n records comes to.
-fn sub_outcome(list: &[u64], n: usize, a: usize, b: usize) -> Outcome
-    requires { ⌜ Contracts.Operands goldilocks (interleaved (now list)) n a b ⌝ }
-    ensures { λ r. ⌜ r ≡ Steps.subOutcome quad (Nodes.nodes (interleaved (now (list .entry))) n) a b ⌝ }
+fn sub_outcome(prime: Prime, list: &[u64], n: usize, a: usize, b: usize) -> Outcome
+    requires { ⌜ Contracts.Operands (fieldOf prime) (interleaved (now list)) n a b ⌝ }
+    ensures { λ r. ⌜ r ≡ Steps.subOutcome (elements prime) (Nodes.nodes (interleaved (now (list .entry))) n) a b ⌝ }
 {
-    let rule = sub_rule(dag::node_at(list, a), dag::node_at(list, b), a, b);
+    let rule = sub_rule(prime, dag::node_at(list, a), dag::node_at(list, b), a, b);
     match rule {
         Rule::Use(i) => Outcome::Place(i),
         Rule::Make(x) => Outcome::Node(x),
-        Rule::HandOver(c, d) => add_outcome(list, n, c, d),
+        Rule::HandOver(c, d) => add_outcome(prime, list, n, c, d),
     }
 }
 
 // What a request on the first n records comes to.
-fn request_outcome(list: &[u64], n: usize, x: NodeKind) -> Outcome
-    requires { ⌜ Contracts.Request goldilocks (interleaved (now list)) n x ⌝ }
-    ensures { λ r. ⌜ r ≡ Steps.outcome quad (Nodes.nodes (interleaved (now (list .entry))) n) x ⌝ }
+fn request_outcome(prime: Prime, list: &[u64], n: usize, x: NodeKind) -> Outcome
+    requires { ⌜ Contracts.Request (fieldOf prime) (interleaved (now list)) n x ⌝ }
+    ensures { λ r. ⌜ r ≡ Steps.outcome (elements prime) (Nodes.nodes (interleaved (now (list .entry))) n) x ⌝ }
 {
     match x {
         NodeKind::Input(k) => Outcome::Node(NodeKind::Input(k)),
         NodeKind::Constant(v) => Outcome::Node(NodeKind::Constant(v)),
-        NodeKind::Add(a, b) => add_outcome(list, n, a, b),
-        NodeKind::Sub(a, b) => sub_outcome(list, n, a, b),
-        NodeKind::Mul(a, b) => mul_outcome(dag::node_at(list, a), dag::node_at(list, b), a, b),
-        NodeKind::Neg(a) => neg_outcome(dag::node_at(list, a), a),
+        NodeKind::Add(a, b) => add_outcome(prime, list, n, a, b),
+        NodeKind::Sub(a, b) => sub_outcome(prime, list, n, a, b),
+        NodeKind::Mul(a, b) => mul_outcome(
+            prime,
+            dag::node_at(list, a),
+            dag::node_at(list, b),
+            a,
+            b,
+        ),
+        NodeKind::Neg(a) => neg_outcome(prime, dag::node_at(list, a), a),
     }
 }
 
@@ -302,11 +309,11 @@ fn found_or_new(found: Found, x: NodeKind) -> Outcome
 }
 
 // The place of a request's result among the first n records, or the new record that it needs, by the list's index.
-pub fn resolve(list: &[u64], n: usize, links: &[u64], x: NodeKind) -> Outcome
-    requires { ⌜ Contracts.Request goldilocks (interleaved (now list)) n x × NodeIndex (Nodes.nodes (interleaved (now list)) n) (now links) ⌝ }
-    ensures { λ r. ⌜ r ≡ Contracts.resolved goldilocks (Nodes.nodes (interleaved (now (list .entry))) n) n x ⌝ }
+pub fn resolve(prime: Prime, list: &[u64], n: usize, links: &[u64], x: NodeKind) -> Outcome
+    requires { ⌜ Contracts.Request (fieldOf prime) (interleaved (now list)) n x × NodeIndex (Nodes.nodes (interleaved (now list)) n) (now links) ⌝ }
+    ensures { λ r. ⌜ r ≡ Contracts.resolved (fieldOf prime) (Nodes.nodes (interleaved (now (list .entry))) n) n x ⌝ }
 {
-    let first = request_outcome(list, n, x);
+    let first = request_outcome(prime, list, n, x);
     match first {
         Outcome::Place(i) => Outcome::Place(i),
         Outcome::Node(y) => found_or_new(index::find(list, n, links, y), y),
@@ -328,11 +335,11 @@ pub fn note(links: &mut [u64], n: usize, y: NodeKind)
 }
 
 // Enters one request into a list of n records and its index, which have room for one more.
-pub fn push(list: &mut [u64], n: usize, links: &mut [u64], x: NodeKind) -> Entered
-    requires { ⌜ Contracts.Request goldilocks (interleaved (now list)) n x × Contracts.Room (now list) n (now links) ⌝ }
-    ensures { λ r. ⌜ Contracts.Noted goldilocks (now (list .entry)) n x (now (list .exit)) (now (links .exit)) r ⌝ }
+pub fn push(prime: Prime, list: &mut [u64], n: usize, links: &mut [u64], x: NodeKind) -> Entered
+    requires { ⌜ Contracts.Request (fieldOf prime) (interleaved (now list)) n x × Contracts.Room (now list) n (now links) ⌝ }
+    ensures { λ r. ⌜ Contracts.Noted (fieldOf prime) (now (list .entry)) n x (now (list .exit)) (now (links .exit)) r ⌝ }
 {
-    let result = resolve(list, n, links, x);
+    let result = resolve(prime, list, n, links, x);
     match result {
         Outcome::Place(i) => Entered { place: i, count: n },
         Outcome::Node(y) => {
@@ -347,19 +354,19 @@ pub fn push(list: &mut [u64], n: usize, links: &mut [u64], x: NodeKind) -> Enter
 }
 
 // Step's tests.
-fn step_check(list: &[u64], n: usize, tag: u64, first: u64, second: u64) -> Checked
-    ensures { λ r. ⌜ r ≡ Calls.stepCheck goldilocks (interleaved (now (list .entry))) n tag first second ⌝ }
+fn step_check(prime: Prime, list: &[u64], n: usize, tag: u64, first: u64, second: u64) -> Checked
+    ensures { λ r. ⌜ r ≡ Calls.stepCheck (fieldOf prime) (interleaved (now (list .entry))) n tag first second ⌝ }
 {
-    let checked = dag::rootless_check(list, n, 0);
+    let checked = dag::rootless_check(prime, list, n, 0);
     if dag::is_refused(checked) {
         return checked;
     }
-    dag::record_check(tag, first, second, n)
+    dag::record_check(prime, tag, first, second, n)
 }
 
 // Appends a new record where there is room.
 fn append(list: &mut [u64], n: usize, y: NodeKind) -> StepAnswer
-    requires { ⌜ Store.Sound (goldilocks .bounds) (interleaved (now list)) n × (n ≤ Nodes.mostRecords) ⌝ }
+    requires { ⌜ Store.Records (interleaved (now list)) n × (n ≤ Nodes.mostRecords) ⌝ }
     ensures { λ r. ⌜ Contracts.Stepped (now (list .entry)) n (Contracts.appended (Nodes.nodes (interleaved (now (list .entry))) n) (Outcome.Node y)) r (now (list .exit)) ⌝ }
 {
     if dag::MOST_RECORDS <= n {
@@ -377,7 +384,7 @@ fn append(list: &mut [u64], n: usize, y: NodeKind) -> StepAnswer
 
 // Interns a record by the plain search.
 fn intern(list: &mut [u64], n: usize, y: NodeKind) -> StepAnswer
-    requires { ⌜ Store.Sound (goldilocks .bounds) (interleaved (now list)) n × (n ≤ Nodes.mostRecords) ⌝ }
+    requires { ⌜ Store.Records (interleaved (now list)) n × (n ≤ Nodes.mostRecords) ⌝ }
     ensures { λ r. ⌜ Contracts.Stepped (now (list .entry)) n (Steps.intern (Nodes.nodes (interleaved (now (list .entry))) n) y) r (now (list .exit)) ⌝ }
 {
     let found = dag::lookup(list, n, y);
@@ -388,11 +395,11 @@ fn intern(list: &mut [u64], n: usize, y: NodeKind) -> StepAnswer
 }
 
 // Step past its tests.
-fn enter(list: &mut [u64], n: usize, x: NodeKind) -> StepAnswer
-    requires { ⌜ Contracts.Request goldilocks (interleaved (now list)) n x × (n ≤ Nodes.mostRecords) ⌝ }
-    ensures { λ r. ⌜ Contracts.Stepped (now (list .entry)) n (Steps.step quad (Nodes.nodes (interleaved (now (list .entry))) n) x) r (now (list .exit)) ⌝ }
+fn enter(prime: Prime, list: &mut [u64], n: usize, x: NodeKind) -> StepAnswer
+    requires { ⌜ Contracts.Request (fieldOf prime) (interleaved (now list)) n x × (n ≤ Nodes.mostRecords) ⌝ }
+    ensures { λ r. ⌜ Contracts.Stepped (now (list .entry)) n (Steps.step (elements prime) (Nodes.nodes (interleaved (now (list .entry))) n) x) r (now (list .exit)) ⌝ }
 {
-    let result = request_outcome(list, n, x);
+    let result = request_outcome(prime, list, n, x);
     match result {
         Outcome::Place(i) => StepAnswer::Done { place: i, count: n },
         Outcome::Node(y) => intern(list, n, y),
@@ -400,28 +407,42 @@ fn enter(list: &mut [u64], n: usize, x: NodeKind) -> StepAnswer
 }
 
 // Step: one request on a list.
-pub fn step(list: &mut [u64], n: usize, tag: u64, first: u64, second: u64) -> StepAnswer
-    ensures answer { λ r. ⌜ r ≡ Calls.stepAnswer goldilocks (interleaved (now (list .entry))) n tag first second ⌝ }
-    ensures store { λ _. ⌜ now (list .exit) ≡ Calls.stepStore goldilocks (now (list .entry)) n tag first second ⌝ }
+pub fn step(
+    prime: Prime,
+    list: &mut [u64],
+    n: usize,
+    tag: u64,
+    first: u64,
+    second: u64,
+) -> StepAnswer
+    ensures answer { λ r. ⌜ r ≡ Calls.stepAnswer (fieldOf prime) (interleaved (now (list .entry))) n tag first second ⌝ }
+    ensures store { λ _. ⌜ now (list .exit) ≡ Calls.stepStore (fieldOf prime) (now (list .entry)) n tag first second ⌝ }
 {
-    let checked = step_check(list, n, tag, first, second);
+    let checked = step_check(prime, list, n, tag, first, second);
     match checked {
         Checked::Refused(r) => StepAnswer::Refused(r),
-        Checked::Good => enter(list, n, dag::decode(tag, first, second)),
+        Checked::Good => enter(prime, list, n, dag::decode(tag, first, second)),
     }
 }
 
 // Replays the requests one after the other into an empty list; answers its count.
-fn replay(list: &[u64], n: usize, result: &mut [u64], map: &mut [u64], links: &mut [u64]) -> usize
-    requires { ⌜ Store.Sound (goldilocks .bounds) (interleaved (now list)) n × (n ≤ interleaved (now result) .room) × (n ≤ length (now map)) × Usable (now links) × (n ≤ half (now links)) ⌝ }
-    ensures { λ r. ⌜ Contracts.Holds goldilocks (Steps.replay quad (Nodes.nodes (interleaved (now (list .entry))) n) n) n (now (result .exit)) (now (map .exit)) r ⌝ }
+fn replay(
+    prime: Prime,
+    list: &[u64],
+    n: usize,
+    result: &mut [u64],
+    map: &mut [u64],
+    links: &mut [u64],
+) -> usize
+    requires { ⌜ Store.Sound (fieldOf prime .bounds) (interleaved (now list)) n × (n ≤ interleaved (now result) .room) × (n ≤ length (now map)) × Usable (now links) × (n ≤ half (now links)) ⌝ }
+    ensures { λ r. ⌜ Contracts.Holds (fieldOf prime) (Steps.replay (elements prime) (Nodes.nodes (interleaved (now (list .entry))) n) n) n (now (result .exit)) (now (map .exit)) r ⌝ }
 {
     index::clear(links);
     let mut count = 0;
     let mut i = 0;
     while i < n {
         let x = dag::renamed(map, dag::node_at(list, i));
-        let entered = push(result, count, links, x);
+        let entered = push(prime, result, count, links, x);
         map[i] = entered.place as u64;
         count = entered.count;
         i += 1;
@@ -441,10 +462,17 @@ fn build_stores(n: usize, result_room: usize, map_words: usize) -> Checked
 }
 
 // Build's tests.
-fn build_check(list: &[u64], n: usize, root: usize, result_room: usize, map_words: usize) -> Checked
-    ensures { λ r. ⌜ r ≡ Calls.buildCheck goldilocks (interleaved (now (list .entry))) n root «result_room» «map_words» ⌝ }
+fn build_check(
+    prime: Prime,
+    list: &[u64],
+    n: usize,
+    root: usize,
+    result_room: usize,
+    map_words: usize,
+) -> Checked
+    ensures { λ r. ⌜ r ≡ Calls.buildCheck (fieldOf prime) (interleaved (now (list .entry))) n root «result_room» «map_words» ⌝ }
 {
-    let checked = dag::list_check(list, n, root);
+    let checked = dag::list_check(prime, list, n, root);
     if dag::is_refused(checked) {
         return checked;
     }
@@ -453,6 +481,7 @@ fn build_check(list: &[u64], n: usize, root: usize, result_room: usize, map_word
 
 // Build past its tests, with the links of an index lent.
 fn build_in(
+    prime: Prime,
     list: &[u64],
     n: usize,
     roots: Roots,
@@ -460,10 +489,10 @@ fn build_in(
     map: &mut [u64],
     links: &mut [u64],
 ) -> BuildAnswer
-    requires { ⌜ Contracts.Ready goldilocks (interleaved (now list)) n roots (interleaved (now result) .room) (length (now map)) × Usable (now links) × (n ≤ half (now links)) ⌝ }
-    ensures { λ r. ⌜ Contracts.Finished (Steps.replay quad (Nodes.nodes (interleaved (now (list .entry))) n) n) roots (now (result .entry)) (now (map .entry)) r (now (result .exit)) (now (map .exit)) ⌝ }
+    requires { ⌜ Contracts.Ready (fieldOf prime) (interleaved (now list)) n roots (interleaved (now result) .room) (length (now map)) × Usable (now links) × (n ≤ half (now links)) ⌝ }
+    ensures { λ r. ⌜ Contracts.Finished (Steps.replay (elements prime) (Nodes.nodes (interleaved (now (list .entry))) n) n) roots (now (result .entry)) (now (map .entry)) r (now (result .exit)) (now (map .exit)) ⌝ }
 {
-    let count = replay(list, n, result, map, links);
+    let count = replay(prime, list, n, result, map, links);
     dag::blank_records(result, count);
     dag::blank_from(map, n);
     BuildAnswer {
@@ -475,36 +504,38 @@ fn build_in(
 
 // The same, with the links for the list's length.
 fn build_sized(
+    prime: Prime,
     list: &[u64],
     n: usize,
     roots: Roots,
     result: &mut [u64],
     map: &mut [u64],
 ) -> BuildAnswer
-    requires { ⌜ Contracts.Ready goldilocks (interleaved (now list)) n roots (interleaved (now result) .room) (length (now map)) ⌝ }
-    ensures { λ r. ⌜ Contracts.Finished (Steps.replay quad (Nodes.nodes (interleaved (now (list .entry))) n) n) roots (now (result .entry)) (now (map .entry)) r (now (result .exit)) (now (map .exit)) ⌝ }
+    requires { ⌜ Contracts.Ready (fieldOf prime) (interleaved (now list)) n roots (interleaved (now result) .room) (length (now map)) ⌝ }
+    ensures { λ r. ⌜ Contracts.Finished (Steps.replay (elements prime) (Nodes.nodes (interleaved (now (list .entry))) n) n) roots (now (result .entry)) (now (map .entry)) r (now (result .exit)) (now (map .exit)) ⌝ }
 {
     if n <= dag::FEW_RECORDS {
         let mut few = [0u64; 2 * dag::FEW_RECORDS];
-        return build_in(list, n, roots, result, map, &mut few);
+        return build_in(prime, list, n, roots, result, map, &mut few);
     }
     let mut links = [0u64; 2 * dag::MOST_RECORDS];
-    build_in(list, n, roots, result, map, &mut links)
+    build_in(prime, list, n, roots, result, map, &mut links)
 }
 
 // Build: a list of requests with a root, one after the other into an empty list.
 pub fn build(
+    prime: Prime,
     list: &[u64],
     n: usize,
     root: usize,
     result: &mut [u64],
     map: &mut [u64],
 ) -> BuildAnswer
-    ensures answer { λ r. ⌜ r ≡ Calls.buildAnswer goldilocks (interleaved (now (list .entry))) n root (interleaved (now (result .entry)) .room) (length (now (map .entry))) ⌝ }
-    ensures result { λ _. ⌜ now (result .exit) ≡ Calls.buildResult goldilocks (interleaved (now (list .entry))) n root (now (result .entry)) (length (now (map .entry))) ⌝ }
-    ensures map { λ _. ⌜ now (map .exit) ≡ Calls.buildMap goldilocks (interleaved (now (list .entry))) n root (interleaved (now (result .entry)) .room) (now (map .entry)) ⌝ }
+    ensures answer { λ r. ⌜ r ≡ Calls.buildAnswer (fieldOf prime) (interleaved (now (list .entry))) n root (interleaved (now (result .entry)) .room) (length (now (map .entry))) ⌝ }
+    ensures result { λ _. ⌜ now (result .exit) ≡ Calls.buildResult (fieldOf prime) (interleaved (now (list .entry))) n root (now (result .entry)) (length (now (map .entry))) ⌝ }
+    ensures map { λ _. ⌜ now (map .exit) ≡ Calls.buildMap (fieldOf prime) (interleaved (now (list .entry))) n root (interleaved (now (result .entry)) .room) (now (map .entry)) ⌝ }
 {
-    let checked = build_check(list, n, root, dag::room(result), map.len());
+    let checked = build_check(prime, list, n, root, dag::room(result), map.len());
     if dag::is_refused(checked) {
         return BuildAnswer {
             checked,
@@ -512,5 +543,5 @@ pub fn build(
             roots: dag::no_roots(),
         };
     }
-    build_sized(list, n, dag::one_root(root), result, map)
+    build_sized(prime, list, n, dag::one_root(root), result, map)
 }

@@ -1,15 +1,15 @@
 // The periodic types of ir.rs: a column's costs and forms, and Prepare.
 use dag::Checked;
 use dag::Refusal;
-use field::QuadFelt;
+use field::Prime;
 use field::felt;
+ghost use Rattle.field.specs.Field.{modulusOf};
 ghost use mathlib.Core.Path.{_≡_};
 ghost use mathlib.Core.Bool.{true, cond};
 ghost use lib.Dec.{leb};
-ghost use Prim.Native.Nat.{_+_, _*_, _-_, _^_, _<_, _≤_};
+ghost use Prim.Native.Nat.{ℕ, _+_, _*_, _-_, _^_, _<_, _≤_};
 ghost use lib.ListN.{length, take};
 ghost use Rattle.dag.specs.Refusals as Refusals;
-ghost use Rattle.field.specs.Field.{p};
 ghost use Rattle.columns.specs.Columns as Columns;
 ghost use Rattle.columns.specs.Prepare as Prepare;
 ghost use Rattle.columns.specs.Contracts as Contracts;
@@ -212,29 +212,29 @@ fn dominant(col: &[u64], values: &[u64]) -> u64
 }
 
 // Whether a class of value v is scaled, with offset d.
-fn is_scaled(v: u64, d: u64) -> bool
-    requires { ⌜ (v < p) × (d < p) ⌝ }
-    ensures { λ r. ⌜ r ≡ Columns.isScaled p d v ⌝ }
+fn is_scaled(prime: Prime, v: u64, d: u64) -> bool
+    requires { ⌜ (v < modulusOf prime) × (d < modulusOf prime) ⌝ }
+    ensures { λ r. ⌜ r ≡ Columns.isScaled (modulusOf prime) d v ⌝ }
 {
     if v == d {
         return false;
     }
-    let k = felt::sub(v, d);
+    let k = felt::sub(prime, v, d);
     if k == 1 {
         return false;
     }
-    !felt::is_minus_one(k)
+    !felt::is_minus_one(prime, k)
 }
 
 // How many of the values are scaled, with offset d.
-fn scalings(values: &[u64], d: u64) -> usize
-    requires { ⌜ (Prepare.allBelow p (now values) ≡ true) × (d < p) ⌝ }
-    ensures { λ r. ⌜ (r ≡ length (Columns.scalings p d (now (values .entry)))) × (r ≤ length (now (values .entry))) ⌝ }
+fn scalings(prime: Prime, values: &[u64], d: u64) -> usize
+    requires { ⌜ (Prepare.allBelow (modulusOf prime) (now values) ≡ true) × (d < modulusOf prime) ⌝ }
+    ensures { λ r. ⌜ (r ≡ length (Columns.scalings (modulusOf prime) d (now (values .entry)))) × (r ≤ length (now (values .entry))) ⌝ }
 {
     let mut n: usize = 0;
     let mut i = 0;
     while i < values.len() {
-        if is_scaled(values[i], d) {
+        if is_scaled(prime, values[i], d) {
             n += 1;
         }
         i += 1;
@@ -243,21 +243,21 @@ fn scalings(values: &[u64], d: u64) -> usize
 }
 
 // The cost of a column in basis, with offset d.
-fn combination_cost(col: &[u64], values: &[u64], d: u64) -> usize
-    requires { ⌜ Contracts.Classes p (now col) (now values) × (d < p) ⌝ }
-    ensures { λ r. ⌜ r ≡ Columns.combinationCost p (now (col .entry)) d ⌝ }
+fn combination_cost(prime: Prime, col: &[u64], values: &[u64], d: u64) -> usize
+    requires { ⌜ Contracts.Classes (modulusOf prime) (now col) (now values) × (d < modulusOf prime) ⌝ }
+    ensures { λ r. ⌜ r ≡ Columns.combinationCost (modulusOf prime) (now (col .entry)) d ⌝ }
 {
-    let cost = less(others(col, d), 1) + 3 * scalings(values, d);
+    let cost = less(others(col, d), 1) + 3 * scalings(prime, values, d);
     if d == 0 { cost } else { cost + 3 }
 }
 
 // The offset of a column in basis.
-pub fn offset(col: &[u64], values: &[u64]) -> u64
-    requires { ⌜ Contracts.Classes p (now col) (now values) ⌝ }
-    ensures { λ r. ⌜ (r ≡ Columns.offset p (now (col .entry))) × (r < p) ⌝ }
+pub fn offset(prime: Prime, col: &[u64], values: &[u64]) -> u64
+    requires { ⌜ Contracts.Classes (modulusOf prime) (now col) (now values) ⌝ }
+    ensures { λ r. ⌜ (r ≡ Columns.offset (modulusOf prime) (now (col .entry))) × (r < modulusOf prime) ⌝ }
 {
     let d = dominant(col, values);
-    if combination_cost(col, values, d) < combination_cost(col, values, 0) {
+    if combination_cost(prime, col, values, d) < combination_cost(prime, col, values, 0) {
         d
     } else {
         0
@@ -265,9 +265,9 @@ pub fn offset(col: &[u64], values: &[u64]) -> u64
 }
 
 // What a column saves in basis.
-fn gain(col: &[u64]) -> usize
-    requires { ⌜ Contracts.Column p (now col) ⌝ }
-    ensures { λ r. ⌜ r ≡ Columns.gain p (now (col .entry)) ⌝ }
+fn gain(prime: Prime, col: &[u64]) -> usize
+    requires { ⌜ Contracts.Column (modulusOf prime) (now col) ⌝ }
+    ensures { λ r. ⌜ r ≡ Columns.gain (modulusOf prime) (now (col .entry)) ⌝ }
 {
     if others(col, col[0]) == 0 {
         return 0;
@@ -275,8 +275,8 @@ fn gain(col: &[u64]) -> usize
     let mut store = [0u64; 128];
     let n = values(col, &mut store);
     let classes = &store[..n];
-    let d = offset(col, classes);
-    less(standalone(col), combination_cost(col, classes, d))
+    let d = offset(prime, col, classes);
+    less(standalone(col), combination_cost(prime, col, classes, d))
 }
 
 // Where column j begins: the lengths before it, added up.
@@ -336,14 +336,14 @@ fn is_repeated(lengths: &[u64], entries: &[u64], j: usize) -> bool
 }
 
 // What each column saves in basis, 0 past the last.
-pub fn gains(lengths: &[u64], entries: &[u64]) -> [u64; 16]
-    requires { ⌜ Contracts.Tested p (now lengths) (now entries) ⌝ }
-    ensures { λ r. ⌜ r ≡ Contracts.gains p (Prepare.columns (now (lengths .entry)) (now (entries .entry))) ⌝ }
+pub fn gains(prime: Prime, lengths: &[u64], entries: &[u64]) -> [u64; 16]
+    requires { ⌜ Contracts.Tested (modulusOf prime) (now lengths) (now entries) ⌝ }
+    ensures { λ r. ⌜ r ≡ Contracts.gains (modulusOf prime) (Prepare.columns (now (lengths .entry)) (now (entries .entry))) ⌝ }
 {
     let mut gains = [0u64; 16];
     let mut j = 0;
     while j < lengths.len() {
-        gains[j] = gain(column(lengths, entries, j)) as u64;
+        gains[j] = gain(prime, column(lengths, entries, j)) as u64;
         j += 1;
     }
     gains
@@ -363,8 +363,8 @@ fn saving(lengths: &[u64], entries: &[u64], gains: &[u64], j: usize) -> u64
 
 // What each column adds to its period's savings, 0 past the last.
 pub fn savings_each(lengths: &[u64], entries: &[u64], gains: &[u64]) -> [u64; 16]
-    requires { ⌜ Contracts.Handed (now lengths) (now entries) × (now gains ≡ Contracts.gains p (Prepare.columns (now lengths) (now entries))) ⌝ }
-    ensures { λ r. ⌜ r ≡ Contracts.savingsEach p (Prepare.columns (now (lengths .entry)) (now (entries .entry))) ⌝ }
+    requires { ⌜ Contracts.Handed (now lengths) (now entries) × ((m : ℕ) × (now gains ≡ Contracts.gains m (Prepare.columns (now lengths) (now entries)))) ⌝ }
+    ensures { λ r. ⌜ ((m : ℕ) → now (gains .entry) ≡ Contracts.gains m (Prepare.columns (now (lengths .entry)) (now (entries .entry))) → r ≡ Contracts.savingsEach m (Prepare.columns (now (lengths .entry)) (now (entries .entry)))) ⌝ }
 {
     let mut each = [0u64; 16];
     let mut j = 0;
@@ -416,8 +416,8 @@ fn alone(col: &[u64]) -> Form
 
 // Column j's form.
 pub fn column_form(lengths: &[u64], entries: &[u64], gains: &[u64], each: &[u64], j: usize) -> Form
-    requires { ⌜ Contracts.Weighed p (now lengths) (now entries) (now gains) (now each) × (j < length (now lengths)) ⌝ }
-    ensures { λ r. ⌜ r ≡ Columns.form p (Prepare.columns (now (lengths .entry)) (now (entries .entry))) j ⌝ }
+    requires { ⌜ ((m : ℕ) × Contracts.Weighed m (now lengths) (now entries) (now gains) (now each)) × (j < length (now lengths)) ⌝ }
+    ensures { λ r. ⌜ ((m : ℕ) → Contracts.Weighed m (now (lengths .entry)) (now (entries .entry)) (now (gains .entry)) (now (each .entry)) → r ≡ Columns.form m (Prepare.columns (now (lengths .entry)) (now (entries .entry))) j) ⌝ }
 {
     if !goes_over(lengths, each, lengths[j]) {
         return alone(column(lengths, entries, j));
@@ -440,11 +440,11 @@ fn form_number(form: Form) -> u64
 }
 
 // The columns' forms as numbers, 0 past the last.
-fn forms(lengths: &[u64], entries: &[u64]) -> [u64; 16]
-    requires { ⌜ Contracts.Tested p (now lengths) (now entries) ⌝ }
-    ensures { λ r. ⌜ r ≡ Prepare.forms p (Prepare.columns (now (lengths .entry)) (now (entries .entry))) ⌝ }
+fn forms(prime: Prime, lengths: &[u64], entries: &[u64]) -> [u64; 16]
+    requires { ⌜ Contracts.Tested (modulusOf prime) (now lengths) (now entries) ⌝ }
+    ensures { λ r. ⌜ r ≡ Prepare.forms (modulusOf prime) (Prepare.columns (now (lengths .entry)) (now (entries .entry))) ⌝ }
 {
-    let gains = gains(lengths, entries);
+    let gains = gains(prime, lengths, entries);
     let each = savings_each(lengths, entries, &gains);
     let mut forms = [0u64; 16];
     let mut j = 0;
@@ -469,13 +469,14 @@ fn lengths_check(lengths: &[u64]) -> Checked
     Checked::Good
 }
 
-// Whether all entries are below p.
-fn all_below(col: &[u64]) -> bool
-    ensures { λ r. ⌜ r ≡ Prepare.allBelow p (now (col .entry)) ⌝ }
+// Whether all entries are below the prime.
+fn all_below(prime: Prime, col: &[u64]) -> bool
+    ensures { λ r. ⌜ r ≡ Prepare.allBelow (modulusOf prime) (now (col .entry)) ⌝ }
 {
+    let modulus = felt::modulus(prime);
     let mut i = 0;
     while i < col.len() {
-        if QuadFelt::MODULUS <= col[i] {
+        if modulus <= col[i] {
             return false;
         }
         i += 1;
@@ -483,14 +484,14 @@ fn all_below(col: &[u64]) -> bool
     true
 }
 
-// The first column with an entry not below p: 4.
-fn entries_check(lengths: &[u64], entries: &[u64]) -> Checked
+// The first column with an entry not below the prime: 4.
+fn entries_check(prime: Prime, lengths: &[u64], entries: &[u64]) -> Checked
     requires { ⌜ Contracts.Handed (now lengths) (now entries) ⌝ }
-    ensures { λ r. ⌜ r ≡ Refusals.firstRefused (Prepare.entriesCheck p (Prepare.columns (now (lengths .entry)) (now (entries .entry)))) (length (now (lengths .entry))) ⌝ }
+    ensures { λ r. ⌜ r ≡ Refusals.firstRefused (Prepare.entriesCheck (modulusOf prime) (Prepare.columns (now (lengths .entry)) (now (entries .entry)))) (length (now (lengths .entry))) ⌝ }
 {
     let mut j = 0;
     while j < lengths.len() {
-        if !all_below(column(lengths, entries, j)) {
+        if !all_below(prime, column(lengths, entries, j)) {
             return Checked::Refused(Refusal::Malformed(j));
         }
         j += 1;
@@ -499,8 +500,8 @@ fn entries_check(lengths: &[u64], entries: &[u64]) -> Checked
 }
 
 // Prepare's tests: 13, 14, 2, 4.
-pub fn prepare_check(lengths: &[u64], entries: &[u64]) -> Checked
-    ensures { λ r. ⌜ r ≡ Prepare.prepareCheck p (now (lengths .entry)) (now (entries .entry)) ⌝ }
+pub fn prepare_check(prime: Prime, lengths: &[u64], entries: &[u64]) -> Checked
+    ensures { λ r. ⌜ r ≡ Prepare.prepareCheck (modulusOf prime) (now (lengths .entry)) (now (entries .entry)) ⌝ }
 {
     if MOST_COLUMNS < lengths.len() {
         return Checked::Refused(Refusal::TooManyColumns);
@@ -512,14 +513,14 @@ pub fn prepare_check(lengths: &[u64], entries: &[u64]) -> Checked
     if entries.len() < start(lengths, lengths.len()) {
         return Checked::Refused(Refusal::StoreTooShort);
     }
-    entries_check(lengths, entries)
+    entries_check(prime, lengths, entries)
 }
 
 // Prepare: the tests, and each column's form.
-pub fn prepare(lengths: &[u64], entries: &[u64]) -> PrepareAnswer
-    ensures { λ r. ⌜ r ≡ Prepare.prepare p (now (lengths .entry)) (now (entries .entry)) ⌝ }
+pub fn prepare(prime: Prime, lengths: &[u64], entries: &[u64]) -> PrepareAnswer
+    ensures { λ r. ⌜ r ≡ Prepare.prepare (modulusOf prime) (now (lengths .entry)) (now (entries .entry)) ⌝ }
 {
-    let checked = prepare_check(lengths, entries);
+    let checked = prepare_check(prime, lengths, entries);
     if dag::is_refused(checked) {
         return PrepareAnswer {
             checked,
@@ -530,6 +531,6 @@ pub fn prepare(lengths: &[u64], entries: &[u64]) -> PrepareAnswer
     PrepareAnswer {
         checked,
         count: lengths.len(),
-        forms: forms(lengths, entries),
+        forms: forms(prime, lengths, entries),
     }
 }

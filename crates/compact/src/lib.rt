@@ -2,11 +2,12 @@
 use dag::Checked;
 use dag::NodeKind;
 use dag::Roots;
+use field::Prime;
 ghost use mathlib.Core.Path.{_≡_};
 ghost use mathlib.Core.List.{_++_};
 ghost use Prim.Native.Nat.{_≤_};
 ghost use lib.ListN.{length, drop};
-ghost use Rattle.field.specs.Fields.{goldilocks};
+ghost use Rattle.field.specs.Fields.{fieldOf};
 ghost use Rattle.dag.specs.View.{interleaved};
 ghost use Rattle.dag.specs.Nodes as Nodes;
 ghost use Rattle.dag.specs.Roots.{rootsOf, Inside};
@@ -173,10 +174,10 @@ fn compact_sized(list: &[u64], n: usize, roots: Roots, result: &mut [u64]) -> Ke
 }
 
 // Compact's tests.
-fn compact_check(list: &[u64], n: usize, root: usize, result_room: usize) -> Checked
-    ensures { λ r. ⌜ r ≡ Calls.compactCheck goldilocks (interleaved (now (list .entry))) n root «result_room» ⌝ }
+fn compact_check(prime: Prime, list: &[u64], n: usize, root: usize, result_room: usize) -> Checked
+    ensures { λ r. ⌜ r ≡ Calls.compactCheck (fieldOf prime) (interleaved (now (list .entry))) n root «result_room» ⌝ }
 {
-    let checked = dag::list_check(list, n, root);
+    let checked = dag::list_check(prime, list, n, root);
     if dag::is_refused(checked) {
         return checked;
     }
@@ -184,11 +185,17 @@ fn compact_check(list: &[u64], n: usize, root: usize, result_room: usize) -> Che
 }
 
 // Compact: the records that the root reaches, in order, into the result store.
-pub fn compact(list: &[u64], n: usize, root: usize, result: &mut [u64]) -> CompactAnswer
-    ensures answer { λ r. ⌜ r ≡ Calls.compactAnswer goldilocks (interleaved (now (list .entry))) n root (interleaved (now (result .entry)) .room) ⌝ }
-    ensures store { λ _. ⌜ now (result .exit) ≡ Calls.compactResult goldilocks (interleaved (now (list .entry))) n root (now (result .entry)) ⌝ }
+pub fn compact(
+    prime: Prime,
+    list: &[u64],
+    n: usize,
+    root: usize,
+    result: &mut [u64],
+) -> CompactAnswer
+    ensures answer { λ r. ⌜ r ≡ Calls.compactAnswer (fieldOf prime) (interleaved (now (list .entry))) n root (interleaved (now (result .entry)) .room) ⌝ }
+    ensures store { λ _. ⌜ now (result .exit) ≡ Calls.compactResult (fieldOf prime) (interleaved (now (list .entry))) n root (now (result .entry)) ⌝ }
 {
-    let checked = compact_check(list, n, root, dag::room(result));
+    let checked = compact_check(prime, list, n, root, dag::room(result));
     if dag::is_refused(checked) {
         return CompactAnswer {
             checked,

@@ -1,12 +1,14 @@
 // The constraint DAG's records: key numbers, `NodeKind` and its three words, refusals, the list check and the lookup.
+use field::Prime;
 use field::QuadFelt;
+use field::felt;
 ghost use mathlib.Core.Path.{_≡_};
 ghost use Prim.Native.Nat.{ℕ, _+_, _*_, _-_, _^_, _<_, _≤_};
 ghost use lib.Dec.{ltb};
 ghost use mathlib.Core.List.{[], _∷_, _++_};
 ghost use mathlib.Core.List as Lists;
 ghost use lib.ListN.{length, getD, take, replicate};
-ghost use Rattle.field.specs.Fields.{goldilocks};
+ghost use Rattle.field.specs.Fields.{fieldOf};
 ghost use Rattle.dag.specs.View.{interleaved};
 ghost use Rattle.dag.specs.Keys as Keys;
 ghost use Rattle.dag.specs.Nodes as Nodes;
@@ -66,6 +68,7 @@ pub enum Refusal {
     FileVersion,
     FileCount,
     FileLength,
+    FieldNumber,
 }
 
 // What a test of the input says.
@@ -135,18 +138,18 @@ pub fn is_key(k: u64) -> bool
 }
 
 // Whether two words are an element's coordinates in lowest form.
-pub fn lowest(c0: u64, c1: u64) -> bool
-    ensures { λ r. ⌜ r ≡ Check.lowest (goldilocks .bounds) c0 c1 ⌝ }
+pub fn lowest(prime: Prime, c0: u64, c1: u64) -> bool
+    ensures { λ r. ⌜ r ≡ Check.lowest (fieldOf prime .bounds) c0 c1 ⌝ }
 {
-    if c0 < QuadFelt::MODULUS {
-        return c1 < QuadFelt::MODULUS;
+    if c0 < felt::modulus(prime) {
+        return c1 < felt::second_below(prime);
     }
     false
 }
 
 // Whether the words of a record with tag t are those of a record.
-fn formed(t: u64, a: u64, b: u64) -> bool
-    ensures { λ r. ⌜ r ≡ Check.formed (goldilocks .bounds) t a b ⌝ }
+fn formed(prime: Prime, t: u64, a: u64, b: u64) -> bool
+    ensures { λ r. ⌜ r ≡ Check.formed (fieldOf prime .bounds) t a b ⌝ }
 {
     if t == 0 {
         if is_key(a) {
@@ -155,7 +158,7 @@ fn formed(t: u64, a: u64, b: u64) -> bool
         return false;
     }
     if t == 1 {
-        return lowest(a, b);
+        return lowest(prime, a, b);
     }
     if t == 5 {
         return b == 0;
@@ -181,13 +184,13 @@ fn earlier(t: u64, a: u64, b: u64, i: usize) -> bool
 }
 
 // The tests of one record at place i: 3, 4, 5.
-pub fn record_check(t: u64, a: u64, b: u64, i: usize) -> Checked
-    ensures { λ r. ⌜ r ≡ Check.recordCheck (goldilocks .bounds) t a b i ⌝ }
+pub fn record_check(prime: Prime, t: u64, a: u64, b: u64, i: usize) -> Checked
+    ensures { λ r. ⌜ r ≡ Check.recordCheck (fieldOf prime .bounds) t a b i ⌝ }
 {
     if 5 < t {
         return Checked::Refused(Refusal::UnknownTag(i));
     }
-    if !formed(t, a, b) {
+    if !formed(prime, t, a, b) {
         return Checked::Refused(Refusal::Malformed(i));
     }
     if !earlier(t, a, b, i) {
@@ -238,21 +241,27 @@ pub fn second_at(list: &[u64], i: usize) -> u64
 }
 
 // The tests of the record at place i.
-fn check_at(list: &[u64], i: usize) -> Checked
+fn check_at(prime: Prime, list: &[u64], i: usize) -> Checked
     requires { ⌜ i < interleaved (now list) .room ⌝ }
-    ensures { λ r. ⌜ r ≡ Check.checkAt (goldilocks .bounds) (interleaved (now (list .entry))) i ⌝ }
+    ensures { λ r. ⌜ r ≡ Check.checkAt (fieldOf prime .bounds) (interleaved (now (list .entry))) i ⌝ }
 {
-    record_check(tag_at(list, i), first_at(list, i), second_at(list, i), i)
+    record_check(
+        prime,
+        tag_at(list, i),
+        first_at(list, i),
+        second_at(list, i),
+        i,
+    )
 }
 
 // The first bad record among the first n.
-fn records_check(list: &[u64], n: usize) -> Checked
+fn records_check(prime: Prime, list: &[u64], n: usize) -> Checked
     requires { ⌜ n ≤ interleaved (now list) .room ⌝ }
-    ensures { λ r. ⌜ r ≡ Check.recordsCheck (goldilocks .bounds) (interleaved (now (list .entry))) n ⌝ }
+    ensures { λ r. ⌜ r ≡ Check.recordsCheck (fieldOf prime .bounds) (interleaved (now (list .entry))) n ⌝ }
 {
     let mut i = 0;
     while i < n {
-        let checked = check_at(list, i);
+        let checked = check_at(prime, list, i);
         if is_refused(checked) {
             return checked;
         }
@@ -272,8 +281,8 @@ pub fn room_check(needed: usize, room: usize) -> Checked
 }
 
 // The tests of a list of at least `least` records without a root: 1, 2, then the records.
-pub fn rootless_check(list: &[u64], n: usize, least: usize) -> Checked
-    ensures { λ r. ⌜ r ≡ Check.rootlessCheck (goldilocks .bounds) least (interleaved (now (list .entry))) n ⌝ }
+pub fn rootless_check(prime: Prime, list: &[u64], n: usize, least: usize) -> Checked
+    ensures { λ r. ⌜ r ≡ Check.rootlessCheck (fieldOf prime .bounds) least (interleaved (now (list .entry))) n ⌝ }
 {
     if n < least {
         return Checked::Refused(Refusal::CountOutOfRange);
@@ -285,14 +294,14 @@ pub fn rootless_check(list: &[u64], n: usize, least: usize) -> Checked
     if is_refused(short) {
         return short;
     }
-    records_check(list, n)
+    records_check(prime, list, n)
 }
 
 // The list check, with a root.
-pub fn list_check(list: &[u64], n: usize, root: usize) -> Checked
-    ensures { λ r. ⌜ r ≡ Check.listCheck (goldilocks .bounds) (interleaved (now (list .entry))) n root ⌝ }
+pub fn list_check(prime: Prime, list: &[u64], n: usize, root: usize) -> Checked
+    ensures { λ r. ⌜ r ≡ Check.listCheck (fieldOf prime .bounds) (interleaved (now (list .entry))) n root ⌝ }
 {
-    let checked = rootless_check(list, n, 1);
+    let checked = rootless_check(prime, list, n, 1);
     if is_refused(checked) {
         return checked;
     }
@@ -578,6 +587,7 @@ pub fn number_of(r: Refusal) -> u64
         Refusal::FileVersion => 22,
         Refusal::FileCount => 23,
         Refusal::FileLength => 24,
+        Refusal::FieldNumber => 49,
     }
 }
 
@@ -602,5 +612,6 @@ pub fn place_of(r: Refusal) -> usize
         Refusal::FileVersion => 0,
         Refusal::FileCount => 0,
         Refusal::FileLength => 0,
+        Refusal::FieldNumber => 0,
     }
 }

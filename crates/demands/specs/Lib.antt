@@ -8,3 +8,4 @@ pub mod NoTrace
 pub mod Accepted
 pub mod Normalising
 pub mod Evaluating
+pub mod Numbered

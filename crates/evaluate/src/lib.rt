@@ -3,13 +3,14 @@ use dag::Checked;
 use dag::Found;
 use dag::NodeKind;
 use dag::Refusal;
+use field::Prime;
 use field::QuadFelt;
 ghost use mathlib.Core.Path.{_≡_};
 ghost use Prim.Native.Nat.{_+_, _*_, _^_, _<_, _≤_};
 ghost use lib.ListN.{length, set};
 ghost use Rattle.dag.specs.View.{interleaved};
 ghost use Rattle.dag.specs.Refusals as Refusals;
-ghost use Rattle.field.specs.Fields.{goldilocks};
+ghost use Rattle.field.specs.Fields.{fieldOf};
 ghost use Rattle.dag.specs.Nodes as Nodes;
 ghost use Rattle.dag.specs.Refusals.{_then_};
 ghost use Rattle.dag.specs.Check.{listCheck};
@@ -53,28 +54,28 @@ fn key_at(entries: &[u64], width: usize, i: usize) -> u64
 }
 
 // The test of entry i: a number that a key has, coordinates in lowest form.
-fn entry_check(entries: &[u64], width: usize, i: usize) -> Checked
+fn entry_check(prime: Prime, entries: &[u64], width: usize, i: usize) -> Checked
     requires { ⌜ (2 < width) × (width * i + width ≤ length (now entries)) ⌝ }
-    ensures { λ r. ⌜ r ≡ Entries.entryCheck (goldilocks .bounds) width (now (entries .entry)) i ⌝ }
+    ensures { λ r. ⌜ r ≡ Entries.entryCheck (fieldOf prime .bounds) width (now (entries .entry)) i ⌝ }
 {
     let at = width * i;
     if !dag::is_key(key_at(entries, width, i)) {
         return Checked::Refused(Refusal::Malformed(i));
     }
-    if !dag::lowest(entries[at + 1], entries[at + 2]) {
+    if !dag::lowest(prime, entries[at + 1], entries[at + 2]) {
         return Checked::Refused(Refusal::Malformed(i));
     }
     Checked::Good
 }
 
 // The first bad entry among the first m.
-fn first_bad_entry(entries: &[u64], width: usize, m: usize) -> Checked
+fn first_bad_entry(prime: Prime, entries: &[u64], width: usize, m: usize) -> Checked
     requires { ⌜ (2 < width) × Lent width (now entries) m ⌝ }
-    ensures { λ r. ⌜ r ≡ Refusals.firstRefused (Entries.entryCheck (goldilocks .bounds) width (now (entries .entry))) m ⌝ }
+    ensures { λ r. ⌜ r ≡ Refusals.firstRefused (Entries.entryCheck (fieldOf prime .bounds) width (now (entries .entry))) m ⌝ }
 {
     let mut i = 0;
     while i < m {
-        let checked = entry_check(entries, width, i);
+        let checked = entry_check(prime, entries, width, i);
         if dag::is_refused(checked) {
             return checked;
         }
@@ -84,9 +85,9 @@ fn first_bad_entry(entries: &[u64], width: usize, m: usize) -> Checked
 }
 
 // The tests of m entries: 11, 2, then the first bad entry.
-fn entries_check(entries: &[u64], width: usize, m: usize) -> Checked
+fn entries_check(prime: Prime, entries: &[u64], width: usize, m: usize) -> Checked
     requires { ⌜ (2 < width) × (width ≤ 3) ⌝ }
-    ensures { λ r. ⌜ r ≡ Entries.entriesCheck (goldilocks .bounds) width (now (entries .entry)) m ⌝ }
+    ensures { λ r. ⌜ r ≡ Entries.entriesCheck (fieldOf prime .bounds) width (now (entries .entry)) m ⌝ }
 {
     if MOST_ENTRIES < m {
         return Checked::Refused(Refusal::TooManyEntries);
@@ -94,7 +95,7 @@ fn entries_check(entries: &[u64], width: usize, m: usize) -> Checked
     if entries.len() < width * m {
         return Checked::Refused(Refusal::StoreTooShort);
     }
-    first_bad_entry(entries, width, m)
+    first_bad_entry(prime, entries, width, m)
 }
 
 // A count that two counts do not pass: the larger.
@@ -198,6 +199,7 @@ fn element_at(c0: &[u64], c1: &[u64], i: usize) -> QuadFelt
 
 // The value of the record at place i, on the values before it.
 fn value_of(
+    prime: Prime,
     list: &[u64],
     i: usize,
     assignment: &[u64],
@@ -206,24 +208,24 @@ fn value_of(
     c0: &[u64],
     c1: &[u64],
 ) -> Assigned
-    requires { ⌜ Contracts.Valued goldilocks (interleaved (now list)) i (now c0) (now c1) ⌝ }
+    requires { ⌜ Contracts.Valued (fieldOf prime) (interleaved (now list)) i (now c0) (now c1) ⌝ }
     requires { ⌜ Lent Calls.entryWords (now assignment) m × KeyIndex.Keyed Calls.entryWords (now assignment) m (now links) ⌝ }
-    ensures { λ r. ⌜ r ≡ Contracts.recordAnswer goldilocks (now (assignment .entry)) m (Contracts.elementAt (now (c0 .entry)) (now (c1 .entry))) (Nodes.recordAt (interleaved (now (list .entry))) i) ⌝ }
+    ensures { λ r. ⌜ r ≡ Contracts.recordAnswer (fieldOf prime) (now (assignment .entry)) m (Contracts.elementAt (now (c0 .entry)) (now (c1 .entry))) (Nodes.recordAt (interleaved (now (list .entry))) i) ⌝ }
 {
     let x = dag::node_at(list, i);
     match x {
         NodeKind::Input(k) => given(assignment, m, links, k),
         NodeKind::Constant(c) => Assigned::Element(c),
         NodeKind::Add(a, b) => {
-            Assigned::Element(element_at(c0, c1, a).add(element_at(c0, c1, b)))
+            Assigned::Element(element_at(c0, c1, a).add(prime, element_at(c0, c1, b)))
         }
         NodeKind::Sub(a, b) => {
-            Assigned::Element(element_at(c0, c1, a).sub(element_at(c0, c1, b)))
+            Assigned::Element(element_at(c0, c1, a).sub(prime, element_at(c0, c1, b)))
         }
         NodeKind::Mul(a, b) => {
-            Assigned::Element(element_at(c0, c1, a).mul(element_at(c0, c1, b)))
+            Assigned::Element(element_at(c0, c1, a).mul(prime, element_at(c0, c1, b)))
         }
-        NodeKind::Neg(a) => Assigned::Element(element_at(c0, c1, a).neg()),
+        NodeKind::Neg(a) => Assigned::Element(element_at(c0, c1, a).neg(prime)),
     }
 }
 
@@ -238,6 +240,7 @@ fn put_element(c0: &mut [u64], c1: &mut [u64], i: usize, v: QuadFelt)
 
 // Fills in the values of the first n records, coordinate by coordinate, up to the first input whose key has no entry: 12.
 fn fill_values(
+    prime: Prime,
     list: &[u64],
     n: usize,
     assignment: &[u64],
@@ -246,14 +249,14 @@ fn fill_values(
     c0: &mut [u64],
     c1: &mut [u64],
 ) -> Checked
-    requires { ⌜ Contracts.Ready goldilocks (interleaved (now list)) n (now assignment) m (length (now c0)) × (n ≤ length (now c1)) ⌝ }
+    requires { ⌜ Contracts.Ready (fieldOf prime) (interleaved (now list)) n (now assignment) m (length (now c0)) × (n ≤ length (now c1)) ⌝ }
     requires { ⌜ KeyIndex.Keyed Calls.entryWords (now assignment) m (now links) ⌝ }
     ensures { λ r. ⌜ r ≡ Entries.inputsCheck (Entries.entryOf Calls.entryWords (now (assignment .entry)) m) (Nodes.nodes (interleaved (now (list .entry))) n) n ⌝ }
-    ensures { λ r. ⌜ (r ≡ Checked.Good → Contracts.Filled goldilocks (interleaved (now (list .entry))) n (now (assignment .entry)) m (now (c0 .exit)) (now (c1 .exit)) n) ⌝ }
+    ensures { λ r. ⌜ (r ≡ Checked.Good → Contracts.Filled (fieldOf prime) (interleaved (now (list .entry))) n (now (assignment .entry)) m (now (c0 .exit)) (now (c1 .exit)) n) ⌝ }
 {
     let mut i = 0;
     while i < n {
-        let value = value_of(list, i, assignment, m, links, c0, c1);
+        let value = value_of(prime, list, i, assignment, m, links, c0, c1);
         match value {
             Assigned::Absent => return Checked::Refused(Refusal::Unassigned(i)),
             Assigned::Element(v) => put_element(c0, c1, i, v),
@@ -275,6 +278,7 @@ fn refused(r: Refusal) -> EvaluateAnswer
 
 // Evaluate behind the tests of its words, with stores for the values and the index lent.
 fn evaluate_in(
+    prime: Prime,
     list: &[u64],
     n: usize,
     root: usize,
@@ -284,12 +288,12 @@ fn evaluate_in(
     c1: &mut [u64],
     links: &mut [u64],
 ) -> EvaluateAnswer
-    requires { ⌜ Contracts.Tested goldilocks (interleaved (now list)) n root (now assignment) m ⌝ }
+    requires { ⌜ Contracts.Tested (fieldOf prime) (interleaved (now list)) n root (now assignment) m ⌝ }
     requires { ⌜ Contracts.Stores n m (now c0) (now c1) (now links) ⌝ }
-    ensures { λ r. ⌜ r ≡ Calls.evaluateAnswer goldilocks (interleaved (now (list .entry))) n root (now (assignment .entry)) m ⌝ }
+    ensures { λ r. ⌜ r ≡ Calls.evaluateAnswer (fieldOf prime) (interleaved (now (list .entry))) n root (now (assignment .entry)) m ⌝ }
 {
     index_keys(assignment, ENTRY_WORDS, m, links);
-    let filled = fill_values(list, n, assignment, m, links, c0, c1);
+    let filled = fill_values(prime, list, n, assignment, m, links, c0, c1);
     match filled {
         Checked::Refused(r) => refused(r),
         Checked::Good => EvaluateAnswer {
@@ -301,52 +305,97 @@ fn evaluate_in(
 
 // The same, with stores for the lengths of the list and of the assignment.
 fn evaluate_sized(
+    prime: Prime,
     list: &[u64],
     n: usize,
     root: usize,
     assignment: &[u64],
     m: usize,
 ) -> EvaluateAnswer
-    requires { ⌜ Contracts.Tested goldilocks (interleaved (now list)) n root (now assignment) m ⌝ }
-    ensures { λ r. ⌜ r ≡ Calls.evaluateAnswer goldilocks (interleaved (now (list .entry))) n root (now (assignment .entry)) m ⌝ }
+    requires { ⌜ Contracts.Tested (fieldOf prime) (interleaved (now list)) n root (now assignment) m ⌝ }
+    ensures { λ r. ⌜ r ≡ Calls.evaluateAnswer (fieldOf prime) (interleaved (now (list .entry))) n root (now (assignment .entry)) m ⌝ }
 {
     let most = larger(n, m);
     if most <= FEW {
         let mut c0 = [0u64; FEW];
         let mut c1 = [0u64; FEW];
         let mut links = [0u64; 2 * FEW];
-        return evaluate_in(list, n, root, assignment, m, &mut c0, &mut c1, &mut links);
+        return evaluate_in(
+            prime,
+            list,
+            n,
+            root,
+            assignment,
+            m,
+            &mut c0,
+            &mut c1,
+            &mut links,
+        );
     }
     if most <= MANY {
         let mut c0 = [0u64; MANY];
         let mut c1 = [0u64; MANY];
         let mut links = [0u64; 2 * MANY];
-        return evaluate_in(list, n, root, assignment, m, &mut c0, &mut c1, &mut links);
+        return evaluate_in(
+            prime,
+            list,
+            n,
+            root,
+            assignment,
+            m,
+            &mut c0,
+            &mut c1,
+            &mut links,
+        );
     }
     let mut c0 = [0u64; dag::MOST_RECORDS];
     let mut c1 = [0u64; dag::MOST_RECORDS];
     let mut links = [0u64; 2 * MOST_ENTRIES];
-    evaluate_in(list, n, root, assignment, m, &mut c0, &mut c1, &mut links)
+    evaluate_in(
+        prime,
+        list,
+        n,
+        root,
+        assignment,
+        m,
+        &mut c0,
+        &mut c1,
+        &mut links,
+    )
 }
 
 // Evaluate's tests of its words: the list, then the entries.
-fn words_check(list: &[u64], n: usize, root: usize, assignment: &[u64], m: usize) -> Checked
-    ensures { λ r. ⌜ r ≡ (listCheck (goldilocks .bounds) (interleaved (now (list .entry))) n root then Entries.entriesCheck (goldilocks .bounds) Calls.entryWords (now (assignment .entry)) m) ⌝ }
+fn words_check(
+    prime: Prime,
+    list: &[u64],
+    n: usize,
+    root: usize,
+    assignment: &[u64],
+    m: usize,
+) -> Checked
+    ensures { λ r. ⌜ r ≡ (listCheck (fieldOf prime .bounds) (interleaved (now (list .entry))) n root then Entries.entriesCheck (fieldOf prime .bounds) Calls.entryWords (now (assignment .entry)) m) ⌝ }
 {
-    let listed = dag::list_check(list, n, root);
+    let listed = dag::list_check(prime, list, n, root);
     if dag::is_refused(listed) {
         return listed;
     }
-    entries_check(assignment, ENTRY_WORDS, m)
+    entries_check(prime, assignment, ENTRY_WORDS, m)
 }
 
 // Evaluate: the root's value under an assignment.
-pub fn evaluate(list: &[u64], n: usize, root: usize, assignment: &[u64], m: usize) -> EvaluateAnswer
-    ensures { λ r. ⌜ r ≡ Calls.evaluateAnswer goldilocks (interleaved (now (list .entry))) n root (now (assignment .entry)) m ⌝ }
+pub fn evaluate(
+    prime: Prime,
+    list: &[u64],
+    n: usize,
+    root: usize,
+    assignment: &[u64],
+    m: usize,
+) -> EvaluateAnswer
+    ensures { λ r. ⌜ r ≡ Calls.evaluateAnswer (fieldOf prime) (interleaved (now (list .entry))) n root (now (assignment .entry)) m ⌝ }
 {
-    let checked = words_check(list, n, root, assignment, m);
+    let checked = words_check(prime, list, n, root, assignment, m);
     match checked {
         Checked::Refused(r) => refused(r),
-        Checked::Good => evaluate_sized(list, n, root, assignment, m),
+        Checked::Good => evaluate_sized(prime, list, n, root, assignment, m),
     }
 }

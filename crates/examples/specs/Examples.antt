@@ -1,11 +1,15 @@
--- Examples A to L of document 01: each is an answer of a definition and the answer that the document gives.
+-- Examples A to L of document 01, I and J in both fields: each is an answer of a definition and the answer that the document gives.
 use Prim.Native.Nat.{ℕ, zero, suc, _*_, _-_}
 use mathlib.Core.List.{List, [], _∷_, _++_, map}
 use mathlib.Core.Path.{_≡_, refl}
 use lib.ListN.{length, replicate}
-use Rattle.field.specs.Fields.{goldilocks}
+use Rattle.field.specs.Fields.{fieldOf, goldilocks}
 use Rattle.dag.specs.Refusals.{firstRefused}
-use Rattle.field.specs.Field.{p, felt, quad, same, new}
+use Rattle.dag.specs.declared.Checked.{Checked}
+use Rattle.dag.specs.declared.Checked.the-variants.{Refused}
+use Rattle.dag.specs.declared.Refusal.the-variants.{Malformed}
+use Rattle.field.specs.Field.{p, q, felt, elements, same, new}
+use Rattle.field.specs.declared.Prime.the-variants.{Goldilocks, BabyBear}
 use Rattle.field.specs.declared.QuadFelt.{QuadFelt}
 use Rattle.dag.specs.declared.NodeKind.{NodeKind}
 use Rattle.dag.specs.declared.NodeKind.the-variants.{Input, Constant, Add, Sub, Mul, Neg}
@@ -75,7 +79,7 @@ A-refused = record {
 abbrev B : Example
 B = record {
   Answer = Normal;
-  computed = normalize quad (Input 0 ∷ Input 1 ∷ Input 2 ∷ Add 0 2 ∷ Add 0 1 ∷ Add 2 4 ∷ Mul 3 5 ∷ []) (6 ∷ []);
+  computed = normalize (elements Goldilocks) (Input 0 ∷ Input 1 ∷ Input 2 ∷ Add 0 2 ∷ Add 0 1 ∷ Add 2 4 ∷ Mul 3 5 ∷ []) (6 ∷ []);
   stated = normal (Input 0 ∷ Input 1 ∷ Input 2 ∷ Add 0 2 ∷ Add 1 3 ∷ Mul 3 4 ∷ []) 5 1;
 }
 
@@ -83,7 +87,7 @@ B = record {
 abbrev C-normalized : Example
 C-normalized = record {
   Answer = Normal;
-  computed = normalize quad (Input 0 ∷ Input 1 ∷ []) (0 ∷ []);
+  computed = normalize (elements Goldilocks) (Input 0 ∷ Input 1 ∷ []) (0 ∷ []);
   stated = normal (Input 0 ∷ Input 1 ∷ []) 0 0;
 }
 
@@ -99,7 +103,7 @@ C-compacted = record {
 abbrev D : Example
 D = record {
   Answer = Built;
-  computed = step quad (Input 0 ∷ []) (Sub 0 0);
+  computed = step (elements Goldilocks) (Input 0 ∷ []) (Sub 0 0);
   stated = built (Input 0 ∷ Constant (new 0 0) ∷ []) 1;
 }
 
@@ -107,7 +111,7 @@ D = record {
 abbrev E : Example
 E = record {
   Answer = Built;
-  computed = step quad (Constant (new 0 0) ∷ Input 0 ∷ []) (Sub 0 1);
+  computed = step (elements Goldilocks) (Constant (new 0 0) ∷ Input 0 ∷ []) (Sub 0 1);
   stated = built (Constant (new 0 0) ∷ Input 0 ∷ Sub 0 1 ∷ []) 2;
 }
 
@@ -115,7 +119,7 @@ E = record {
 abbrev F : Example
 F = record {
   Answer = Built;
-  computed = step quad (Input 0 ∷ Neg 0 ∷ []) (Neg 1);
+  computed = step (elements Goldilocks) (Input 0 ∷ Neg 0 ∷ []) (Neg 1);
   stated = built (Input 0 ∷ Neg 0 ∷ Neg 1 ∷ []) 2;
 }
 
@@ -123,7 +127,7 @@ F = record {
 abbrev G : Example
 G = record {
   Answer = Built;
-  computed = step quad (Input 0 ∷ Input 1 ∷ Neg 0 ∷ Neg 1 ∷ []) (Add 2 3);
+  computed = step (elements Goldilocks) (Input 0 ∷ Input 1 ∷ Neg 0 ∷ Neg 1 ∷ []) (Add 2 3);
   stated = built (Input 0 ∷ Input 1 ∷ Neg 0 ∷ Neg 1 ∷ Add 2 3 ∷ []) 4;
 }
 
@@ -131,17 +135,28 @@ G = record {
 abbrev H : Example
 H = record {
   Answer = Built;
-  computed = step quad (Input 0 ∷ Input 0 ∷ []) (Input 0);
+  computed = step (elements Goldilocks) (Input 0 ∷ Input 0 ∷ []) (Input 0);
   stated = built (Input 0 ∷ Input 0 ∷ []) 1;
 }
 
 -- u × u = 7
 abbrev I : Example
-I = record { Answer = QuadFelt; computed = quad .mul (new 0 1) (new 0 1); stated = new 7 0 }
+I = record { Answer = QuadFelt; computed = elements Goldilocks .mul (new 0 1) (new 0 1); stated = new 7 0 }
+
+-- in field 2 there is no u: a constant with c1 = 1 is refused with 4, and the like of u × u is (q − 1) × (q − 1) = 1
+abbrev I-refused : Example
+I-refused = record { Answer = Checked; computed = recordCheck (fieldOf BabyBear .bounds) 1 0 1 0; stated = Refused (Malformed 0) }
+
+abbrev I-second : Example
+I-second = record { Answer = QuadFelt; computed = elements BabyBear .mul (new (q - 1) 0) (new (q - 1) 0); stated = new 1 0 }
 
 -- (p − 1) + (p − 1) = p − 2
 abbrev J : Example
-J = record { Answer = ℕ; computed = felt .add (p - 1) (p - 1); stated = p - 2 }
+J = record { Answer = ℕ; computed = felt Goldilocks .add (p - 1) (p - 1); stated = p - 2 }
+
+-- (q − 1) + (q − 1) = q − 2
+abbrev J-second : Example
+J-second = record { Answer = ℕ; computed = felt BabyBear .add (q - 1) (q - 1); stated = q - 2 }
 
 -- a column of 8 entries, 1 at place j and 0 elsewhere
 unfoldable unit : ℕ → List ℕ
@@ -220,18 +235,18 @@ unfolding unit choices logWithin logLength occurrences isSparse standalone place
 copies-sparse = refl
 
 pub examples : List Example
-examples = A ∷ A-refused ∷ B ∷ C-normalized ∷ C-compacted ∷ D ∷ E ∷ F ∷ G ∷ H ∷ I ∷ J ∷ K-three ∷ K-four-below ∷ K-four-with ∷ K-copies ∷ L ∷ L-copied ∷ []
+examples = A ∷ A-refused ∷ B ∷ C-normalized ∷ C-compacted ∷ D ∷ E ∷ F ∷ G ∷ H ∷ I ∷ I-refused ∷ I-second ∷ J ∷ J-second ∷ K-three ∷ K-four-below ∷ K-four-with ∷ K-copies ∷ L ∷ L-copied ∷ []
 
 pub all-examples : All examples
 unfolding
-  examples felt quad same at sameNode operands rename isConstant isAdd isSub isMul isNeg element isThe lowFirst addRule subRule
-  mulOutcome negOutcome follow addWithin subWithin addOutcome subOutcome outcome interned intern enter step placeOf recorded marked
-  sweep marks rank kept compact count mentions fanout sharedFactor commonFactor orElse ontoBefore existingRotation eitherRotation
-  planOf planned round fired rounded isKept roundsFrom normalize unit logWithin logLength occurrences isSparse standalone placesFrom
-  withNew valuesFrom values weight heaviest dominant isScaled scalings combinationCost offset equalEntries gain sameEntries isAmong
-  saving savings goesOver form upTo lowerCheck lowerStores lowerRoom interleaved stored rootlessCheck checkAt recordCheck formed
-  earlier isKey prepareCheck firstRefused total columns periodGood lowered buildPeriodicNodes turns done recordAt nodes decode words
-  wordsOf filled choices listCheck roomCheck wholeCheck lowerAnswer lowerResult normalized ascii digits decimal ended line number
-  wordsAt fileView isCount headCheck formCheck heldCheck fileCheck kind firstLine recordLine recordLines listed refusedLine listing
-  greatest
-all-examples = (refl, (refl, (refl, (refl, (refl, (refl, (refl, (refl, (refl, (refl, (refl, (refl, (three-sparse, (four-below, (four-with, (copies-sparse, (refl, (refl, tt))))))))))))))))))
+    examples felt elements same at sameNode operands rename isConstant isAdd isSub isMul isNeg element isThe lowFirst addRule subRule
+    mulOutcome negOutcome follow addWithin subWithin addOutcome subOutcome outcome interned intern enter step placeOf recorded marked
+    sweep marks rank kept compact count mentions fanout sharedFactor commonFactor orElse ontoBefore existingRotation eitherRotation
+    planOf planned round fired rounded isKept roundsFrom normalize unit logWithin logLength occurrences isSparse standalone placesFrom
+    withNew valuesFrom values weight heaviest dominant isScaled scalings combinationCost offset equalEntries gain sameEntries isAmong
+    saving savings goesOver form upTo lowerCheck lowerStores lowerRoom interleaved stored rootlessCheck checkAt recordCheck formed
+    earlier isKey prepareCheck firstRefused total columns periodGood lowered buildPeriodicNodes turns done recordAt nodes decode words
+    wordsOf filled choices listCheck roomCheck wholeCheck lowerAnswer lowerResult normalized ascii digits decimal ended line number
+    wordsAt fileView isCount headCheck formCheck heldCheck fileCheck kind firstLine recordLine recordLines listed refusedLine listing
+    greatest
+all-examples = (refl, (refl, (refl, (refl, (refl, (refl, (refl, (refl, (refl, (refl, (refl, (refl, (refl, (refl, (refl, (three-sparse, (four-below, (four-with, (copies-sparse, (refl, (refl, tt)))))))))))))))))))))

@@ -1,2 +1,3 @@
 pub mod Words
+pub mod Residues
 pub mod Squaring

@@ -20,6 +20,12 @@ residue m r n u v h e = sym (mod-eq-of-lt h) ∙ congruent m r n u v e
 half-product : (x y : ℕ) → x < base → y < base → x * y ≤ 18446744065119617025
 half-product x y h k = mul-le-mul {n₂ = 4294967295} {m₂ = 4294967295} (omega arith) (omega arith)
 
+pub short-fits : (x y : ℕ) → x < base → y < base → x * y < 2 ^ 64
+short-fits x y h k = go (x * y) (half-product x y h k)
+  where
+    go : (n : ℕ) → n ≤ 18446744065119617025 → n < 2 ^ 64
+    go n l = omega arith
+
 -- how large the four products of two words' halves are
 pub record Halves (a b : ℕ) : Type 0 where
   pub high-high : a / base * (b / base) ≤ 18446744065119617025

@@ -1,13 +1,13 @@
 -- What describes a field: which coordinates are in lowest form, its rings with their laws, its generators, one half.
 use Prim.Native.Nat.{ℕ, _+_, _^_, _<_, _≤_}
 use mathlib.Core.Path.{_≡_, refl}
-use native.Mathlib.Omega.{arith}
-use lib.Dec.{lit<}
 use Rattle.ring.specs.Ring.{Ops, Laws, with-low}
 use Rattle.ring.specs.Power.{pow}
 use Rattle.ring.specs.Residue as Residue
-use Rattle.field.specs.Field.{p, felt, quad, of-residues, of-residues-low, low-of-residues, of-pairs, of-pairs-low, low-of-pairs}
+use Rattle.field.specs.Field as Primes
 use Rattle.field.specs.Generators as Generators
+use Rattle.field.specs.declared.Prime.{Prime}
+use Rattle.field.specs.declared.Prime.the-variants.{Goldilocks}
 use Rattle.field.specs.declared.QuadFelt.{QuadFelt}
 
 -- coordinates in lowest form: c0 and c1 are below these
@@ -58,36 +58,35 @@ coordinateLaws f = with-low (f .coordinates-ring) (λ a. a < modulus f) (f .ring
 abbrev pub elementLaws : (f : Field) → Laws (f .elements)
 elementLaws f = with-low (f .elements-ring) (Low f) (f .ring-element) (f .element-ring)
 
-pub one-is-one : felt .one ≡ 1
-unfolding felt
-one-is-one = refl
+pub subtracts : (prime : Prime) (a b : ℕ) → Primes.felt prime .sub a b ≡ Residue.sub (Primes.modulusOf prime) a b
+unfolding Primes.felt
+subtracts prime a b = refl
 
-pub subtracts : (a b : ℕ) → felt .sub a b ≡ Residue.sub p a b
-unfolding felt
-subtracts a b = refl
-
--- field 1: p, with u² = 7
-abbrev pub goldilocks : Field
-goldilocks =
+-- field 1: p, with u² = 7; field 2: q
+abbrev pub fieldOf : Prime → Field
+fieldOf prime =
     record {
-      bounds = record { c0-below = p; c1-below = p };
-      coordinates = felt;
-      elements = quad;
-      generator = Generators.generator;
-      half = Generators.half;
-      mostLog = 32;
-      coordinates-ring = of-residues;
-      ring-coordinate = of-residues-low;
-      coordinate-ring = low-of-residues;
-      elements-ring = of-pairs;
-      ring-element = of-pairs-low;
-      element-ring = low-of-pairs;
-      large = lit< tt;
-      zero-second = lit< tt;
-      one-is = one-is-one;
-      coordinates-sub = subtracts;
-      generator-square = Generators.generator-square;
-      generator-order = Generators.generator-order;
-      half-inverse = Generators.half-inverse;
-      columns-fit = omega arith;
+      bounds = record { c0-below = Primes.modulusOf prime; c1-below = Primes.secondBelow prime };
+      coordinates = Primes.felt prime;
+      elements = Primes.elements prime;
+      generator = Generators.generator prime;
+      half = Generators.half prime;
+      mostLog = Generators.mostLog prime;
+      coordinates-ring = Primes.of-residues prime;
+      ring-coordinate = Primes.of-residues-low prime;
+      coordinate-ring = Primes.low-of-residues prime;
+      elements-ring = Primes.of-elements prime;
+      ring-element = Primes.of-elements-low prime;
+      element-ring = Primes.low-of-elements prime;
+      large = Primes.large prime;
+      zero-second = Primes.zero-second prime;
+      one-is = Generators.one-is prime;
+      coordinates-sub = subtracts prime;
+      generator-square = Generators.generator-square prime;
+      generator-order = Generators.generator-order prime;
+      half-inverse = Generators.half-inverse prime;
+      columns-fit = Generators.columns-fit prime;
     }
+
+abbrev pub goldilocks : Field
+goldilocks = fieldOf Goldilocks

@@ -1,11 +1,12 @@
-// Coordinates: numbers below p, with the operations of the residues modulo p.
+// Coordinates: numbers below a prime, with the operations of the residues modulo it.
 ghost use mathlib.Core.Path.{_≡_};
 ghost use Prim.Native.Nat.{_+_, _*_, _-_, _/_, _%_, _^_, _≤_, _<_};
 ghost use Rattle.ring.specs.Power.{pow};
-ghost use Rattle.field.specs.Field.{felt, p};
+ghost use Rattle.field.specs.Field.{felt, p, q, modulusOf, secondBelow};
 ghost use lib.Dec.{eqb};
-ghost use Rattle.field.specs.Generators.{generator};
+ghost use Rattle.field.specs.Generators.{generator, mostLog};
 ghost use Rattle.field.specs.Generators as Generators;
+use crate::Prime;
 use crate::QuadFelt;
 
 // 2^32, the base of a word's halves.
@@ -13,6 +14,51 @@ const BASE: u64 = 4294967296;
 
 // 2^64 modulo p.
 const EPSILON: u64 = 4294967295;
+
+// The prime.
+pub fn modulus(prime: Prime) -> u64
+    ensures { λ r. ⌜ r ≡ modulusOf prime ⌝ }
+{
+    match prime {
+        Prime::Goldilocks => QuadFelt::MODULUS,
+        Prime::BabyBear => QuadFelt::MODULUS_Q,
+    }
+}
+
+// What second coordinates are below.
+pub fn second_below(prime: Prime) -> u64
+    ensures { λ r. ⌜ r ≡ secondBelow prime ⌝ }
+{
+    match prime {
+        Prime::Goldilocks => QuadFelt::MODULUS,
+        Prime::BabyBear => 1,
+    }
+}
+
+// The sum.
+pub fn add(prime: Prime, a: u64, b: u64) -> u64
+    requires { ⌜ (a < modulusOf prime) × (b < modulusOf prime) ⌝ }
+    ensures { λ r. ⌜ (r ≡ felt prime .add a b) × (r < modulusOf prime) ⌝ }
+{
+    let rest = modulus(prime) - b;
+    if a < rest { a + b } else { a - rest }
+}
+
+// The difference.
+pub fn sub(prime: Prime, a: u64, b: u64) -> u64
+    requires { ⌜ (a < modulusOf prime) × (b < modulusOf prime) ⌝ }
+    ensures { λ r. ⌜ (r ≡ felt prime .sub a b) × (r < modulusOf prime) ⌝ }
+{
+    if a < b { modulus(prime) - b + a } else { a - b }
+}
+
+// The negative.
+pub fn neg(prime: Prime, a: u64) -> u64
+    requires { ⌜ a < modulusOf prime ⌝ }
+    ensures { λ r. ⌜ (r ≡ felt prime .neg a) × (r < modulusOf prime) ⌝ }
+{
+    if a == 0 { 0 } else { modulus(prime) - a }
+}
 
 // The sum modulo p of two words whose sum is below 2p: 2^64 = 2^32 − 1 modulo p.
 fn fold(a: u64, b: u64) -> u64
@@ -29,38 +75,10 @@ fn fold(a: u64, b: u64) -> u64
     std::num::wrapping_add_u64(s, EPSILON)
 }
 
-// The sum.
-pub fn add(a: u64, b: u64) -> u64
-    requires { ⌜ (a < p) × (b < p) ⌝ }
-    ensures { λ r. ⌜ (r ≡ felt .add a b) × (r < p) ⌝ }
-{
-    fold(a, b)
-}
-
-// The difference.
-pub fn sub(a: u64, b: u64) -> u64
-    requires { ⌜ (a < p) × (b < p) ⌝ }
-    ensures { λ r. ⌜ (r ≡ felt .sub a b) × (r < p) ⌝ }
-{
-    if a < b {
-        QuadFelt::MODULUS - b + a
-    } else {
-        a - b
-    }
-}
-
-// The negative.
-pub fn neg(a: u64) -> u64
-    requires { ⌜ a < p ⌝ }
-    ensures { λ r. ⌜ (r ≡ felt .neg a) × (r < p) ⌝ }
-{
-    if a == 0 { 0 } else { QuadFelt::MODULUS - a }
-}
-
 // A number of two words, high · 2^64 + low.
-pub struct Wide {
-    pub high: u64,
-    pub low: u64,
+struct Wide {
+    high: u64,
+    low: u64,
 }
 
 // The high word of the product: schoolbook multiplication by halves of 32 bits. Apart from the low word, LLVM
@@ -90,7 +108,7 @@ fn low_word(a: u64, b: u64) -> u64
 }
 
 // The whole product.
-pub fn wide_mul(a: u64, b: u64) -> Wide
+fn wide_mul(a: u64, b: u64) -> Wide
     ensures { λ r. ⌜ r .high * 2 ^ 64 + r .low ≡ a * b ⌝ }
 {
     Wide {
@@ -100,7 +118,7 @@ pub fn wide_mul(a: u64, b: u64) -> Wide
 }
 
 // high · 2^64 + low modulo p: 2^64 = 2^32 − 1 and 2^96 = −1.
-pub fn reduce(high: u64, low: u64) -> u64
+fn reduce(high: u64, low: u64) -> u64
     ensures { λ r. ⌜ (r ≡ (high * 2 ^ 64 + low) % p) × (r < p) ⌝ }
 {
     let top = high / BASE;
@@ -111,16 +129,34 @@ pub fn reduce(high: u64, low: u64) -> u64
     fold(low - top, middle)
 }
 
-// The product.
-pub fn mul(a: u64, b: u64) -> u64
-    requires { ⌜ (a < p) × (b < p) ⌝ }
-    ensures { λ r. ⌜ (r ≡ felt .mul a b) × (r < p) ⌝ }
+// The product modulo p of two words.
+pub fn wide_product(a: u64, b: u64) -> u64
+    ensures { λ r. ⌜ (r ≡ a * b % p) × (r < p) ⌝ }
 {
     let n = wide_mul(a, b);
     reduce(n.high, n.low)
 }
 
-// The generators of the subgroups of order 2^0, 2^1, .., 2^32: each is the square of the next.
+// The product modulo q of two words below 2^32.
+pub fn short_product(a: u64, b: u64) -> u64
+    requires { ⌜ (a < 2 ^ 32) × (b < 2 ^ 32) ⌝ }
+    ensures { λ r. ⌜ (r ≡ a * b % q) × (r < q) ⌝ }
+{
+    a * b % QuadFelt::MODULUS_Q
+}
+
+// The product.
+pub fn mul(prime: Prime, a: u64, b: u64) -> u64
+    requires { ⌜ (a < modulusOf prime) × (b < modulusOf prime) ⌝ }
+    ensures { λ r. ⌜ (r ≡ felt prime .mul a b) × (r < modulusOf prime) ⌝ }
+{
+    match prime {
+        Prime::Goldilocks => wide_product(a, b),
+        Prime::BabyBear => short_product(a, b),
+    }
+}
+
+// The generators modulo p of the subgroups of order 2^0, 2^1, .., 2^32: each is the square of the next.
 const GENERATORS: [u64; 33] = [
     1,
     18446744069414584320,
@@ -157,53 +193,96 @@ const GENERATORS: [u64; 33] = [
     1753635133440165772,
 ];
 
-// The generator of the subgroup of order 2^k.
-pub fn two_adic_generator(k: usize) -> u64
-    requires { ⌜ k ≤ 32 ⌝ }
-    ensures { λ r. ⌜ (r ≡ generator k) × (r < p) ⌝ }
+// The generators modulo q of the subgroups of order 2^0, 2^1, .., 2^27.
+const GENERATORS_Q: [u64; 28] = [
+    1,
+    2013265920,
+    1728404513,
+    1592366214,
+    196396260,
+    760005850,
+    1721589904,
+    397765732,
+    1732600167,
+    1753498361,
+    341742893,
+    1340477990,
+    1282623253,
+    298008106,
+    1657000625,
+    2009781145,
+    1421947380,
+    1286330022,
+    1559589183,
+    1049899240,
+    195061667,
+    414040701,
+    570250684,
+    1267047229,
+    1003846038,
+    1149491290,
+    975630072,
+    440564289,
+];
+
+// The greatest k for which there is a generator of order 2^k.
+pub fn most_log(prime: Prime) -> usize
+    ensures { λ r. ⌜ r ≡ mostLog prime ⌝ }
 {
-    GENERATORS[k]
+    match prime {
+        Prime::Goldilocks => 32,
+        Prime::BabyBear => 27,
+    }
 }
 
-const HALF: u64 = 9223372034707292161;
+// The generator of the subgroup of order 2^k.
+pub fn two_adic_generator(prime: Prime, k: usize) -> u64
+    requires { ⌜ k ≤ mostLog prime ⌝ }
+    ensures { λ r. ⌜ (r ≡ generator prime k) × (r < modulusOf prime) ⌝ }
+{
+    match prime {
+        Prime::Goldilocks => GENERATORS[k],
+        Prime::BabyBear => GENERATORS_Q[k],
+    }
+}
 
 // One half.
-pub fn half() -> u64
-    ensures { λ r. ⌜ (r ≡ Generators.half) × (r < p) ⌝ }
+pub fn half(prime: Prime) -> u64
+    ensures { λ r. ⌜ (r ≡ Generators.half prime) × (r < modulusOf prime) ⌝ }
 {
-    HALF
+    modulus(prime) / 2 + 1
 }
 
 // Whether it is −1.
-pub fn is_minus_one(a: u64) -> bool
-    ensures { λ r. ⌜ r ≡ eqb a (p - 1) ⌝ }
+pub fn is_minus_one(prime: Prime, a: u64) -> bool
+    ensures { λ r. ⌜ r ≡ eqb a (modulusOf prime - 1) ⌝ }
 {
-    a == QuadFelt::MODULUS - 1
+    a == modulus(prime) - 1
 }
 
 // The product of `result` with `square` where the exponent is odd; `result` where it is even.
-fn times_odd(result: u64, square: u64, exponent: u64) -> u64
-    requires { ⌜ (result < p) × (square < p) ⌝ }
-    ensures { λ r. ⌜ (r ≡ felt .mul result (pow felt square (exponent % 2))) × (r < p) ⌝ }
+fn times_odd(prime: Prime, result: u64, square: u64, exponent: u64) -> u64
+    requires { ⌜ (result < modulusOf prime) × (square < modulusOf prime) ⌝ }
+    ensures { λ r. ⌜ (r ≡ felt prime .mul result (pow (felt prime) square (exponent % 2))) × (r < modulusOf prime) ⌝ }
 {
     if exponent % 2 == 0 {
         result
     } else {
-        mul(result, square)
+        mul(prime, result, square)
     }
 }
 
 // The power, by squaring.
-pub fn pow(base: u64, exponent: u64) -> u64
-    requires { ⌜ base < p ⌝ }
-    ensures { λ r. ⌜ (r ≡ pow felt base exponent) × (r < p) ⌝ }
+pub fn pow(prime: Prime, base: u64, exponent: u64) -> u64
+    requires { ⌜ base < modulusOf prime ⌝ }
+    ensures { λ r. ⌜ (r ≡ pow (felt prime) base exponent) × (r < modulusOf prime) ⌝ }
 {
     let mut result: u64 = 1;
     let mut square = base;
     let mut left = exponent;
     while 0 < left {
-        result = times_odd(result, square, left);
-        square = mul(square, square);
+        result = times_odd(prime, result, square, left);
+        square = mul(prime, square, square);
         left = left / 2;
     }
     result

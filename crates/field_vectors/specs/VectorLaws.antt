@@ -6,13 +6,17 @@ use mathlib.Core.Path.{_≡_, refl, sym}
 use native.Mathlib.Nat.{mod-eq-of-lt, pow-le-pow-right, pow-succ'}
 use native.Mathlib.Numerals.{add-one}
 use native.Mathlib.Omega.{arith}
-use borrow.Author.Tests.{leb-true, le-leb, lt-leb, ltb-true, lt-ltb, le-ltb, ne-eqb}
+use borrow.Author.Tests.{leb-true, le-leb, lt-leb, ltb-true, ne-eqb}
 use lib.Dec.{leb, ltb}
 use lib.ListN.{getD, List·getD-eq-default}
-use Rattle.field.specs.Field.{p, quad, Below, same}
-use Rattle.field.specs.Generators.{generator, generators}
+use Rattle.field.specs.Field.{modulusOf, secondBelow, elements, Below, same}
+use Rattle.field.specs.Fields.{fieldOf}
+use Rattle.field.specs.Generators.{mostLog, generator, generators}
+use Rattle.field.specs.declared.Prime.{Prime}
+use Rattle.field.specs.declared.Prime.the-variants.{Goldilocks, BabyBear}
 use Rattle.field.specs.declared.QuadFelt.{QuadFelt}
-use Rattle.field_vectors.specs.Vectors.{line, digit, digits, element, low, asked, agrees, score, matched}
+use Rattle.dag.specs.Check.{lowest}
+use Rattle.field_vectors.specs.Vectors.{line, digit, digits, element, asked, agrees, agreesIn, score, matched}
 
 -- the value of a digit
 module _ (b : ℕ) where
@@ -60,43 +64,39 @@ module _ (s : List ℕ) (at : ℕ) where
       let low : digits s at i < 1152921504606846976 = omega (arith, digits-low i) in
       rw (q, mod-eq-of-lt low, add-one i, e)
 
-pub generator-past : (k : ℕ) → 32 < k → 0 ≡ generator k
+pub generator-past : (prime : Prime) (k : ℕ) → mostLog prime < k → 0 ≡ generator prime k
 unfolding generator generators
-generator-past k h = sym (List·getD-eq-default generators 0 h)
+generator-past Goldilocks k h = sym (List·getD-eq-default (generators Goldilocks) 0 h)
+generator-past BabyBear k h = sym (List·getD-eq-default (generators BabyBear) 0 h)
 
--- tests of operands
-pub low-first : (a : QuadFelt) → a .c0 < p → ltb (a .c1) p ≡ low a
-unfolding low
-low-first a h = rw (lt-ltb (a .c0) p h)
+module _ (prime : Prime) where
+  pub low-below : (a : QuadFelt) → lowest (fieldOf prime .bounds) (a .c0) (a .c1) ≡ true → Below prime a
+  low-below a e =
+      let t = and-eq-true-iff (ltb (a .c0) (modulusOf prime)) (ltb (a .c1) (secondBelow prime)) .0 e in
+      (ltb-true (a .c0) (modulusOf prime) (t .0), ltb-true (a .c1) (secondBelow prime) (t .1))
 
-pub low-not : (a : QuadFelt) → p ≤ a .c0 → false ≡ low a
-unfolding low
-low-not a h = rw (le-ltb (a .c0) p h)
+  pub asked-else : (sign : ℕ) (a b : QuadFelt) → (sign ≡ 43 → ⊥) → (sign ≡ 45 → ⊥) → (sign ≡ 42 → ⊥) → (sign ≡ 94 → ⊥) → (sign ≡ 103 → ⊥)
+      → elements prime .neg a ≡ asked prime sign a b
+  unfolding asked
+  asked-else sign a b h i j k l = rw (ne-eqb sign 43 h, ne-eqb sign 45 i, ne-eqb sign 42 j, ne-eqb sign 94 k, ne-eqb sign 103 l)
 
-pub low-below : (a : QuadFelt) → low a ≡ true → Below a
-unfolding low
-low-below a e = let t = and-eq-true-iff (ltb (a .c0) p) (ltb (a .c1) p) .0 e in (ltb-true (a .c0) p (t .0), ltb-true (a .c1) p (t .1))
+  -- one test after the other
+  module _ (sign : ℕ) (a b r : QuadFelt) where
+    pub agrees-first : lowest (fieldOf prime .bounds) (a .c0) (a .c1) ≡ false → false ≡ agrees prime sign a b r
+    unfolding agrees
+    agrees-first e = rw e
 
-pub asked-else : (sign : ℕ) (a b : QuadFelt) → (sign ≡ 43 → ⊥) → (sign ≡ 45 → ⊥) → (sign ≡ 42 → ⊥) → (sign ≡ 94 → ⊥) → (sign ≡ 103 → ⊥) → quad .neg a ≡ asked sign a b
-unfolding asked
-asked-else sign a b h i j k l = rw (ne-eqb sign 43 h, ne-eqb sign 45 i, ne-eqb sign 42 j, ne-eqb sign 94 k, ne-eqb sign 103 l)
+    pub agrees-second : lowest (fieldOf prime .bounds) (a .c0) (a .c1) ≡ true → lowest (fieldOf prime .bounds) (b .c0) (b .c1) ≡ false → false ≡ agrees prime sign a b r
+    unfolding agrees
+    agrees-second e q = rw (e, q)
 
--- one test after the other
-module _ (sign : ℕ) (a b r : QuadFelt) where
-  pub agrees-first : low a ≡ false → false ≡ agrees sign a b r
-  unfolding agrees
-  agrees-first e = rw e
-
-  pub agrees-second : low a ≡ true → low b ≡ false → false ≡ agrees sign a b r
-  unfolding agrees
-  agrees-second e q = rw (e, q)
-
-  pub agrees-third : low a ≡ true → low b ≡ true → same (asked sign a b) r ≡ agrees sign a b r
-  unfolding agrees
-  agrees-third e q = rw (e, q)
+    pub agrees-third : lowest (fieldOf prime .bounds) (a .c0) (a .c1) ≡ true → lowest (fieldOf prime .bounds) (b .c0) (b .c1) ≡ true
+        → same (asked prime sign a b) r ≡ agrees prime sign a b r
+    unfolding agrees
+    agrees-third e q = rw (e, q)
 
 -- what a line counts
-module _ (s : List ℕ) (at : ℕ) (t : Bool) (e : t ≡ agrees (getD s at 0) (element s (at + 2)) (element s (at + 36)) (element s (at + 70))) where
+module _ (s : List ℕ) (at : ℕ) (t : Bool) (e : t ≡ agreesIn (digit (getD s at 0)) (getD s (at + 2) 0) (element s (at + 4)) (element s (at + 38)) (element s (at + 72))) where
   pub score-one : t ≡ true → 1 ≡ score s at
   unfolding score
   score-one q = rw (← e, q)

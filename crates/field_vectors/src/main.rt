@@ -1,15 +1,18 @@
-// Holds the field to vectors of ordinary whole-number arithmetic, made by tools/field_vectors.py and read from standard input.
+// Holds the fields to vectors of ordinary whole-number arithmetic, made by tools/field_vectors.py and read from standard input.
 ghost use mathlib.Core.Path.{_≡_};
 ghost use Prim.Native.Nat.{_+_, _/_, _≤_, _<_};
 ghost use lib.ListN.{length};
 ghost use Rattle.field.specs.Field.{Below};
 ghost use Rattle.field.specs.Generators as Generators;
 ghost use Rattle.field_vectors.specs.Vectors as Vectors;
+use field::FieldNumber;
+use field::Prime;
 use field::QuadFelt;
+use field::felt;
 use libc::STDOUT_FILENO;
 
-// The bytes of a line: a sign, and six words of 16 hexadecimal digits.
-const LINE: usize = 104;
+// The bytes of a line: a field number, a sign, and six words of 16 hexadecimal digits.
+const LINE: usize = 106;
 
 // How many vectors there are, and how many the field agrees with.
 struct Tally {
@@ -50,69 +53,73 @@ fn element(s: &[u8], at: usize) -> QuadFelt
     QuadFelt::new(word(s, at), word(s, at + 17))
 }
 
-// Whether both coordinates are below the prime.
-fn low(a: QuadFelt) -> bool
-    ensures { λ r. ⌜ r ≡ Vectors.low a ⌝ }
-{
-    if a.c0 < QuadFelt::MODULUS {
-        a.c1 < QuadFelt::MODULUS
-    } else {
-        false
-    }
-}
-
 // The generator of a number, and 0 past the table.
-fn generator(k: u64) -> u64
-    ensures { λ r. ⌜ r ≡ Generators.generator k ⌝ }
+fn generator(prime: Prime, k: u64) -> u64
+    ensures { λ r. ⌜ r ≡ Generators.generator prime k ⌝ }
 {
-    if k <= 32 {
-        field::felt::two_adic_generator(k as usize)
+    if k <= felt::most_log(prime) as u64 {
+        felt::two_adic_generator(prime, k as usize)
     } else {
         0
     }
 }
 
 // What the field answers for a sign.
-fn answer(sign: u8, a: QuadFelt, b: QuadFelt) -> QuadFelt
-    requires { ⌜ Below a × Below b ⌝ }
-    ensures { λ r. ⌜ r ≡ Vectors.asked sign a b ⌝ }
+fn answer(prime: Prime, sign: u8, a: QuadFelt, b: QuadFelt) -> QuadFelt
+    requires { ⌜ Below prime a × Below prime b ⌝ }
+    ensures { λ r. ⌜ r ≡ Vectors.asked prime sign a b ⌝ }
 {
     match sign {
-        b'+' => a.add(b),
-        b'-' => a.sub(b),
-        b'*' => a.mul(b),
-        b'^' => QuadFelt::from_base(field::felt::pow(a.c0, b.c0)),
-        b'g' => QuadFelt::from_base(generator(a.c0)),
-        _ => a.neg(),
+        b'+' => a.add(prime, b),
+        b'-' => a.sub(prime, b),
+        b'*' => a.mul(prime, b),
+        b'^' => QuadFelt::from_base(felt::pow(prime, a.c0, b.c0)),
+        b'g' => QuadFelt::from_base(generator(prime, a.c0)),
+        _ => a.neg(prime),
     }
 }
 
 // Whether operands are in lowest form, and the field answers r for a sign.
-fn agrees(sign: u8, a: QuadFelt, b: QuadFelt, r: QuadFelt) -> bool
-    ensures { λ t. ⌜ t ≡ Vectors.agrees sign a b r ⌝ }
+fn agrees(prime: Prime, sign: u8, a: QuadFelt, b: QuadFelt, r: QuadFelt) -> bool
+    ensures { λ t. ⌜ t ≡ Vectors.agrees prime sign a b r ⌝ }
 {
-    if low(a) {
-        if low(b) {
-            return answer(sign, a, b).same(r);
+    if dag::lowest(prime, a.c0, a.c1) {
+        if dag::lowest(prime, b.c0, b.c1) {
+            return answer(prime, sign, a, b).same(r);
         }
     }
     false
 }
 
-// 1 where the field agrees with the vector at a place, and else 0.
-fn score(s: &[u8], at: usize) -> u64
-    requires { ⌜ at + 104 ≤ length (now s) ⌝ }
-    ensures { λ r. ⌜ (r ≡ Vectors.score (now (s .entry)) at) × (r ≤ 1) ⌝ }
+// Whether a number names a field, and that agrees.
+fn agrees_in(number: u64, sign: u8, a: QuadFelt, b: QuadFelt, r: QuadFelt) -> bool
+    ensures { λ t. ⌜ t ≡ Vectors.agreesIn number sign a b r ⌝ }
 {
-    let a = element(s, at + 2);
-    let b = element(s, at + 36);
-    let r = element(s, at + 70);
-    if agrees(s[at], a, b, r) { 1 } else { 0 }
+    let known = field::numbered(number);
+    match known {
+        FieldNumber::Known(prime) => agrees(prime, sign, a, b, r),
+        FieldNumber::Unknown => false,
+    }
 }
 
-// The field against every whole line.
+// 1 where the vector at a place agrees, and else 0.
+fn score(s: &[u8], at: usize) -> u64
+    requires { ⌜ at + 106 ≤ length (now s) ⌝ }
+    ensures { λ r. ⌜ (r ≡ Vectors.score (now (s .entry)) at) × (r ≤ 1) ⌝ }
+{
+    let a = element(s, at + 4);
+    let b = element(s, at + 38);
+    let r = element(s, at + 72);
+    if agrees_in(nibble(s[at]), s[at + 2], a, b, r) {
+        1
+    } else {
+        0
+    }
+}
+
+// The fields against every whole line.
 fn compare(s: &[u8]) -> Tally
-    ensures { λ r. ⌜ (r .vectors ≡ length (now (s .entry)) / 104) × (r .matched ≡ Vectors.matched (now (s .entry)) (length (now (s .entry)) / 104)) ⌝ }
+    ensures { λ r. ⌜ (r .vectors ≡ length (now (s .entry)) / 106) × (r .matched ≡ Vectors.matched (now (s .entry)) (length (now (s .entry)) / 106)) ⌝ }
 {
     let mut vectors: u64 = 0;
     let mut matched: u64 = 0;
@@ -127,7 +134,7 @@ fn compare(s: &[u8]) -> Tally
 
 // Prints how many vectors match.
 fn report(s: &[u8], t: Tally)
-    requires { ⌜ (t .vectors ≡ length (now s) / 104) × (t .matched ≡ Vectors.matched (now s) (length (now s) / 104)) ⌝ }
+    requires { ⌜ (t .vectors ≡ length (now s) / 106) × (t .matched ≡ Vectors.matched (now s) (length (now s) / 106)) ⌝ }
 {
     io::print_decimal(STDOUT_FILENO, t.matched);
     io::write_all(STDOUT_FILENO, b" of ");

@@ -1,6 +1,7 @@
 // The house file: bytes to the words of a list, or why not.
 use dag::Checked;
 use dag::Refusal;
+use field::Prime;
 ghost use mathlib.Core.Path.{_≡_};
 ghost use Prim.Native.Nat.{_+_, _<_, _≤_};
 ghost use lib.ListN.{length};
@@ -150,7 +151,7 @@ fn read_held(file: &[u8], list: &mut [u64]) -> FileAnswer
     let root = file_root(file);
     let mut words = [0u64; FILED_WORDS];
     put_records(file, n, &mut words);
-    let checked = dag::list_check(&words, n, root);
+    let checked = dag::list_check(Prime::Goldilocks, &words, n, root);
     match checked {
         Checked::Refused(r) => FileAnswer::Refused(r),
         Checked::Good => {

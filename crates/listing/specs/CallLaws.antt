@@ -4,8 +4,7 @@ use mathlib.Core.List.{List, [], _∷_}
 use mathlib.Core.Path.{_≡_, refl, sym, _∙_, ap, ap₂}
 use native.Mathlib.Omega.{arith}
 use lib.ListN.{length, getD}
-use Rattle.field.specs.Fields.{goldilocks}
-use Rattle.field.specs.Field.{quad, quad-laws}
+use Rattle.field.specs.Fields.{goldilocks, elementLaws}
 use Rattle.dag.specs.View.{View, interleaved, Agree}
 use Rattle.dag.specs.ViewLaws.{words-room, same-room, alike, alike-nodes, alike-list}
 use Rattle.dag.specs.Nodes.{recordWords, nodes}
@@ -64,7 +63,7 @@ module _ (s : List ℕ) (n root : ℕ) (result : List ℕ) (workRoom : ℕ) (a :
 
     fewer : a .count ≤ n
     unfolding normalized
-    fewer = let m = never-more quad (nodes (interleaved s) n) (root ∷ []) in let c = ap (λ a. a .count) answer-is in omega (arith, length-nodes (interleaved s) n)
+    fewer = let m = never-more (goldilocks .elements) (nodes (interleaved s) n) (root ∷ []) in let c = ap (λ a. a .count) answer-is in omega (arith, length-nodes (interleaved s) n)
 
     -- the answered list fits the store that holds it
     pub may-list : (after : List ℕ) → length after ≡ length result → a .count ≤ interleaved after .room
@@ -77,7 +76,7 @@ module _ (s : List ℕ) (n root : ℕ) (result : List ℕ) (workRoom : ℕ) (a :
     unfolding new-root normalized
     one-root =
         let low : AllBelow n (root ∷ []) = rw (roots-from (root ∷ [])) at (inside-below n (rootsFrom (root ∷ [])) (ok .rooted .inside)) in
-        let many = as-many-roots quad quad-laws (nodes (interleaved s) n) (list-fine goldilocks (interleaved s) n (ok .sound)) (root ∷ []) (rw (length-nodes (interleaved s) n) low) in
+        let many = as-many-roots (goldilocks .elements) (elementLaws goldilocks) (nodes (interleaved s) n) (list-fine goldilocks (interleaved s) n (ok .sound)) (root ∷ []) (rw (length-nodes (interleaved s) n) low) in
         single (normalized goldilocks (interleaved s) n (root ∷ []) .roots) many
 
     root-is : getD (a .roots .places) 0 0 ≡ new-root

@@ -7,8 +7,7 @@ use native.Mathlib.Omega.{arith}
 use borrow.Author.Tests.{ltb-true}
 use lib.Dec.{leb, ltb, eqb}
 use lib.ListN.{getD, length, length-append}
-use Rattle.field.specs.Fields.{Bounds, Within, goldilocks}
-use Rattle.field.specs.Field.{quad, quad-laws}
+use Rattle.field.specs.Fields.{Bounds, Within, goldilocks, elementLaws}
 use Rattle.dag.specs.View.{View}
 use Rattle.dag.specs.Keys.{fieldCounts, isKey}
 use Rattle.dag.specs.Nodes.{mostRecords, nodes, at, first, second}
@@ -90,12 +89,12 @@ listed-most s n root h =
     let few = h .list .most in
     let fine = list-fine goldilocks s n (h .list .sound) in
     let inside = one-below (length l) root (let k = h .inside in omega (arith, length-nodes s n)) in
-    let a = normalize quad l (root ∷ []) in
-    let w = answer-well-formed quad quad-laws l fine (root ∷ []) inside in
-    let one = single (a .roots) (as-many-roots quad quad-laws l fine (root ∷ []) inside) in
+    let a = normalize (goldilocks .elements) l (root ∷ []) in
+    let w = answer-well-formed (goldilocks .elements) (elementLaws goldilocks) l fine (root ∷ []) inside in
+    let one = single (a .roots) (as-many-roots (goldilocks .elements) (elementLaws goldilocks) l fine (root ∷ []) inside) in
     let low : getD (a .roots) 0 0 < length (a .list) = (rw one at (w .inside)) (getD (a .roots) 0 0) here in
-    let fewer = never-more quad l (root ∷ []) in
-    let lost = rounds-at-most-lost quad l (root ∷ []) in
+    let fewer = never-more (goldilocks .elements) l (root ∷ []) in
+    let lost = rounds-at-most-lost (goldilocks .elements) l (root ∷ []) in
     let len = length-nodes s n in
     let line : length (firstLine (length (a .list)) (a .roots) (a .rounds)) ≤ 81 = rw one (first-most (length (a .list)) (getD (a .roots) 0 0) (a .rounds) (omega arith) (omega arith) (omega arith)) in
     let lines = lines-most (a .list) (w .well-formed) (length (a .list)) (omega arith) in

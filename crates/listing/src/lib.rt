@@ -2,6 +2,7 @@
 use dag::Checked;
 use dag::NodeKind;
 use dag::Refusal;
+use field::Prime;
 use house_file::FileAnswer;
 use text::End;
 
@@ -102,7 +103,7 @@ fn list_words(
     requires { ⌜ length (Listing.wordsListing (interleaved (now list)) n root (interleaved (now result) .room) (interleaved (now work) .room)) ≤ length (now out) ⌝ }
     ensures { λ r. ⌜ Laid (now (out .entry)) (Listing.wordsListing (interleaved (now (list .entry))) n root (interleaved (now (result .entry)) .room) (interleaved (now (work .entry)) .room)) (now (out .exit)) r ⌝ }
 {
-    let answer = normalize::normalize(list, n, root, result, work);
+    let answer = normalize::normalize(Prime::Goldilocks, list, n, root, result, work);
     let checked = answer.checked;
     match checked {
         Checked::Refused(r) => write_refused(r, out),

@@ -70,13 +70,13 @@ module _ (field : Field) (ls : List ℕ) (period : ℕ) where
   unfolding periodGood
   period-none e = rw (eq-eqb (length ls) 0 e)
 
-  pub period-odd : (length ls ≡ 0 → ⊥) → isPower (field .mostLog) period ≡ false → false ≡ periodGood field ls period
+  pub period-odd : (k : ℕ) → k ≡ field .mostLog → (length ls ≡ 0 → ⊥) → isPower k period ≡ false → false ≡ periodGood field ls period
   unfolding periodGood
-  period-odd n e = rw (ne-eqb (length ls) 0 n, e)
+  period-odd k q n e = rw (ne-eqb (length ls) 0 n, ← q, e)
 
-  pub period-told : (m : ℕ) → (length ls ≡ 0 → ⊥) → isPower (field .mostLog) period ≡ true → m ≡ longest ls → leb m period ≡ periodGood field ls period
+  pub period-told : (k m : ℕ) → k ≡ field .mostLog → (length ls ≡ 0 → ⊥) → isPower k period ≡ true → m ≡ longest ls → leb m period ≡ periodGood field ls period
   unfolding periodGood
-  period-told m n e q = rw (ne-eqb (length ls) 0 n, e, q)
+  period-told k m r n e q = rw (ne-eqb (length ls) 0 n, ← r, e, q)
 
   covers : periodGood field ls period ≡ true → (j : ℕ) → j < length ls → getD ls j 0 ≤ period
   unfolding periodGood longest
@@ -114,6 +114,23 @@ need-cond : {A : Type 0} (t : Bool) (q : Refusal) (f : Refusal → A) (g : A) �
 need-cond true q f g = refl
 need-cond false q f g = refl
 
+-- a store with a list's records and their index
+module _ (n : ℕ) (few : n ≤ mostRecords) where
+  pub stored-list : (s u ys : List ℕ) → front n u ≡ front n s → length u ≡ storeWords → NodeIndex (nodes (interleaved s) n) ys → length ys ≡ length (take (length u - listWords) (drop listWords u))
+      → Stored (interleaved s) n (putMid listWords (length u - listWords) u ys)
+  stored-list s u ys e long d kept =
+      record {
+        long = same-len-mid listWords (length u - listWords) u ys kept ∙ long;
+        same = agree-trans (interleaved s) (interleaved u) (interleaved (putMid listWords (length u - listWords) u ys)) n (front-agree s u n (sym e)) (words-agree u (putMid listWords (length u - listWords) u ys) n same);
+        indexed = rw (links-back u ys long, drop-at (take listWords u) ys listWords before) d;
+      }
+    where
+      before : length (take listWords u) ≡ listWords
+      before = length-take-le listWords u (omega arith)
+
+      same : (k : ℕ) → k < recordWords * n → getD u k 0 ≡ getD (putMid listWords (length u - listWords) u ys) k 0
+      same k h = rw (links-back u ys long) (sym (List·getD-append (take listWords u) ys 0 k (omega (arith, before)) ∙ getD-take listWords u k 0 (omega arith)))
+
 module _ (field : Field) where
   -- the tests in their order
   module _ (s : View) (n : ℕ) (ls es : List ℕ) (period workRoom placeWords : ℕ) where
@@ -150,40 +167,24 @@ module _ (field : Field) where
           covered = covered field ls es period t (covers field ls period (need-good (periodGood field ls period) SharedPeriod (three .1)));
         }
 
-  module _ (n : ℕ) (few : n ≤ mostRecords) where
-    pub stored-list : (s u ys : List ℕ) → front n u ≡ front n s → length u ≡ storeWords → NodeIndex (nodes (interleaved s) n) ys → length ys ≡ length (take (length u - listWords) (drop listWords u))
-        → Stored field (interleaved s) n (putMid listWords (length u - listWords) u ys)
-    stored-list s u ys e long d kept =
+  module _ (n : ℕ) (few : n ≤ mostRecords) (s : View) (sound : Sound (field .bounds) s n) (t : List ℕ) (d : Stored s n t) where
+    stored-sound : Sound (field .bounds) (interleaved t) n
+    stored-sound = agree-sound s (interleaved t) (field .bounds) n (words-room t n (omega (arith, d .long))) (d .same) sound
+
+    stored-records : nodes s n ≡ nodes (interleaved t) n
+    stored-records = agree-nodes s (interleaved t) n (d .same)
+
+    pub stored-holds : Holds field t n (nodes s n)
+    stored-holds =
         record {
-          long = same-len-mid listWords (length u - listWords) u ys kept ∙ long;
-          same = agree-trans (interleaved s) (interleaved u) (interleaved (putMid listWords (length u - listWords) u ys)) n (front-agree s u n (sym e)) (words-agree u (putMid listWords (length u - listWords) u ys) n same);
-          indexed = rw (links-back u ys long, drop-at (take listWords u) ys listWords before) d;
+          sound = λ _. stored-sound;
+          list-is = λ _. sym stored-records;
+          indexed = λ _. subst (λ l. NodeIndex l (links t)) stored-records (d .indexed);
+          too-long = λ h. absurd (omega arith);
         }
-      where
-        before : length (take listWords u) ≡ listWords
-        before = length-take-le listWords u (omega arith)
 
-        same : (k : ℕ) → k < recordWords * n → getD u k 0 ≡ getD (putMid listWords (length u - listWords) u ys) k 0
-        same k h = rw (links-back u ys long) (sym (List·getD-append (take listWords u) ys 0 k (omega (arith, before)) ∙ getD-take listWords u k 0 (omega arith)))
-
-    module _ (s : View) (sound : Sound (field .bounds) s n) (t : List ℕ) (d : Stored field s n t) where
-      stored-sound : Sound (field .bounds) (interleaved t) n
-      stored-sound = agree-sound s (interleaved t) (field .bounds) n (words-room t n (omega (arith, d .long))) (d .same) sound
-
-      stored-records : nodes s n ≡ nodes (interleaved t) n
-      stored-records = agree-nodes s (interleaved t) n (d .same)
-
-      pub stored-holds : Holds field t n (nodes s n)
-      stored-holds =
-          record {
-            sound = λ _. stored-sound;
-            list-is = λ _. sym stored-records;
-            indexed = λ _. subst (λ l. NodeIndex l (links t)) stored-records (d .indexed);
-            too-long = λ h. absurd (omega arith);
-          }
-
-      pub stored-ready : Ready field t n
-      stored-ready = record { long = d .long; sound = λ _. stored-sound; indexed = stored-holds .indexed }
+    pub stored-ready : Ready field t n
+    stored-ready = record { long = d .long; sound = λ _. stored-sound; indexed = stored-holds .indexed }
 
   module _ (result places : List ℕ) (L : Run (List ℕ)) (work : List ℕ) (count : ℕ) (ns : List ℕ) (holds : Holds field work count (L .list)) (answers : count ≤ mostRecords → ns ≡ L .answer)
       (r : LowerAnswer) (after listed : List ℕ) (h : HandedOver work count ns result places r after listed) where
@@ -226,7 +227,7 @@ module _ (field : Field) where
 
   pub finished : (s : View) (n : ℕ) (ls es : List ℕ) (period : ℕ) (result places : List ℕ) (words : List ℕ) (log : ℕ) (built : List ℕ) (count : ℕ) (ns : List ℕ) (r : LowerAnswer) (after listed : List ℕ)
       → Passed field s n ls es period (length places)
-      → Stored field s n words
+      → Stored s n words
       → log ≡ logWithin (field .mostLog) period
       → Listing field words n (buildPeriodicNodes field (columns ls es) log) built count ns (length ls)
       → HandedOver built count (take (length ls) ns) result places r after listed

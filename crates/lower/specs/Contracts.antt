@@ -37,6 +37,12 @@ pub record HandedOver (work : List ℕ) (count : ℕ) (ns result places : List �
   pub result-is : after ≡ cond (hasRoom count result) (filled (length result) (front count work)) result
   pub places-are : listed ≡ cond (hasRoom count result) (filled (length places) ns) places
 
+-- a store to build in, with the first n records of the list s and their index
+pub record Stored (s : View) (n : ℕ) (t : List ℕ) : Type 0 where
+  pub long : length t ≡ storeWords
+  pub same : Agree s (interleaved t) n
+  pub indexed : NodeIndex (nodes s n) (links t)
+
 module _ (field : Field) where
   -- columns that passed, none longer than 2^log
   pub record Covered (ls es : List ℕ) (log : ℕ) : Type 0 where
@@ -49,12 +55,6 @@ module _ (field : Field) where
     pub tested : Tested (modulus field) ls es
     pub place-room : length ls ≤ placeWords
     pub covered : Covered ls es (logWithin (field .mostLog) period)
-
-  -- a store to build in, with the first n records of the list s and their index
-  pub record Stored (s : View) (n : ℕ) (t : List ℕ) : Type 0 where
-    pub long : length t ≡ storeWords
-    pub same : Agree s (interleaved t) n
-    pub indexed : NodeIndex (nodes s n) (links t)
 
   -- the answer and the stores, past the first tests
   pub record Finished (s : View) (n : ℕ) (ls es : List ℕ) (period : ℕ) (result places : List ℕ) (r : LowerAnswer) (after listed : List ℕ) : Type 0 where

@@ -3,13 +3,14 @@ use builder::Entered;
 use dag::Checked;
 use dag::NodeKind;
 use dag::Roots;
+use field::Prime;
 use plan::Plan;
 ghost use mathlib.Core.Path.{_≡_};
 ghost use mathlib.Core.Bool.{cond, true};
 ghost use Prim.Native.Nat.{ℕ, _*_, _≤_};
 ghost use lib.ListN.{length};
-ghost use Rattle.field.specs.Fields.{goldilocks};
-ghost use Rattle.field.specs.Field.{quad};
+ghost use Rattle.field.specs.Fields.{fieldOf};
+ghost use Rattle.field.specs.Field.{elements};
 ghost use Rattle.dag.specs.View.{interleaved};
 ghost use Rattle.dag.specs.Nodes as Nodes;
 ghost use Rattle.index.specs.Index.{half, Usable, NodeIndex};
@@ -33,6 +34,7 @@ fn like(x: NodeKind, a: usize, b: usize) -> NodeKind
 
 // Enters a factored record: the sum or difference inside first, then the product.
 fn enter_factored(
+    prime: Prime,
     work: &mut [u64],
     count: usize,
     links: &mut [u64],
@@ -42,16 +44,18 @@ fn enter_factored(
     a: usize,
     b: usize,
 ) -> Entered
-    requires { ⌜ ((i : ℕ) × Contracts.Entering goldilocks (now work) count (now map) i x (Plan.Factored factor a b)) × Contracts.Linked (now work) count (now links) ⌝ }
-    ensures { λ r. ⌜ Contracts.Planned goldilocks (now (work .entry)) count (Rounds.planned quad (Contracts.held (now (work .entry)) count (now (map .entry))) x (Plan.Factored factor a b)) (now (work .exit)) r × NodeIndex (Nodes.nodes (interleaved (now (work .exit))) (r .count)) (now (links .exit)) ⌝ }
+    requires { ⌜ ((i : ℕ) × Contracts.Entering (fieldOf prime) (now work) count (now map) i x (Plan.Factored factor a b)) × Contracts.Linked (now work) count (now links) ⌝ }
+    ensures { λ r. ⌜ Contracts.Planned (fieldOf prime) (now (work .entry)) count (Rounds.planned (elements prime) (Contracts.held (now (work .entry)) count (now (map .entry))) x (Plan.Factored factor a b)) (now (work .exit)) r × NodeIndex (Nodes.nodes (interleaved (now (work .exit))) (r .count)) (now (links .exit)) ⌝ }
 {
     let inner = builder::push(
+        prime,
         work,
         count,
         links,
         like(x, dag::mapped(map, a), dag::mapped(map, b)),
     );
     builder::push(
+        prime,
         work,
         inner.count,
         links,
@@ -61,6 +65,7 @@ fn enter_factored(
 
 // Enters a record into a round's list by its plan.
 fn enter_planned(
+    prime: Prime,
     work: &mut [u64],
     count: usize,
     links: &mut [u64],
@@ -68,25 +73,26 @@ fn enter_planned(
     x: NodeKind,
     plan: Plan,
 ) -> Entered
-    requires { ⌜ ((i : ℕ) × Contracts.Entering goldilocks (now work) count (now map) i x plan) × Contracts.Linked (now work) count (now links) ⌝ }
-    ensures { λ r. ⌜ Contracts.Planned goldilocks (now (work .entry)) count (Rounds.planned quad (Contracts.held (now (work .entry)) count (now (map .entry))) x plan) (now (work .exit)) r × NodeIndex (Nodes.nodes (interleaved (now (work .exit))) (r .count)) (now (links .exit)) ⌝ }
+    requires { ⌜ ((i : ℕ) × Contracts.Entering (fieldOf prime) (now work) count (now map) i x plan) × Contracts.Linked (now work) count (now links) ⌝ }
+    ensures { λ r. ⌜ Contracts.Planned (fieldOf prime) (now (work .entry)) count (Rounds.planned (elements prime) (Contracts.held (now (work .entry)) count (now (map .entry))) x plan) (now (work .exit)) r × NodeIndex (Nodes.nodes (interleaved (now (work .exit))) (r .count)) (now (links .exit)) ⌝ }
 {
     match plan {
         Plan::Factored {
             factor,
             a_other,
             b_other,
-        } => enter_factored(work, count, links, map, x, factor, a_other, b_other),
+        } => enter_factored(prime, work, count, links, map, x, factor, a_other, b_other),
         Plan::Rotated {
             existing,
             remaining,
         } => builder::push(
+            prime,
             work,
             count,
             links,
             like(x, dag::mapped(map, existing), dag::mapped(map, remaining)),
         ),
-        Plan::Plain => builder::push(work, count, links, dag::renamed(map, x)),
+        Plan::Plain => builder::push(prime, work, count, links, dag::renamed(map, x)),
     }
 }
 
@@ -105,6 +111,7 @@ fn either(a: bool, b: bool) -> bool
 
 // Replays the records into an empty list, each by its plan.
 fn round(
+    prime: Prime,
     list: &[u64],
     n: usize,
     own: &[u64],
@@ -113,8 +120,8 @@ fn round(
     links: &mut [u64],
     map: &mut [u64],
 ) -> RoundEnd
-    requires { ⌜ Contracts.Rounding goldilocks (now list) n (now fan) (now work) (now map) × NodeIndex (Nodes.nodes (interleaved (now list)) n) (now own) × Usable (now links) × (2 * n ≤ half (now links)) ⌝ }
-    ensures { λ r. ⌜ Contracts.RoundHeld goldilocks (now (list .entry)) n (now (fan .entry)) n (now (work .exit)) (now (map .exit)) (r .count) (r .fired) ⌝ }
+    requires { ⌜ Contracts.Rounding (fieldOf prime) (now list) n (now fan) (now work) (now map) × NodeIndex (Nodes.nodes (interleaved (now list)) n) (now own) × Usable (now links) × (2 * n ≤ half (now links)) ⌝ }
+    ensures { λ r. ⌜ Contracts.RoundHeld (fieldOf prime) (now (list .entry)) n (now (fan .entry)) n (now (work .exit)) (now (map .exit)) (r .count) (r .fired) ⌝ }
 {
     index::clear(links);
     let mut count = 0;
@@ -123,7 +130,7 @@ fn round(
     while i < n {
         let x = dag::node_at(list, i);
         let plan = plan::plan_of(list, n, own, fan, i, x);
-        let entered = enter_planned(work, count, links, map, x, plan);
+        let entered = enter_planned(prime, work, count, links, map, x, plan);
         fired = either(fired, plan::fires(plan));
         map[i] = entered.place as u64;
         count = entered.count;
@@ -141,6 +148,7 @@ pub struct RoundKept {
 
 // One round on the list in the result store, which is written where the round is kept, with scratch stores lent.
 fn normalize_once(
+    prime: Prime,
     result: &mut [u64],
     n: usize,
     roots: Roots,
@@ -150,13 +158,13 @@ fn normalize_once(
     own: &mut [u64],
     links: &mut [u64],
 ) -> RoundKept
-    requires { ⌜ Contracts.Ready goldilocks (now result) n roots (interleaved (now work) .room) × Contracts.Scratch n (now fan) (now map) (now own) (now links) ⌝ }
-    ensures { λ r. ⌜ Contracts.Once goldilocks (now (result .entry)) n roots (now (result .exit)) r ⌝ }
+    requires { ⌜ Contracts.Ready (fieldOf prime) (now result) n roots (interleaved (now work) .room) × Contracts.Scratch n (now fan) (now map) (now own) (now links) ⌝ }
+    ensures { λ r. ⌜ Contracts.Once (fieldOf prime) (now (result .entry)) n roots (now (result .exit)) r ⌝ }
 {
     dag::fill(fan, 0, 0);
     plan::fanout(result, n, roots, fan);
     index::index_list(result, n, own);
-    let end = round(result, n, own, fan, work, links, map);
+    let end = round(prime, result, n, own, fan, work, links, map);
     let discarded = RoundKept {
         kept: false,
         count: n,
@@ -195,6 +203,7 @@ pub struct NormalizeAnswer {
 
 // Rounds on the list in the result store, until one isn't kept, each with the parts of the scratch stores that its list needs.
 fn normalize_rounds(
+    prime: Prime,
     n: usize,
     roots: Roots,
     result: &mut [u64],
@@ -204,14 +213,15 @@ fn normalize_rounds(
     own: &mut [u64],
     links: &mut [u64],
 ) -> NormalEnd
-    requires { ⌜ Contracts.Ready goldilocks (now result) n roots (interleaved (now work) .room) × Contracts.Scratch n (now fan) (now map) (now own) (now links) ⌝ }
-    ensures { λ r. ⌜ Contracts.Ended goldilocks (now (result .entry)) n roots (now (result .exit)) r ⌝ }
+    requires { ⌜ Contracts.Ready (fieldOf prime) (now result) n roots (interleaved (now work) .room) × Contracts.Scratch n (now fan) (now map) (now own) (now links) ⌝ }
+    ensures { λ r. ⌜ Contracts.Ended (fieldOf prime) (now (result .entry)) n roots (now (result .exit)) r ⌝ }
 {
     let mut count = n;
     let mut places = roots;
     let mut rounds = 0;
     loop {
         let once = normalize_once(
+            prime,
             result,
             count,
             places,
@@ -235,9 +245,15 @@ fn normalize_rounds(
 }
 
 // The rounds, with scratch stores for the list's length.
-fn normalize_sized(n: usize, roots: Roots, result: &mut [u64], work: &mut [u64]) -> NormalEnd
-    requires { ⌜ Contracts.Ready goldilocks (now result) n roots (interleaved (now work) .room) ⌝ }
-    ensures { λ r. ⌜ Contracts.Ended goldilocks (now (result .entry)) n roots (now (result .exit)) r ⌝ }
+fn normalize_sized(
+    prime: Prime,
+    n: usize,
+    roots: Roots,
+    result: &mut [u64],
+    work: &mut [u64],
+) -> NormalEnd
+    requires { ⌜ Contracts.Ready (fieldOf prime) (now result) n roots (interleaved (now work) .room) ⌝ }
+    ensures { λ r. ⌜ Contracts.Ended (fieldOf prime) (now (result .entry)) n roots (now (result .exit)) r ⌝ }
 {
     if n <= dag::FEW_RECORDS {
         let mut fan = [0u64; dag::FEW_RECORDS];
@@ -245,6 +261,7 @@ fn normalize_sized(n: usize, roots: Roots, result: &mut [u64], work: &mut [u64])
         let mut own = [0u64; 2 * dag::FEW_RECORDS];
         let mut links = [0u64; 4 * dag::FEW_RECORDS];
         return normalize_rounds(
+            prime,
             n,
             roots,
             result,
@@ -260,6 +277,7 @@ fn normalize_sized(n: usize, roots: Roots, result: &mut [u64], work: &mut [u64])
     let mut own = [0u64; 2 * dag::MOST_RECORDS];
     let mut links = [0u64; 4 * dag::MOST_RECORDS];
     normalize_rounds(
+        prime,
         n,
         roots,
         result,
@@ -285,15 +303,16 @@ fn normalize_stores(n: usize, result_room: usize, work_room: usize) -> Checked
 
 // Normalise's tests.
 fn normalize_check(
+    prime: Prime,
     list: &[u64],
     n: usize,
     root: usize,
     result_room: usize,
     work_room: usize,
 ) -> Checked
-    ensures { λ r. ⌜ r ≡ Calls.normalizeCheck goldilocks (interleaved (now (list .entry))) n root «result_room» «work_room» ⌝ }
+    ensures { λ r. ⌜ r ≡ Calls.normalizeCheck (fieldOf prime) (interleaved (now (list .entry))) n root «result_room» «work_room» ⌝ }
 {
-    let checked = dag::list_check(list, n, root);
+    let checked = dag::list_check(prime, list, n, root);
     if dag::is_refused(checked) {
         return checked;
     }
@@ -302,17 +321,18 @@ fn normalize_check(
 
 // Normalise past its tests.
 fn normalize_ready(
+    prime: Prime,
     list: &[u64],
     n: usize,
     roots: Roots,
     result: &mut [u64],
     work: &mut [u64],
 ) -> NormalizeAnswer
-    requires { ⌜ Contracts.Passed goldilocks (now list) n roots (interleaved (now result) .room) (interleaved (now work) .room) ⌝ }
-    ensures { λ r. ⌜ Contracts.Finished goldilocks (now (list .entry)) n roots (now (result .entry)) (now (work .entry)) r (now (result .exit)) (now (work .exit)) ⌝ }
+    requires { ⌜ Contracts.Passed (fieldOf prime) (now list) n roots (interleaved (now result) .room) (interleaved (now work) .room) ⌝ }
+    ensures { λ r. ⌜ Contracts.Finished (fieldOf prime) (now (list .entry)) n roots (now (result .entry)) (now (work .entry)) r (now (result .exit)) (now (work .exit)) ⌝ }
 {
     dag::copy_records(list, n, result);
-    let end = normalize_sized(n, roots, result, work);
+    let end = normalize_sized(prime, n, roots, result, work);
     dag::blank_records(result, end.count);
     dag::blank_from(work, 0);
     let new_roots = end.roots;
@@ -326,17 +346,18 @@ fn normalize_ready(
 
 // Normalise: rounds of rewrites that make the list shorter, until one doesn't.
 pub fn normalize(
+    prime: Prime,
     list: &[u64],
     n: usize,
     root: usize,
     result: &mut [u64],
     work: &mut [u64],
 ) -> NormalizeAnswer
-    ensures answer { λ r. ⌜ r ≡ Calls.normalizeAnswer goldilocks (interleaved (now (list .entry))) n root (interleaved (now (result .entry)) .room) (interleaved (now (work .entry)) .room) ⌝ }
-    ensures result { λ _. ⌜ now (result .exit) ≡ Calls.normalizeResult goldilocks (interleaved (now (list .entry))) n root (now (result .entry)) (interleaved (now (work .entry)) .room) ⌝ }
-    ensures work { λ _. ⌜ now (work .exit) ≡ Calls.normalizeWork goldilocks (interleaved (now (list .entry))) n root (interleaved (now (result .entry)) .room) (now (work .entry)) ⌝ }
+    ensures answer { λ r. ⌜ r ≡ Calls.normalizeAnswer (fieldOf prime) (interleaved (now (list .entry))) n root (interleaved (now (result .entry)) .room) (interleaved (now (work .entry)) .room) ⌝ }
+    ensures result { λ _. ⌜ now (result .exit) ≡ Calls.normalizeResult (fieldOf prime) (interleaved (now (list .entry))) n root (now (result .entry)) (interleaved (now (work .entry)) .room) ⌝ }
+    ensures work { λ _. ⌜ now (work .exit) ≡ Calls.normalizeWork (fieldOf prime) (interleaved (now (list .entry))) n root (interleaved (now (result .entry)) .room) (now (work .entry)) ⌝ }
 {
-    let checked = normalize_check(list, n, root, dag::room(result), dag::room(work));
+    let checked = normalize_check(prime, list, n, root, dag::room(result), dag::room(work));
     if dag::is_refused(checked) {
         return NormalizeAnswer {
             checked,
@@ -345,5 +366,5 @@ pub fn normalize(
             rounds: 0,
         };
     }
-    normalize_ready(list, n, dag::one_root(root), result, work)
+    normalize_ready(prime, list, n, dag::one_root(root), result, work)
 }

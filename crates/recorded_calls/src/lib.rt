@@ -44,13 +44,13 @@ pub fn shape_of(call: Call) -> Shape
     ensures { λ r. ⌜ r ≡ shapeOf call ⌝ }
 {
     match call {
-        Call::Step => Shape::new(4, 0, 1, 4),
-        Call::Build => Shape::new(2, 1, 2, 4),
-        Call::Compact => Shape::new(2, 1, 1, 4),
-        Call::Normalize => Shape::new(2, 1, 2, 4),
-        Call::Evaluate => Shape::new(3, 2, 0, 4),
-        Call::Prepare => Shape::new(0, 2, 0, 18),
-        Call::Lower => Shape::new(2, 3, 3, 4),
+        Call::Step => Shape::new(5, 0, 1, 4),
+        Call::Build => Shape::new(3, 1, 2, 4),
+        Call::Compact => Shape::new(3, 1, 1, 4),
+        Call::Normalize => Shape::new(3, 1, 2, 4),
+        Call::Evaluate => Shape::new(4, 2, 0, 4),
+        Call::Prepare => Shape::new(1, 2, 0, 18),
+        Call::Lower => Shape::new(3, 3, 3, 4),
     }
 }
 
@@ -73,11 +73,12 @@ fn step(s: &[u8], at: usize, said: usize, list: &mut [u64]) -> bool
     ensures { λ r. ⌜ Asked Call.Step (now (s .entry)) at said (stores [] [] []) (stores (now (list .entry)) [] []) r (now (list .exit)) [] [] ⌝ }
 {
     let mut answer = [0u64; 4];
-    let n = number(s, at, 0) as usize;
-    let tag = number(s, at, 1);
-    let first = number(s, at, 2);
-    let second = number(s, at, 3);
-    ace::ace_step(list, n, tag, first, second, &mut answer);
+    let field = number(s, at, 0);
+    let n = number(s, at, 1) as usize;
+    let tag = number(s, at, 2);
+    let first = number(s, at, 3);
+    let second = number(s, at, 4);
+    ace::ace_step(field, list, n, tag, first, second, &mut answer);
     answers(s, said, &answer)
 }
 
@@ -93,9 +94,10 @@ fn build(
     ensures { λ r. ⌜ Asked Call.Build (now (s .entry)) at said (stores (now (list .entry)) [] []) (stores (now (result .entry)) (now (map .entry)) []) r (now (result .exit)) (now (map .exit)) [] ⌝ }
 {
     let mut answer = [0u64; 4];
-    let n = number(s, at, 0) as usize;
-    let root = number(s, at, 1) as usize;
-    ace::ace_build(list, n, root, result, map, &mut answer);
+    let field = number(s, at, 0);
+    let n = number(s, at, 1) as usize;
+    let root = number(s, at, 2) as usize;
+    ace::ace_build(field, list, n, root, result, map, &mut answer);
     answers(s, said, &answer)
 }
 
@@ -104,9 +106,10 @@ fn compact(s: &[u8], at: usize, said: usize, list: &[u64], result: &mut [u64]) -
     ensures { λ r. ⌜ Asked Call.Compact (now (s .entry)) at said (stores (now (list .entry)) [] []) (stores (now (result .entry)) [] []) r (now (result .exit)) [] [] ⌝ }
 {
     let mut answer = [0u64; 4];
-    let n = number(s, at, 0) as usize;
-    let root = number(s, at, 1) as usize;
-    ace::ace_compact(list, n, root, result, &mut answer);
+    let field = number(s, at, 0);
+    let n = number(s, at, 1) as usize;
+    let root = number(s, at, 2) as usize;
+    ace::ace_compact(field, list, n, root, result, &mut answer);
     answers(s, said, &answer)
 }
 
@@ -122,9 +125,10 @@ fn normalize(
     ensures { λ r. ⌜ Asked Call.Normalize (now (s .entry)) at said (stores (now (list .entry)) [] []) (stores (now (result .entry)) (now (work .entry)) []) r (now (result .exit)) (now (work .exit)) [] ⌝ }
 {
     let mut answer = [0u64; 4];
-    let n = number(s, at, 0) as usize;
-    let root = number(s, at, 1) as usize;
-    ace::ace_normalize(list, n, root, result, work, &mut answer);
+    let field = number(s, at, 0);
+    let n = number(s, at, 1) as usize;
+    let root = number(s, at, 2) as usize;
+    ace::ace_normalize(field, list, n, root, result, work, &mut answer);
     answers(s, said, &answer)
 }
 
@@ -133,10 +137,11 @@ fn evaluate(s: &[u8], at: usize, said: usize, list: &[u64], assignment: &[u64]) 
     ensures { λ r. ⌜ Asked Call.Evaluate (now (s .entry)) at said (stores (now (list .entry)) (now (assignment .entry)) []) (stores [] [] []) r [] [] [] ⌝ }
 {
     let mut answer = [0u64; 4];
-    let n = number(s, at, 0) as usize;
-    let root = number(s, at, 1) as usize;
-    let m = number(s, at, 2) as usize;
-    ace::ace_evaluate(list, n, root, assignment, m, &mut answer);
+    let field = number(s, at, 0);
+    let n = number(s, at, 1) as usize;
+    let root = number(s, at, 2) as usize;
+    let m = number(s, at, 3) as usize;
+    ace::ace_evaluate(field, list, n, root, assignment, m, &mut answer);
     answers(s, said, &answer)
 }
 
@@ -145,7 +150,8 @@ fn prepare(s: &[u8], at: usize, said: usize, lengths: &[u64], entries: &[u64]) -
     ensures { λ r. ⌜ Asked Call.Prepare (now (s .entry)) at said (stores (now (lengths .entry)) (now (entries .entry)) []) (stores [] [] []) r [] [] [] ⌝ }
 {
     let mut answer = [0u64; 18];
-    ace::ace_prepare(lengths, entries, &mut answer);
+    let field = number(s, at, 0);
+    ace::ace_prepare(field, lengths, entries, &mut answer);
     answers_long(s, said, &answer)
 }
 
@@ -164,9 +170,11 @@ fn lower(
     ensures { λ r. ⌜ Asked Call.Lower (now (s .entry)) at said (stores (now (list .entry)) (now (lengths .entry)) (now (entries .entry))) (stores (now (result .entry)) (now (work .entry)) (now (places .entry))) r (now (result .exit)) (now (work .exit)) (now (places .exit)) ⌝ }
 {
     let mut answer = [0u64; 4];
-    let n = number(s, at, 0) as usize;
-    let period = number(s, at, 1);
+    let field = number(s, at, 0);
+    let n = number(s, at, 1) as usize;
+    let period = number(s, at, 2);
     ace::ace_lower(
+        field,
         list,
         n,
         lengths,

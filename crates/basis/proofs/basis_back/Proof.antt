@@ -2,8 +2,8 @@ use Prim.Native.Nat.{_+_, _-_}
 use mathlib.Core.Path.{_≡_, sym, _∙_, ap}
 use native.Mathlib.Omega.{arith}
 use lib.ListN.{length}
-use Rattle.field.specs.Fields.{goldilocks}
-use Rattle.field.specs.Field.{quad}
+use Rattle.field.specs.Fields.{fieldOf}
+use Rattle.field.specs.Field.{elements, large}
 use Rattle.periodic.specs.Periodic as Periodic
 use Rattle.periodic.specs.RunLaws.{entered-ready, then-enter}
 use Rattle.periodic.specs.ListLaws.{listed-ready, all-later}
@@ -16,7 +16,9 @@ use Rattle.basis.proofs.basis_back.Statement.{statement}
 use Rattle.basis.proofs.basis_back.Tie as tie
 
 constant-requires : tie.Need-constant-requires
-constant-requires c κs = search needs
+constant-requires c κs =
+    let start = c .before .before .before .before .before in
+    (start .pre .0, large (start .args .prime))
 
 backwards-requires : tie.Need-backwards-requires
 backwards-requires c κs = search needs
@@ -45,7 +47,7 @@ chain-requires c κs =
     let turned = backwards-is (start .args .factors .now) _ (length (start .args .col .now)) (at-backwards .backwards .ensures)
     (start .pre .1 .suffix-long) in
     let long = length-backwards (start .args .factors .now) ∙ start .pre .1 .suffix-long in (
-      entered-ready goldilocks _ _ _ _ _ (start .pre .0) (at-constant .constant .ensures),
+      entered-ready (fieldOf (start .args .prime)) _ _ _ _ _ (start .pre .0) (at-constant .constant .ensures),
       at-constant .constant .ensures .inside,
       rw turned
           (all-later (at-constant .constant .ensures .ran .longer) (backwards-inside _ _ (start .pre .1 .suffix-inside))),
@@ -67,11 +69,12 @@ basis-sum-requires c κs =
     let at-chain = c .before .before .before .before .before in
     let at-constant = at-chain .before .before .before .before .before .before .before in
     let start = at-constant .before .before .before .before .before .before in
+    let field = fieldOf (start .args .prime) in
     let whole : length (start .args .col .now) - 1 + 1 ≡ length (start .args .col .now) = omega (arith, start .pre .2 .some) in
-    let listed = listing-like goldilocks _ _ _ _ _ _ _ _ _ (same-refl _) whole (at-chain .chain .ensures) in
-    let later = products-later goldilocks (at-chain .chain .ensures .ran .longer) (products-later goldilocks (at-constant .constant .ensures .ran .longer) (start .pre .1))
+    let listed = listing-like field _ _ _ _ _ _ _ _ _ (same-refl _) whole (at-chain .chain .ensures) in
+    let later = products-later field (at-chain .chain .ensures .ran .longer) (products-later field (at-constant .constant .ensures .ran .longer) (start .pre .1))
     in (
-      listed-ready goldilocks _ _ _ _ _ _ _ (entered-ready goldilocks _ _ _ _ _ (start .pre .0) (at-constant .constant .ensures)) (at-chain .chain .ensures),
+      listed-ready field _ _ _ _ _ _ _ (entered-ready field _ _ _ _ _ (start .pre .0) (at-constant .constant .ensures)) (at-chain .chain .ensures),
       record {
         rows = start .pre .1 .rows;
         short = start .pre .1 .short;
@@ -95,13 +98,14 @@ returns c =
     let at-backwards = at-chain .before .before .before .before in
     let at-constant = at-backwards .before .before .before in
     let start = at-constant .before .before .before .before .before .before in
+    let field = fieldOf (start .args .prime) in
     let whole : length (start .args .col .now) - 1 + 1 ≡ length (start .args .col .now) = omega (arith, start .pre .2 .some) in
     let turned = backwards-is (start .args .factors .now) _ (length (start .args .col .now)) (at-backwards .backwards .ensures)
     (start .pre .1 .suffix-long) in
-    let listed = listing-like goldilocks _ _ _ _ _ _ _ _ _ (same-refl _) whole
-    (listing-same goldilocks _ _ _ _ _ _ _ _ (ap (λ fs. Periodic.chain quad (at-constant .constant .result .place) fs (length (start .args .col .now) - 1))
+    let listed = listing-like field _ _ _ _ _ _ _ _ _ (same-refl _) whole
+    (listing-same field _ _ _ _ _ _ _ _ (ap (λ fs. Periodic.chain (elements (start .args .prime)) (at-constant .constant .result .place) fs (length (start .args .col .now) - 1))
     turned) (at-chain .chain .ensures)) in
-    then-enter goldilocks _ _ _ _ _ _ _ _ (at-constant .constant .ensures) (then-listed goldilocks _ _ _ _ _ _ _ _ _ _ listed (at-basis-sum .basis-sum .ensures))
+    then-enter field _ _ _ _ _ _ _ _ (at-constant .constant .ensures) (then-listed field _ _ _ _ _ _ _ _ _ _ listed (at-basis-sum .basis-sum .ensures))
 
 pub basis-back-spec : {M : Type 1} → statement M
 basis-back-spec =

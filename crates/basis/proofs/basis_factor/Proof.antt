@@ -1,4 +1,4 @@
-use Rattle.field.specs.Fields.{goldilocks}
+use Rattle.field.specs.Fields.{fieldOf}
 use Rattle.periodic.specs.RunLaws.{entered-ready, then-enter, inside-later}
 use Rattle.basis.specs.Contracts as Said
 use borrow.Author.Needs.{needs}
@@ -12,7 +12,7 @@ sub-requires : tie.Need-sub-requires
 sub-requires c κs =
     let at-constant = c .before .before .before in
     let start = at-constant .before .before .before in (
-      entered-ready goldilocks _ _ _ _ _ (start .pre .0) (at-constant .constant .ensures),
+      entered-ready (fieldOf (start .args .prime)) _ _ _ _ _ (start .pre .0) (at-constant .constant .ensures),
       inside-later (at-constant .constant .ensures .ran .longer)
           (start .pre .1),
       at-constant .constant .ensures .inside,
@@ -26,7 +26,7 @@ unfolding Said.factor
 returns c =
     let at-sub = c .before .before in
     let at-constant = at-sub .before .before .before .before in
-    then-enter goldilocks _ _ _ _ _ _ _ _ (at-constant .constant .ensures) (at-sub .sub .ensures)
+    then-enter _ _ _ _ _ _ _ _ _ (at-constant .constant .ensures) (at-sub .sub .ensures)
 
 pub basis-factor-spec : {M : Type 1} → statement M
 basis-factor-spec = tie.close (tie.spec constant-requires sub-requires same-length returns)

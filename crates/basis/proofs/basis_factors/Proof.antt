@@ -4,7 +4,7 @@ use mathlib.Core.Path.{_≡_, refl}
 use mathlib.Core.List.{[]}
 use native.Mathlib.Omega.{arith}
 use lib.ListN.{length}
-use Rattle.field.specs.Fields.{goldilocks}
+use Rattle.field.specs.Fields.{fieldOf}
 use Rattle.periodic.specs.Builder as Builder
 use Rattle.periodic.specs.Periodic as Periodic
 use Rattle.periodic.specs.Contracts as Run
@@ -16,18 +16,18 @@ use Rattle.basis.proofs.basis_factors.Statement.{statement}
 use Rattle.basis.proofs.basis_factors.Tie as tie
 
 abbrev Inv-loop : tie.InvT-loop
-Inv-loop list₀ n point roots col places₀ count₀ k₀ list places count k =
+Inv-loop prime list₀ n point roots col places₀ count₀ k₀ list places count k =
     (k ≤ length col)
     × (length places ≡ length places₀)
-    × Run.Listing goldilocks list₀ count₀ (Builder.turns (λ k fs. Builder.also fs (Periodic.factor goldilocks col point k)) k []) list count places k
-    × Run.Ready goldilocks list count
+    × Run.Listing (fieldOf prime) list₀ count₀ (Builder.turns (λ k fs. Builder.also fs (Periodic.factor (fieldOf prime) col point k)) k []) list count places k
+    × Run.Ready (fieldOf prime) list count
     × Run.Inside count point
 
 abbrev μ-loop : tie.MeasureT-loop
-μ-loop list₀ n point roots col places₀ count₀ k₀ list places count k = length col - k
+μ-loop prime list₀ n point roots col places₀ count₀ k₀ list places count k = length col - k
 
 loop-holds : tie.Need-loop-holds Inv-loop μ-loop
-loop-holds c = (omega arith, refl, list-none goldilocks _ _ _ _ _ _ refl (none-inside _), c .before .before .before .pre .0, c .before .before .before .pre .1)
+loop-holds c = (omega arith, refl, list-none _ _ _ _ _ _ _ refl (none-inside _), c .before .before .before .pre .0, c .before .before .before .pre .1)
 
 mul-basis-factor : tie.Need-mul-basis-factor Inv-loop μ-loop
 mul-basis-factor c = omega arith
@@ -69,14 +69,15 @@ loop-again c =
     let at-loop-test = at-basis-factor .before .before .before in
     let at-loop = at-loop-test .before in
     let start = at-loop .before .before .before .before in
+    let field = fieldOf (start .args .prime) in
     let h : at-loop .loop .k < length (at-loop .loop .places) = omega (arith, start .pre .2) in
-    let entered = entering-same goldilocks _ _ _ _ _ _ (factor-at goldilocks _ _ _ _ (start .pre .3) (at-loop-test .loop-test .taken))
+    let entered = entering-same field _ _ _ _ _ _ (factor-at field _ _ _ _ (start .pre .3) (at-loop-test .loop-test .taken))
     (at-basis-factor .basis-factor .ensures) in (
       omega arith,
       set-length (at-loop .loop .places) _ _ _ (at-loop .loop .inv .1),
-      list-next goldilocks _ _ _ _ _ _ _ _ _ _ _ h (at-loop .loop .inv .2)
+      list-next field _ _ _ _ _ _ _ _ _ _ _ h (at-loop .loop .inv .2)
           entered,
-      entered-ready goldilocks _ _ _ _ _ (at-loop .loop .inv .3) (at-basis-factor .basis-factor .ensures),
+      entered-ready field _ _ _ _ _ (at-loop .loop .inv .3) (at-basis-factor .basis-factor .ensures),
       inside-later
           (at-basis-factor .basis-factor .ensures .ran .longer) (at-loop .loop .inv .4),
     )
@@ -89,7 +90,7 @@ same-length-2 c = c .before .loop .inv .1
 
 returns : tie.Need-returns Inv-loop μ-loop
 unfolding Periodic.factors
-returns c = list-all goldilocks _ _ _ _ _ _ _ _ _ _ _ (c .before .loop .inv .0) (c .loop-test .left) (omega arith) (c .before .loop .inv .2)
+returns c = list-all _ _ _ _ _ _ _ _ _ _ _ _ (c .before .loop .inv .0) (c .loop-test .left) (omega arith) (c .before .loop .inv .2)
 
 pub basis-factors-spec : {M : Type 1} → statement M
 basis-factors-spec =

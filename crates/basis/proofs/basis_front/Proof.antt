@@ -2,8 +2,8 @@ use Prim.Native.Nat.{_+_, _-_}
 use mathlib.Core.Path.{_≡_, sym}
 use native.Mathlib.Omega.{arith}
 use lib.ListN.{length}
-use Rattle.field.specs.Fields.{goldilocks}
-use Rattle.field.specs.Field.{quad}
+use Rattle.field.specs.Fields.{fieldOf}
+use Rattle.field.specs.Field.{elements}
 use Rattle.periodic.specs.Builder as Builder
 use Rattle.periodic.specs.Periodic as Periodic
 use Rattle.periodic.specs.RunLaws.{entered-ready, then-enter}
@@ -35,7 +35,7 @@ constant-requires : tie.Need-constant-requires
 constant-requires c κs =
     let at-basis-factors = c .before .before .before .before .before .before in
     let start = at-basis-factors .before .before .before .before .before in
-    (listed-ready goldilocks _ _ _ _ _ _ _ (start .pre .0) (at-basis-factors .basis-factors .ensures), c .size-inverse .ensures .1)
+    (listed-ready (fieldOf (start .args .prime)) _ _ _ _ _ _ _ (start .pre .0) (at-basis-factors .basis-factors .ensures), c .size-inverse .ensures .1)
 
 sub-chain : tie.Need-sub-chain
 sub-chain c = search needs
@@ -48,9 +48,9 @@ chain-requires c κs =
     let at-constant = c .before .before .before .before in
     let at-basis-factors = at-constant .before .before .before .before .before .before .before in
     let start = at-basis-factors .before .before .before .before .before in
-    let long = length-take-le (length (start .args .col .now)) (at-basis-factors .basis-factors .last .1 .1 .1 .1 .1 .0)
+    let long = length-take-le (length (start .args .col .now)) (at-basis-factors .basis-factors .last .1 .1 .1 .1 .1 .1 .0)
     (omega (arith, start .pre .2 .short)) in (
-      entered-ready goldilocks _ _ _ _ _ (listed-ready goldilocks _ _ _ _ _ _ _ (start .pre .0) (at-basis-factors .basis-factors .ensures))
+      entered-ready (fieldOf (start .args .prime)) _ _ _ _ _ (listed-ready (fieldOf (start .args .prime)) _ _ _ _ _ _ _ (start .pre .0) (at-basis-factors .basis-factors .ensures))
           (at-constant .constant .ensures),
       at-constant .constant .ensures .inside,
       all-later (at-constant .constant .ensures .ran .longer)
@@ -73,9 +73,10 @@ basis-back-requires c κs =
     let at-constant = at-chain .before .before .before .before .before in
     let at-basis-factors = at-constant .before .before .before .before .before .before .before in
     let start = at-basis-factors .before .before .before .before .before in
+    let prime = start .args .prime in
     let whole : length (start .args .col .now) - 1 + 1 ≡ length (start .args .col .now) = omega (arith, start .pre .2 .some) in
-    let listed = listing-like goldilocks _ _ _ _ _ _ _ _ _ (same-refl _) whole (at-chain .chain .ensures) in (
-      listed-ready goldilocks _ _ _ _ _ _ _ (entered-ready goldilocks _ _ _ _ _ (listed-ready goldilocks _ _ _ _ _ _ _ (start .pre .0) (at-basis-factors .basis-factors .ensures))
+    let listed = listing-like (fieldOf prime) _ _ _ _ _ _ _ _ _ (same-refl _) whole (at-chain .chain .ensures) in (
+      listed-ready (fieldOf prime) _ _ _ _ _ _ _ (entered-ready (fieldOf prime) _ _ _ _ _ (listed-ready (fieldOf prime) _ _ _ _ _ _ _ (start .pre .0) (at-basis-factors .basis-factors .ensures))
           (at-constant .constant .ensures)) (at-chain .chain .ensures),
       record {
         rows = start .pre .3;
@@ -101,11 +102,12 @@ returns c =
     let at-size-inverse = at-constant .before in
     let at-basis-factors = at-size-inverse .before .before .before .before .before .before in
     let start = at-basis-factors .before .before .before .before .before in
+    let field = fieldOf (start .args .prime) in
     let whole : length (start .args .col .now) - 1 + 1 ≡ length (start .args .col .now) = omega (arith, start .pre .2 .some) in
-    let listed = listing-like goldilocks _ _ _ _ _ _ _ _ _ (same-refl _) whole (at-chain .chain .ensures) in
-    then-listed goldilocks _ _ _ _ _ _ _ _ _ _ (at-basis-factors .basis-factors .ensures)
-    (then-enter goldilocks _ _ _ _ _ _ _ _ (entering-at goldilocks (Builder.constant quad) _ _ _ _ (at-size-inverse .size-inverse .ensures .0)
-    (at-constant .constant .ensures)) (then-listed goldilocks _ _ _ _ _ _ _ _ _ _ listed (at-basis-back .basis-back .ensures)))
+    let listed = listing-like field _ _ _ _ _ _ _ _ _ (same-refl _) whole (at-chain .chain .ensures) in
+    then-listed field _ _ _ _ _ _ _ _ _ _ (at-basis-factors .basis-factors .ensures)
+    (then-enter field _ _ _ _ _ _ _ _ (entering-at field (Builder.constant (elements (start .args .prime))) _ _ _ _ (at-size-inverse .size-inverse .ensures .0)
+    (at-constant .constant .ensures)) (then-listed field _ _ _ _ _ _ _ _ _ _ listed (at-basis-back .basis-back .ensures)))
 
 pub basis-front-spec : {M : Type 1} → statement M
 basis-front-spec =

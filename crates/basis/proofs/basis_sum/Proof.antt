@@ -1,7 +1,6 @@
 use mathlib.Core.Path.{sym, _∙_}
 use native.Mathlib.Omega.{arith}
-use Rattle.field.specs.Fields.{goldilocks}
-use Rattle.field.specs.Field.{quad}
+use Rattle.field.specs.Fields.{fieldOf}
 use Rattle.periodic.specs.Builder as Builder
 use Rattle.periodic.specs.Periodic as Periodic
 use Rattle.periodic.specs.RunLaws.{entered-ready, then-enter}
@@ -38,12 +37,13 @@ all-terms-requires c κs =
     let at-constant = c .before .before .before in
     let at-offset = at-constant .before .before in
     let at-values = at-offset .before .before .before in
-    let start = at-values .before .before .before .before .before .before in (
-      entered-ready goldilocks _ _ _ _ _ (start .pre .0) (at-constant .constant .ensures),
-      products-later goldilocks (at-constant .constant .ensures .ran .longer)
+    let start = at-values .before .before .before .before .before .before in
+    let field = fieldOf (start .args .prime) in (
+      entered-ready field _ _ _ _ _ (start .pre .0) (at-constant .constant .ensures),
+      products-later field (at-constant .constant .ensures .ran .longer)
           (start .pre .1),
       at-constant .constant .ensures .inside,
-      offset-of goldilocks _ _ _ (start .pre .2 .low) (at-values .values .ensures .0)
+      offset-of field _ _ _ (start .pre .2 .low) (at-values .values .ensures .0)
           (at-offset .offset .ensures .0) (at-offset .offset .ensures .1),
     )
 
@@ -53,12 +53,13 @@ all-terms-requires-2 c κs =
     let at-constant = at-all-terms .before .before .before .before in
     let at-offset = at-constant .before .before in
     let at-values = at-offset .before .before .before in
-    let start = at-values .before .before .before .before .before .before in (
-      entered-ready goldilocks _ _ _ _ _ (entered-ready goldilocks _ _ _ _ _ (start .pre .0) (at-constant .constant .ensures)) (at-all-terms .all-terms .ensures),
-      products-later goldilocks (at-all-terms .all-terms .ensures .ran .longer)
-          (products-later goldilocks (at-constant .constant .ensures .ran .longer) (start .pre .1)),
+    let start = at-values .before .before .before .before .before .before in
+    let field = fieldOf (start .args .prime) in (
+      entered-ready field _ _ _ _ _ (entered-ready field _ _ _ _ _ (start .pre .0) (at-constant .constant .ensures)) (at-all-terms .all-terms .ensures),
+      products-later field (at-all-terms .all-terms .ensures .ran .longer)
+          (products-later field (at-constant .constant .ensures .ran .longer) (start .pre .1)),
       at-all-terms .all-terms .ensures .inside,
-      offset-of goldilocks _ _ _
+      offset-of field _ _ _
           (start .pre .2 .low) (at-values .values .ensures .0) (at-offset .offset .ensures .0) (at-offset .offset .ensures .1),
     )
 
@@ -76,8 +77,8 @@ returns c =
     let at-all-terms = at-all-terms2 .before .before .before .before in
     let at-constant = at-all-terms .before .before .before .before in
     let at-offset = at-constant .before .before in
-    then-enter goldilocks _ _ _ _ _ _ _ _ (entering-at goldilocks (Builder.constant quad) _ _ _ _ (at-offset .offset .ensures .0) (at-constant .constant .ensures))
-    (then-enter goldilocks _ _ _ _ _ _ _ _ (at-all-terms .all-terms .ensures) (at-all-terms2 .all-terms2 .ensures))
+    then-enter _ _ _ _ _ _ _ _ _ (entering-at _ (Builder.constant _) _ _ _ _ (at-offset .offset .ensures .0) (at-constant .constant .ensures))
+    (then-enter _ _ _ _ _ _ _ _ _ (at-all-terms .all-terms .ensures) (at-all-terms2 .all-terms2 .ensures))
 
 pub basis-sum-spec : {M : Type 1} → statement M
 basis-sum-spec =

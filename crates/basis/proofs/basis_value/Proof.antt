@@ -1,5 +1,5 @@
 use borrow.Author.Needs.{needs}
-use Rattle.field.specs.Fields.{goldilocks}
+use Rattle.field.specs.Fields.{fieldOf}
 use Rattle.periodic.specs.Periodic as Periodic
 use Rattle.periodic.specs.RunLaws.{entered-ready, then-enter}
 use Rattle.basis.specs.BasisLaws.{roots-of}
@@ -19,10 +19,10 @@ basis-front-requires c κs =
     let at-roots = c .before .before in
     let at-z-power = at-roots .before .before .before in
     let start = at-z-power .before .before .before .before in (
-      entered-ready goldilocks _ _ _ _ _ (start .pre .0) (at-z-power .z-power .ensures),
+      entered-ready (fieldOf (start .args .prime)) _ _ _ _ _ (start .pre .0) (at-z-power .z-power .ensures),
       at-z-power .z-power .ensures .inside,
       start .pre .1,
-      roots-of goldilocks _ _
+      roots-of (fieldOf (start .args .prime)) _ _
           (at-roots .roots .ensures),
     )
 
@@ -34,7 +34,7 @@ unfolding Periodic.basisValue
 returns c =
     let at-basis-front = c .before .before in
     let at-z-power = at-basis-front .before .before .before .before .before .before in
-    then-enter goldilocks _ _ _ _ _ _ _ _ (at-z-power .z-power .ensures) (at-basis-front .basis-front .ensures)
+    then-enter _ _ _ _ _ _ _ _ _ (at-z-power .z-power .ensures) (at-basis-front .basis-front .ensures)
 
 pub basis-value-spec : {M : Type 1} → statement M
 basis-value-spec =

@@ -1,10 +1,10 @@
 -- The invariant: acc is the place after j turns.
-use Rattle.field.specs.Fields.{goldilocks}
+use Rattle.field.specs.Fields.{fieldOf}
 use Rattle.basis.specs.Contracts as Basis
 use Prim.Native.Nat.{_-_, _≤_}
 use mathlib.Core.Path.{_∙_}
 use native.Mathlib.Omega.{arith}
-use lib.Dec.{lit<}
+use Rattle.field.specs.Field.{large}
 use lib.ListN.{length}
 use Rattle.periodic.specs.Builder as Builder
 use Rattle.periodic.specs.Periodic as Periodic
@@ -15,27 +15,30 @@ use Rattle.basis.proofs.class_sum.Statement.{statement}
 use Rattle.basis.proofs.class_sum.Tie as tie
 
 abbrev Inv-loop : tie.InvT-loop
-Inv-loop list₀ n roots prefix suffix col v acc₀ j₀ list acc j =
+Inv-loop prime list₀ n roots prefix suffix col v acc₀ j₀ list acc j =
     (j ≤ length col)
-    × Said.Entering goldilocks list₀ (acc₀ .count) (Builder.turns (λ j acc. Periodic.classTurn goldilocks col prefix suffix v j acc) j (acc₀ .place))
+    × Said.Entering (fieldOf prime) list₀ (acc₀ .count) (Builder.turns (λ j acc. Periodic.classTurn (fieldOf prime) col prefix suffix v j acc) j (acc₀ .place))
     list acc
-    × Said.Ready goldilocks list (acc .count)
-    × Basis.Products goldilocks (acc .count) col roots prefix suffix
+    × Said.Ready (fieldOf prime) list (acc .count)
+    × Basis.Products (fieldOf prime) (acc .count) col roots prefix suffix
 
 abbrev μ-loop : tie.MeasureT-loop
-μ-loop list₀ n roots prefix suffix col v acc₀ j₀ list acc j = length col - j
+μ-loop prime list₀ n roots prefix suffix col v acc₀ j₀ list acc j = length col - j
 
 constant-requires : tie.Need-constant-requires Inv-loop μ-loop
-constant-requires c κs = (c .before .before .before .before .before .pre .0, lit< tt)
+constant-requires c κs =
+    let start = c .before .before .before .before .before in
+    (start .pre .0, omega (arith, large (start .args .prime)))
 
 loop-holds : tie.Need-loop-holds Inv-loop μ-loop
 loop-holds c =
     let at-constant = c .before .before in
-    let start = at-constant .before .before .before .before .before .before in (
+    let start = at-constant .before .before .before .before .before .before in
+    let field = fieldOf (start .args .prime) in (
       omega arith,
-      enter-none goldilocks _ _ _ _ (at-constant .constant .ensures .inside),
-      entered-ready goldilocks _ _ _ _ _ (start .pre .0) (at-constant .constant .ensures),
-      products-later goldilocks (at-constant .constant .ensures .ran .longer) (start .pre .1),
+      enter-none field _ _ _ _ (at-constant .constant .ensures .inside),
+      entered-ready field _ _ _ _ _ (start .pre .0) (at-constant .constant .ensures),
+      products-later field (at-constant .constant .ensures .ran .longer) (start .pre .1),
     )
 
 class-turn-requires : tie.Need-class-turn-requires Inv-loop μ-loop
@@ -52,10 +55,10 @@ loop-again c =
     let at-class-turn = c .before .before in
     let at-loop = at-class-turn .before .before .before in (
       omega arith,
-      enter-next goldilocks _ _ _ _ _ _ _ _ _ (at-loop .loop .inv .1) (at-class-turn .class-turn .ensures),
-      entered-ready goldilocks _ _ _ _ _
+      enter-next _ _ _ _ _ _ _ _ _ _ (at-loop .loop .inv .1) (at-class-turn .class-turn .ensures),
+      entered-ready _ _ _ _ _ _
           (at-loop .loop .inv .2) (at-class-turn .class-turn .ensures),
-      products-later goldilocks (at-class-turn .class-turn .ensures .ran .longer)
+      products-later _ (at-class-turn .class-turn .ensures .ran .longer)
           (at-loop .loop .inv .3),
     )
 
@@ -67,8 +70,8 @@ unfolding Periodic.classSum
 returns c =
     let at-loop = c .before in
     let at-constant = at-loop .before .before .before in
-    then-enter goldilocks _ _ _ _ _ _ _ _ (at-constant .constant .ensures)
-    (enter-all goldilocks _ _ _ _ _ _ _ _ (at-loop .loop .inv .0) (c .loop-test .left) (at-loop .loop .inv .1))
+    then-enter _ _ _ _ _ _ _ _ _ (at-constant .constant .ensures)
+    (enter-all _ _ _ _ _ _ _ _ _ (at-loop .loop .inv .0) (c .loop-test .left) (at-loop .loop .inv .1))
 
 pub class-sum-spec : {M : Type 1} → statement M
 class-sum-spec =

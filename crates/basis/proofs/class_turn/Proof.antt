@@ -1,6 +1,6 @@
 use mathlib.Core.Path.{_∙_}
 use native.Mathlib.Omega.{arith}
-use Rattle.field.specs.Fields.{goldilocks}
+use Rattle.field.specs.Fields.{fieldOf}
 use Rattle.periodic.specs.RunLaws.{entered-ready, then-enter, inside-later}
 use Rattle.periodic.specs.SparseLaws.{entering-same}
 use Rattle.basis.specs.BasisLaws.{entered-done, row-skipped, row-taken}
@@ -16,7 +16,8 @@ shared-slice-read-if1 c = c .before .before .before .before .before .pre .2
 returns : tie.Need-returns
 returns c =
     let start = c .before .before .before .before .before .before in
-    entering-same goldilocks _ _ _ _ _ _ (row-skipped goldilocks _ _ _ _ _ _ (c .if1 .taken)) (entered-done goldilocks _ _ _ (start .pre .3))
+    let field = fieldOf (start .args .prime) in
+    entering-same field _ _ _ _ _ _ (row-skipped field _ _ _ _ _ _ (c .if1 .taken)) (entered-done field _ _ _ (start .pre .3))
 
 element-requires : tie.Need-element-requires
 element-requires c κs =
@@ -27,7 +28,7 @@ add-requires : tie.Need-add-requires
 add-requires c κs =
     let at-element = c .before .before .before in
     let start = at-element .before .before .before .before .before .before .before .before in (
-      entered-ready goldilocks _ _ _ _ _ (start .pre .0) (at-element .element .ensures),
+      entered-ready (fieldOf (start .args .prime)) _ _ _ _ _ (start .pre .0) (at-element .element .ensures),
       inside-later (at-element .element .ensures .ran .longer) (start .pre .3),
       at-element .element .ensures .inside,
     )
@@ -43,8 +44,8 @@ returns-2 c =
     let at-add = c .before .before in
     let at-element = at-add .before .before .before .before in
     let at-if1 = at-element .before .before in
-    entering-same goldilocks _ _ _ _ _ _ (row-taken goldilocks _ _ _ _ _ _ (at-if1 .if1 .left))
-    (then-enter goldilocks _ _ _ _ _ _ _ _ (at-element .element .ensures) (at-add .add .ensures))
+    entering-same _ _ _ _ _ _ _ (row-taken _ _ _ _ _ _ _ (at-if1 .if1 .left))
+    (then-enter _ _ _ _ _ _ _ _ _ (at-element .element .ensures) (at-add .add .ensures))
 
 pub class-turn-spec : {M : Type 1} → statement M
 class-turn-spec =

@@ -1,8 +1,8 @@
 use Prim.Native.Nat.{_-_, _<_}
 use native.Mathlib.Omega.{arith}
 use lib.ListN.{length}
-use Rattle.field.specs.Fields.{goldilocks}
-use Rattle.field.specs.Field.{quad}
+use Rattle.field.specs.Fields.{fieldOf}
+use Rattle.field.specs.Field.{elements}
 use Rattle.periodic.specs.Builder as Builder
 use Rattle.periodic.specs.Periodic as Periodic
 use Rattle.periodic.specs.RunLaws.{entered-ready, then-enter, inside-later}
@@ -46,14 +46,14 @@ constant-requires : tie.Need-constant-requires
 constant-requires c κs =
     let at-mul = c .before .before .before .before in
     let start = at-mul .before .before .before .before .before .before .before .before in
-    (entered-ready goldilocks _ _ _ _ _ (start .pre .0) (at-mul .mul .ensures), start .pre .1 .rows .low _ (start .pre .2))
+    (entered-ready (fieldOf (start .args .prime)) _ _ _ _ _ (start .pre .0) (at-mul .mul .ensures), start .pre .1 .rows .low _ (start .pre .2))
 
 mul-requires-2 : tie.Need-mul-requires-2
 mul-requires-2 c κs =
     let at-constant = c .before .before .before in
     let at-mul = at-constant .before .before .before .before .before in
     let start = at-mul .before .before .before .before .before .before .before .before in (
-      entered-ready goldilocks _ _ _ _ _ (entered-ready goldilocks _ _ _ _ _ (start .pre .0) (at-mul .mul .ensures)) (at-constant .constant .ensures),
+      entered-ready (fieldOf (start .args .prime)) _ _ _ _ _ (entered-ready (fieldOf (start .args .prime)) _ _ _ _ _ (start .pre .0) (at-mul .mul .ensures)) (at-constant .constant .ensures),
       at-constant .constant .ensures .inside,
       inside-later (at-constant .constant .ensures .ran .longer) (at-mul .mul .ensures .inside),
     )
@@ -68,8 +68,9 @@ returns c =
     let at-constant = at-mul2 .before .before .before .before in
     let at-mul = at-constant .before .before .before .before .before in
     let start = at-mul .before .before .before .before .before .before .before .before in
-    then-enter goldilocks _ _ _ _ _ _ _ _ (at-mul .mul .ensures) (then-enter goldilocks _ _ _ _ _ _ _ _
-    (entering-at goldilocks (Builder.constant quad) _ _ _ _ (start .pre .1 .rows .at _ (start .pre .2)) (at-constant .constant .ensures))
+    let field = fieldOf (start .args .prime) in
+    then-enter field _ _ _ _ _ _ _ _ (at-mul .mul .ensures) (then-enter field _ _ _ _ _ _ _ _
+    (entering-at field (Builder.constant (elements (start .args .prime))) _ _ _ _ (start .pre .1 .rows .at _ (start .pre .2)) (at-constant .constant .ensures))
     (at-mul2 .mul2 .ensures))
 
 pub element-spec : {M : Type 1} → statement M

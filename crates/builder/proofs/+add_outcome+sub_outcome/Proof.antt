@@ -2,7 +2,7 @@ use Prim.Native.Nat.{ℕ, _+_, _<_}
 use native.Mathlib.Omega.{arith}
 use mathlib.Core.Path.{subst}
 use Rattle.dag.specs.View.{interleaved}
-use Rattle.field.specs.Fields.{goldilocks}
+use Rattle.field.specs.Fields.{fieldOf}
 use Rattle.builder.specs.OutcomeLaws.{operands-below, add-used, add-made, add-handed, add-lower, sub-used, sub-made, sub-handed, sub-lower}
 use borrow.Author.Needs.{needs}
 use borrow.Fn.Kinds.{In}
@@ -21,10 +21,10 @@ use Rattle.builder.proofs.+add_outcome+sub_outcome.{statement}
 use Rattle.builder.proofs.+add_outcome+sub_outcome.Tie.{close}
 
 abbrev μ-add-outcome : Measures 1 add-outcome-kinds.ps ℕ
-μ-add-outcome κs a = a .1 .1 .0 + a .1 .1 .1 .0
+μ-add-outcome κs a = a .1 .1 .1 .0 + a .1 .1 .1 .1 .0
 
 abbrev μ-sub-outcome : Measures 1 sub-outcome-kinds.ps ℕ
-μ-sub-outcome κs a = a .1 .1 .0 + a .1 .1 .1 .0
+μ-sub-outcome κs a = a .1 .1 .1 .0 + a .1 .1 .1 .1 .0
 
 abbrev add-outcome-at : ℕ → In 1 add-outcome-kinds.ps
 add-outcome-at t =
@@ -73,7 +73,7 @@ add-outcome-add-rule-requires : (t : ℕ) → add-outcome-lts.Need-add-rule-requ
 add-outcome-add-rule-requires t c κs =
     let at-node-at = c .before in
     let start = at-node-at .before .before in
-    operands-below goldilocks (interleaved (start .args .list .now)) (start .args .n) (start .args .a) (start .args .b) (start .pre .1) _ _
+    operands-below (fieldOf (start .args .prime)) (interleaved (start .args .list .now)) (start .args .n) (start .args .a) (start .args .b) (start .pre .1) _ _
     (at-node-at .node-at .ensures) (c .node-at2 .ensures) (Use 0)
 
 add-outcome-enum-known-rule : (t : ℕ) → add-outcome-lts.Need-enum-known-rule (
@@ -120,7 +120,7 @@ add-outcome-sub-outcome-requires t c κs =
     let at-node-at2 = at-add-rule .before in
     let at-node-at = at-node-at2 .before in
     let start = at-node-at .before .before in
-    let h = add-lower goldilocks (interleaved (start .args .list .now)) (start .args .n) (start .args .a) (start .args .b) (start .pre .1) _ _
+    let h = add-lower (fieldOf (start .args .prime)) (interleaved (start .args .list .now)) (start .args .n) (start .args .a) (start .args .b) (start .pre .1) _ _
     (at-node-at .node-at .ensures) (at-node-at2 .node-at2 .ensures) (at-add-rule .add-rule .result) (at-add-rule .add-rule .ensures) _ _
     (at-rule3 .rule3 .given .1) in (
       subst (λ (j : ℕ). at-rule3 .rule3 .given .0 .0 + at-rule3 .rule3 .given .0 .1 .0 < j) (start .pre .0) (h .0),
@@ -141,7 +141,7 @@ add-outcome-returns t c =
     let at-node-at2 = at-add-rule .before in
     let at-node-at = at-node-at2 .before in
     let start = at-node-at .before .before in
-    add-used goldilocks (interleaved (start .args .list .now)) (start .args .n) (start .args .a) (start .args .b) (start .pre .1) _ _ (at-node-at .node-at .ensures)
+    add-used (fieldOf (start .args .prime)) (interleaved (start .args .list .now)) (start .args .n) (start .args .a) (start .args .b) (start .pre .1) _ _ (at-node-at .node-at .ensures)
     (at-node-at2 .node-at2 .ensures) (at-add-rule .add-rule .result) (at-add-rule .add-rule .ensures) _ (at-rule .rule .given .1)
 
 add-outcome-returns-2 : (t : ℕ) → add-outcome-lts.Need-returns-2 (
@@ -158,7 +158,7 @@ add-outcome-returns-2 t c =
     let at-node-at2 = at-add-rule .before in
     let at-node-at = at-node-at2 .before in
     let start = at-node-at .before .before in
-    add-made goldilocks (interleaved (start .args .list .now)) (start .args .n) (start .args .a) (start .args .b) (start .pre .1) _ _ (at-node-at .node-at .ensures)
+    add-made (fieldOf (start .args .prime)) (interleaved (start .args .list .now)) (start .args .n) (start .args .a) (start .args .b) (start .pre .1) _ _ (at-node-at .node-at .ensures)
     (at-node-at2 .node-at2 .ensures) (at-add-rule .add-rule .result) (at-add-rule .add-rule .ensures) _ (at-rule2 .rule2 .given .1)
 
 add-outcome-returns-3 : (t : ℕ) → add-outcome-lts.Need-returns-3 (
@@ -175,7 +175,7 @@ add-outcome-returns-3 t c =
     let at-node-at2 = at-add-rule .before in
     let at-node-at = at-node-at2 .before in
     let start = at-node-at .before .before in
-    add-handed goldilocks (interleaved (start .args .list .now)) (start .args .n) (start .args .a) (start .args .b) (start .pre .1) _ _ (at-node-at .node-at .ensures)
+    add-handed (fieldOf (start .args .prime)) (interleaved (start .args .list .now)) (start .args .n) (start .args .a) (start .args .b) (start .pre .1) _ _ (at-node-at .node-at .ensures)
     (at-node-at2 .node-at2 .ensures) (at-add-rule .add-rule .result) (at-add-rule .add-rule .ensures) _ _ _ (at-rule3 .rule3 .given .1)
     (c .sub-outcome .ensures)
 
@@ -210,7 +210,7 @@ sub-outcome-sub-rule-requires : (t : ℕ) → sub-outcome-lts.Need-sub-rule-requ
 sub-outcome-sub-rule-requires t c κs =
     let at-node-at = c .before in
     let start = at-node-at .before .before in
-    operands-below goldilocks (interleaved (start .args .list .now)) (start .args .n) (start .args .a) (start .args .b) (start .pre .1) _ _
+    operands-below (fieldOf (start .args .prime)) (interleaved (start .args .list .now)) (start .args .n) (start .args .a) (start .args .b) (start .pre .1) _ _
     (at-node-at .node-at .ensures) (c .node-at2 .ensures) (Use 0)
 
 sub-outcome-enum-known-rule : (t : ℕ) → sub-outcome-lts.Need-enum-known-rule (
@@ -257,7 +257,7 @@ sub-outcome-add-outcome-requires t c κs =
     let at-node-at2 = at-sub-rule .before in
     let at-node-at = at-node-at2 .before in
     let start = at-node-at .before .before in
-    let h = sub-lower goldilocks (interleaved (start .args .list .now)) (start .args .n) (start .args .a) (start .args .b) (start .pre .1) _ _
+    let h = sub-lower (fieldOf (start .args .prime)) (interleaved (start .args .list .now)) (start .args .n) (start .args .a) (start .args .b) (start .pre .1) _ _
     (at-node-at .node-at .ensures) (at-node-at2 .node-at2 .ensures) (at-sub-rule .sub-rule .result) (at-sub-rule .sub-rule .ensures) _ _
     (at-rule3 .rule3 .given .1) in (
       subst (λ (j : ℕ). at-rule3 .rule3 .given .0 .0 + at-rule3 .rule3 .given .0 .1 .0 < j) (start .pre .0) (h .0),
@@ -278,7 +278,7 @@ sub-outcome-returns t c =
     let at-node-at2 = at-sub-rule .before in
     let at-node-at = at-node-at2 .before in
     let start = at-node-at .before .before in
-    sub-used goldilocks (interleaved (start .args .list .now)) (start .args .n) (start .args .a) (start .args .b) (start .pre .1) _ _ (at-node-at .node-at .ensures)
+    sub-used (fieldOf (start .args .prime)) (interleaved (start .args .list .now)) (start .args .n) (start .args .a) (start .args .b) (start .pre .1) _ _ (at-node-at .node-at .ensures)
     (at-node-at2 .node-at2 .ensures) (at-sub-rule .sub-rule .result) (at-sub-rule .sub-rule .ensures) _ (at-rule .rule .given .1)
 
 sub-outcome-returns-2 : (t : ℕ) → sub-outcome-lts.Need-returns-2 (
@@ -295,7 +295,7 @@ sub-outcome-returns-2 t c =
     let at-node-at2 = at-sub-rule .before in
     let at-node-at = at-node-at2 .before in
     let start = at-node-at .before .before in
-    sub-made goldilocks (interleaved (start .args .list .now)) (start .args .n) (start .args .a) (start .args .b) (start .pre .1) _ _ (at-node-at .node-at .ensures)
+    sub-made (fieldOf (start .args .prime)) (interleaved (start .args .list .now)) (start .args .n) (start .args .a) (start .args .b) (start .pre .1) _ _ (at-node-at .node-at .ensures)
     (at-node-at2 .node-at2 .ensures) (at-sub-rule .sub-rule .result) (at-sub-rule .sub-rule .ensures) _ (at-rule2 .rule2 .given .1)
 
 sub-outcome-returns-3 : (t : ℕ) → sub-outcome-lts.Need-returns-3 (
@@ -312,7 +312,7 @@ sub-outcome-returns-3 t c =
     let at-node-at2 = at-sub-rule .before in
     let at-node-at = at-node-at2 .before in
     let start = at-node-at .before .before in
-    sub-handed goldilocks (interleaved (start .args .list .now)) (start .args .n) (start .args .a) (start .args .b) (start .pre .1) _ _ (at-node-at .node-at .ensures)
+    sub-handed (fieldOf (start .args .prime)) (interleaved (start .args .list .now)) (start .args .n) (start .args .a) (start .args .b) (start .pre .1) _ _ (at-node-at .node-at .ensures)
     (at-node-at2 .node-at2 .ensures) (at-sub-rule .sub-rule .result) (at-sub-rule .sub-rule .ensures) _ _ _ (at-rule3 .rule3 .given .1)
     (c .add-outcome .ensures)
 

@@ -3,7 +3,7 @@ use Rattle.builder.specs.Steps as Steps
 use Rattle.dag.specs.declared.NodeKind.the-variants.{Constant}
 use Rattle.dag.specs.CaseLaws.{and-true}
 use Rattle.dag.specs.BranchLaws.{told, skip, into}
-use Rattle.field.specs.Field.{quad}
+use Rattle.field.specs.Field.{elements}
 use mathlib.Core.Path.{refl, _∙_, ap, ap₂}
 use borrow.Author.Needs.{needs}
 use Rattle.builder.proofs.add_rule.Statement.{statement}
@@ -28,27 +28,27 @@ add-requires c κs =
     (rw (at-element .element .ensures) (start .pre .left (h .0)), rw (c .element2 .ensures) (start .pre .right (h .1)))
 
 returns : tie.Need-returns
-unfolding quad Steps.addRule Steps.isSub Steps.isAdd Steps.isNeg
+unfolding elements Steps.addRule Steps.isSub Steps.isAdd Steps.isNeg
 returns c =
     let at-element2 = c .before in
     let at-element = at-element2 .before in
     let at-if1 = at-element .before in
     let at-both-constant = at-if1 .before in
     into _ (told (at-both-constant .both-constant .ensures) (at-if1 .if1 .taken))
-    (ap (λ e. Make (Constant e)) (c .add .ensures .0 ∙ ap₂ (quad .add) (at-element .element .ensures) (at-element2 .element2 .ensures)))
+    (ap (λ e. Make (Constant e)) (c .add .ensures .0 ∙ ap₂ (elements (at-both-constant .before .args .prime) .add) (at-element .element .ensures) (at-element2 .element2 .ensures)))
 
 is-the-requires : tie.Need-is-the-requires
 is-the-requires c κs = search needs
 
 returns-2 : tie.Need-returns-2
-unfolding quad Steps.addRule Steps.isSub Steps.isAdd Steps.isNeg
+unfolding elements Steps.addRule Steps.isSub Steps.isAdd Steps.isNeg
 returns-2 c = skip _ (told (c .before .before .before .both-constant .ensures) (c .before .before .if1 .left)) (into _ (told (c .before .is-the .ensures) (c .if2 .taken)) (refl))
 
 is-the-requires-2 : tie.Need-is-the-requires-2
 is-the-requires-2 c κs = search needs
 
 returns-3 : tie.Need-returns-3
-unfolding quad Steps.addRule Steps.isSub Steps.isAdd Steps.isNeg
+unfolding elements Steps.addRule Steps.isSub Steps.isAdd Steps.isNeg
 returns-3 c =
     let at-is-the2 = c .before in
     let at-if2 = at-is-the2 .before in
@@ -65,7 +65,7 @@ first-of-requires : tie.Need-first-of-requires
 first-of-requires c κs = search needs
 
 returns-4 : tie.Need-returns-4
-unfolding quad Steps.addRule Steps.isSub Steps.isAdd Steps.isNeg
+unfolding elements Steps.addRule Steps.isSub Steps.isAdd Steps.isNeg
 returns-4 c =
     let at-if4 = c .before in
     let at-with-second = at-if4 .before in
@@ -87,7 +87,7 @@ first-of-requires-2 : tie.Need-first-of-requires-2
 first-of-requires-2 c κs = search needs
 
 returns-5 : tie.Need-returns-5
-unfolding quad Steps.addRule Steps.isSub Steps.isAdd Steps.isNeg
+unfolding elements Steps.addRule Steps.isSub Steps.isAdd Steps.isNeg
 returns-5 c =
     let at-if5 = c .before in
     let at-with-second2 = at-if5 .before in
@@ -112,7 +112,7 @@ first-of-requires-3 : tie.Need-first-of-requires-3
 first-of-requires-3 c κs = search needs
 
 returns-6 : tie.Need-returns-6
-unfolding quad Steps.addRule Steps.isSub Steps.isAdd Steps.isNeg
+unfolding elements Steps.addRule Steps.isSub Steps.isAdd Steps.isNeg
 returns-6 c =
     let at-if6 = c .before in
     let at-only-neg = at-if6 .before in
@@ -141,7 +141,7 @@ first-of-requires-4 : tie.Need-first-of-requires-4
 first-of-requires-4 c κs = search needs
 
 returns-7 : tie.Need-returns-7
-unfolding quad Steps.addRule Steps.isSub Steps.isAdd Steps.isNeg
+unfolding elements Steps.addRule Steps.isSub Steps.isAdd Steps.isNeg
 returns-7 c =
     let at-if7 = c .before in
     let at-only-neg2 = at-if7 .before in
@@ -170,7 +170,7 @@ low-add-requires : tie.Need-low-add-requires
 low-add-requires c κs = search needs
 
 returns-8 : tie.Need-returns-8
-unfolding quad Steps.addRule Steps.isSub Steps.isAdd Steps.isNeg
+unfolding elements Steps.addRule Steps.isSub Steps.isAdd Steps.isNeg
 returns-8 c =
     let at-if7 = c .before in
     let at-only-neg2 = at-if7 .before in

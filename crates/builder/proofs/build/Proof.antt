@@ -1,5 +1,5 @@
 use Rattle.dag.specs.View.{interleaved}
-use Rattle.field.specs.Fields.{goldilocks}
+use Rattle.field.specs.Fields.{fieldOf}
 use Rattle.builder.specs.BuildLaws.{ready, build-refused, build-done}
 use Rattle.dag.specs.CheckLaws.{good-told, bad-told}
 use mathlib.Core.Path.{_∙_, ap}
@@ -27,9 +27,9 @@ returns c =
     let at-build-check = at-is-refused .before in
     let start = at-build-check .before .before .before .before .before .before in
     let told = at-build-check .build-check .ensures
-    ∙ ap (λ k. buildCheck goldilocks (interleaved (start .args .list .now)) (start .args .n) (start .args .root) k (length (start .args .map .now))) (at-build-check .before .room .ensures) in
+    ∙ ap (λ k. buildCheck (fieldOf (start .args .prime)) (interleaved (start .args .list .now)) (start .args .n) (start .args .root) k (length (start .args .map .now))) (at-build-check .before .room .ensures) in
     let bad = bad-told told (at-is-refused .is-refused .ensures) (c .before .if1 .taken) in
-    let h = build-refused goldilocks (interleaved (start .args .list .now)) (start .args .n) (start .args .root) (start .args .result .now) (start .args .map .now) _ _
+    let h = build-refused (fieldOf (start .args .prime)) (interleaved (start .args .list .now)) (start .args .n) (start .args .root) (start .args .result .now) (start .args .map .now) _ _
     told bad (c .no-roots .ensures) in
     (h .answer, (h .list-is, h .places-are))
 
@@ -43,9 +43,9 @@ build-sized-requires c κs =
     let at-build-check = at-is-refused .before in
     let start = at-build-check .before .before .before .before .before .before in
     let told = at-build-check .build-check .ensures
-    ∙ ap (λ k. buildCheck goldilocks (interleaved (start .args .list .now)) (start .args .n) (start .args .root) k (length (start .args .map .now))) (at-build-check .before .room .ensures) in
+    ∙ ap (λ k. buildCheck (fieldOf (start .args .prime)) (interleaved (start .args .list .now)) (start .args .n) (start .args .root) k (length (start .args .map .now))) (at-build-check .before .room .ensures) in
     rw (at-one-root .one-root .ensures)
-    (ready goldilocks (interleaved (start .args .list .now)) (start .args .n) (start .args .root) (interleaved (start .args .result .now) .room) (length (start .args .map .now))
+    (ready (fieldOf (start .args .prime)) (interleaved (start .args .list .now)) (start .args .n) (start .args .root) (interleaved (start .args .result .now) .room) (length (start .args .map .now))
     (good-told told (at-is-refused .is-refused .ensures) (at-one-root .before .if1 .left)))
 
 same-length : tie.Need-same-length
@@ -65,8 +65,8 @@ returns-2 c =
     let at-build-check = at-is-refused .before in
     let start = at-build-check .before .before .before .before .before .before in
     let told = at-build-check .build-check .ensures
-    ∙ ap (λ k. buildCheck goldilocks (interleaved (start .args .list .now)) (start .args .n) (start .args .root) k (length (start .args .map .now))) (at-build-check .before .room .ensures) in
-    let h = build-done goldilocks (interleaved (start .args .list .now)) (start .args .n) (start .args .root) (start .args .result .now) (start .args .map .now) _ _ _
+    ∙ ap (λ k. buildCheck (fieldOf (start .args .prime)) (interleaved (start .args .list .now)) (start .args .n) (start .args .root) k (length (start .args .map .now))) (at-build-check .before .room .ensures) in
+    let h = build-done (fieldOf (start .args .prime)) (interleaved (start .args .list .now)) (start .args .n) (start .args .root) (start .args .result .now) (start .args .map .now) _ _ _
     (good-told told (at-is-refused .is-refused .ensures) (at-one-root .before .if1 .left))
     (rw (at-one-root .one-root .ensures) at (at-build-sized .build-sized .ensures)) in
     (h .answer, (h .list-is, h .places-are))

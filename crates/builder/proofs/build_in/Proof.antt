@@ -1,5 +1,5 @@
 use Rattle.dag.specs.View.{interleaved}
-use Rattle.field.specs.Fields.{goldilocks}
+use Rattle.field.specs.Fields.{fieldOf}
 use Rattle.builder.specs.BuildLaws.{finished}
 use Rattle.dag.specs.RootLaws.{inside-mono}
 use borrow.Author.Needs.{needs}
@@ -38,8 +38,8 @@ returns c =
     let at-blank-records = at-blank-from .before .before .before .before in
     let at-replay = at-blank-records .before .before .before .before .before .before .before .before in
     let start = at-replay .before .before .before .before .before .before .before .before in
-    finished goldilocks (interleaved (start .args .list .now)) (start .args .n) (start .args .roots) (start .args .result .now) (start .args .map .now) (start .pre .0 .sound)
-    (start .pre .0 .inside) _ _ _ (at-replay .replay .ensures) (at-replay .replay .kept .1 .1 .0) (at-replay .replay .kept .1 .1 .1 .0)
+    finished (fieldOf (start .args .prime)) (interleaved (start .args .list .now)) (start .args .n) (start .args .roots) (start .args .result .now) (start .args .map .now) (start .pre .0 .sound)
+    (start .pre .0 .inside) _ _ _ (at-replay .replay .ensures) (at-replay .replay .kept .1 .1 .1 .0) (at-replay .replay .kept .1 .1 .1 .1 .0)
     (start .pre .0 .map-room) _ _ _ (at-blank-records .blank-records .ensures) (at-blank-from .blank-from .ensures) (c .renamed-roots .ensures)
 
 pub build-in-spec : {M : Type 1} → statement M

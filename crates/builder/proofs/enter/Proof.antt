@@ -1,4 +1,4 @@
-use Rattle.field.specs.Fields.{goldilocks}
+use Rattle.field.specs.Fields.{fieldOf}
 use Rattle.builder.specs.CallLaws.{stays, stepped-as, step-placed, step-interned}
 use borrow.Author.Needs.{needs}
 use Rattle.builder.proofs.enter.Statement.{statement}
@@ -23,8 +23,8 @@ returns : tie.Need-returns
 returns c =
     let asked = c .before .before .before in
     let a = asked .before .before .before in
-    stays goldilocks (a .args .list .now) (a .args .n) (a .pre .0 .sound) _ _
-    (step-placed goldilocks _ (a .args .x) _ (asked .request-outcome .ensures) _ (c .before .result .given .1))
+    stays (a .args .list .now) (a .args .n) (_, a .pre .0 .sound) _ _
+    (step-placed (fieldOf (a .args .prime)) _ (a .args .x) _ (asked .request-outcome .ensures) _ (c .before .result .given .1))
 
 same-length-2 : tie.Need-same-length-2
 same-length-2 c = search needs
@@ -35,7 +35,7 @@ returns-2 c =
     let asked = told .before .before in
     let a = asked .before .before .before in
     stepped-as (a .args .list .now) (a .args .n) _ _ _ _
-    (step-interned goldilocks _ (a .args .x) _ (asked .request-outcome .ensures) _ (told .result2 .given .1)) (c .before .before .intern .ensures)
+    (step-interned (fieldOf (a .args .prime)) _ (a .args .x) _ (asked .request-outcome .ensures) _ (told .result2 .given .1)) (c .before .before .intern .ensures)
 
 pub enter-spec : {M : Type 1} → statement M
 enter-spec =

@@ -1,5 +1,4 @@
 use Rattle.dag.specs.View.{interleaved}
-use Rattle.field.specs.Fields.{goldilocks}
 use Rattle.builder.specs.CallLaws.{stays, stepped-as}
 use Rattle.builder.specs.RequestLaws.{intern-found}
 use borrow.Author.Needs.{needs}
@@ -25,7 +24,7 @@ returns : tie.Need-returns
 returns c =
     let at-lookup = c .before .before .before in
     let start = at-lookup .before .before .before in
-    stays goldilocks (start .args .list .now) (start .args .n) (start .pre .0) _ _
+    stays (start .args .list .now) (start .args .n) (start .pre .0) _ _
     (intern-found (interleaved (start .args .list .now)) (start .args .n) (start .args .y) _ _ (at-lookup .lookup .ensures) (c .before .found .given .1))
 
 same-length-2 : tie.Need-same-length-2

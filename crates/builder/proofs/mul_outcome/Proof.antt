@@ -4,7 +4,7 @@ use Rattle.builder.specs.Steps as Steps
 use Rattle.dag.specs.declared.NodeKind.the-variants.{Constant}
 use Rattle.dag.specs.CaseLaws.{and-true}
 use Rattle.dag.specs.BranchLaws.{told, skip, into}
-use Rattle.field.specs.Field.{quad}
+use Rattle.field.specs.Field.{elements}
 use mathlib.Core.Path.{refl, _∙_, ap, ap₂}
 use borrow.Author.Needs.{needs}
 use Rattle.builder.proofs.mul_outcome.Statement.{statement}
@@ -29,27 +29,27 @@ mul-requires c κs =
     (rw (at-element .element .ensures) (start .pre .left (h .0)), rw (c .element2 .ensures) (start .pre .right (h .1)))
 
 returns : tie.Need-returns
-unfolding quad Steps.mulOutcome
+unfolding elements Steps.mulOutcome
 returns c =
     let at-element2 = c .before in
     let at-element = at-element2 .before in
     let at-if1 = at-element .before in
     let at-both-constant = at-if1 .before in
     into _ (told (at-both-constant .both-constant .ensures) (at-if1 .if1 .taken))
-    (ap (λ e. Node (Constant e)) (c .mul .ensures .0 ∙ ap₂ (quad .mul) (at-element .element .ensures) (at-element2 .element2 .ensures)))
+    (ap (λ e. Node (Constant e)) (c .mul .ensures .0 ∙ ap₂ (elements (at-both-constant .before .args .prime) .mul) (at-element .element .ensures) (at-element2 .element2 .ensures)))
 
 is-the-requires : tie.Need-is-the-requires
 is-the-requires c κs = search needs
 
 returns-2 : tie.Need-returns-2
-unfolding quad Steps.mulOutcome
+unfolding elements Steps.mulOutcome
 returns-2 c = skip _ (told (c .before .before .before .both-constant .ensures) (c .before .before .if1 .left)) (into _ (or-first _ (told (c .before .is-the .ensures) (c .if2 .taken))) (refl))
 
 is-the-requires-2 : tie.Need-is-the-requires-2
 is-the-requires-2 c κs = search needs
 
 returns-3 : tie.Need-returns-3
-unfolding quad Steps.mulOutcome
+unfolding elements Steps.mulOutcome
 returns-3 c =
     let at-is-the2 = c .before in
     let at-if2 = at-is-the2 .before in
@@ -63,7 +63,7 @@ is-the-requires-3 : tie.Need-is-the-requires-3
 is-the-requires-3 c κs = search needs
 
 returns-4 : tie.Need-returns-4
-unfolding quad Steps.mulOutcome
+unfolding elements Steps.mulOutcome
 returns-4 c =
     let at-is-the3 = c .before in
     let at-if3 = at-is-the3 .before in
@@ -80,7 +80,7 @@ is-the-requires-4 : tie.Need-is-the-requires-4
 is-the-requires-4 c κs = search needs
 
 returns-5 : tie.Need-returns-5
-unfolding quad Steps.mulOutcome
+unfolding elements Steps.mulOutcome
 returns-5 c =
     let at-is-the4 = c .before in
     let at-if4 = at-is-the4 .before in
@@ -99,7 +99,7 @@ low-mul-requires : tie.Need-low-mul-requires
 low-mul-requires c κs = search needs
 
 returns-6 : tie.Need-returns-6
-unfolding quad Steps.mulOutcome
+unfolding elements Steps.mulOutcome
 returns-6 c =
     let at-if5 = c .before in
     let at-is-the4 = at-if5 .before in

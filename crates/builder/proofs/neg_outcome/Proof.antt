@@ -1,6 +1,6 @@
+use Rattle.field.specs.Field.{elements}
 use Rattle.builder.specs.declared.Outcome.the-variants.{Node}
 use Rattle.dag.specs.declared.NodeKind.the-variants.{Constant}
-use Rattle.field.specs.Field.{quad}
 use Rattle.builder.specs.Steps as Steps
 use Rattle.dag.specs.BranchLaws.{told}
 use mathlib.Core.Path.{_∙_, ap}
@@ -20,7 +20,7 @@ neg-requires c κs = rw (c .element .ensures) (c .before .before .before .pre (t
 
 returns : tie.Need-returns
 unfolding Steps.negOutcome Steps.isConstant
-returns c = simp (told (c .before .before .before .has-tag .ensures) (c .before .before .if1 .taken)) (ap (λ e. Node (Constant e)) (c .neg .ensures .0 ∙ ap (quad .neg) (c .before .element .ensures)))
+returns c = simp (told (c .before .before .before .has-tag .ensures) (c .before .before .if1 .taken)) (ap (λ e. Node (Constant e)) (c .neg .ensures .0 ∙ ap (elements (c .before .before .before .before .args .prime) .neg) (c .before .element .ensures)))
 
 returns-2 : tie.Need-returns-2
 unfolding Steps.negOutcome Steps.isConstant

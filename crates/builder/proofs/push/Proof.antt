@@ -1,4 +1,4 @@
-use Rattle.field.specs.Fields.{goldilocks}
+use Rattle.field.specs.Fields.{fieldOf}
 use Rattle.builder.specs.RequestLaws.{noted-place, noted-node}
 use borrow.Author.Needs.{needs}
 use Rattle.builder.proofs.push.Statement.{statement}
@@ -19,8 +19,8 @@ put-node-requires c κs = search needs
 note-requires : tie.Need-note-requires
 note-requires c κs = search needs
 
-add-t18 : tie.Need-add-t18
-add-t18 c = search needs
+add-t19 : tie.Need-add-t19
+add-t19 c = search needs
 
 same-length : tie.Need-same-length
 same-length c = search needs
@@ -33,7 +33,7 @@ returns c =
     let at-result = c .before in
     let at-resolve = at-result .before .before in
     let start = at-resolve .before .before .before .before .before in
-    noted-place goldilocks (start .args .list .now) (start .args .n) (start .args .x) (start .pre .0) _ _ _ (at-resolve .resolve .ensures)
+    noted-place (fieldOf (start .args .prime)) (start .args .list .now) (start .args .n) (start .args .x) (start .pre .0) _ _ _ (at-resolve .resolve .ensures)
     (at-result .result .given .1) (start .pre .1)
 
 same-length-3 : tie.Need-same-length-3
@@ -49,7 +49,7 @@ returns-2 c =
     let at-result2 = at-put-node .before .before .before in
     let at-resolve = at-result2 .before .before in
     let start = at-resolve .before .before .before .before .before in
-    noted-node goldilocks (start .args .list .now) (start .args .n) (start .args .x) (start .pre .0) _ _ _ _ _ (at-resolve .resolve .ensures)
+    noted-node (fieldOf (start .args .prime)) (start .args .list .now) (start .args .n) (start .args .x) (start .pre .0) _ _ _ _ _ (at-resolve .resolve .ensures)
     (at-result2 .result2 .given .1) (at-put-node .put-node .ensures) (start .pre .1) (at-note .note .ensures)
 
 pub push-spec : {M : Type 1} → statement M
@@ -61,7 +61,7 @@ push-spec =
     enum-known-result-2
     put-node-requires
     note-requires
-    add-t18
+    add-t19
     same-length
     same-length-2
     returns

@@ -1,13 +1,13 @@
 use Rattle.dag.specs.View.{interleaved}
 use Rattle.dag.specs.ViewLaws.{same-room}
-use Rattle.field.specs.Fields.{goldilocks}
+use Rattle.field.specs.Fields.{fieldOf}
 use Rattle.dag.specs.WellFormedLaws.{fine-any}
 use Prim.Native.Nat.{_≤_, _-_}
 use mathlib.Core.Path.{_≡_, refl, sym, _∙_}
 use native.Mathlib.Nat.{le-antisymm}
 use native.Mathlib.Omega.{arith}
 use lib.ListN.{length, length-set}
-use Rattle.field.specs.Field.{quad, Below}
+use Rattle.field.specs.Field.{elements, Below}
 use Rattle.dag.specs.Nodes as Nodes
 use Rattle.dag.specs.NodeLaws.{at-nodes}
 use Rattle.index.specs.Index.{NodeIndex}
@@ -19,23 +19,23 @@ use Rattle.builder.proofs.replay.Statement.{statement}
 use Rattle.builder.proofs.replay.Tie as tie
 
 abbrev Inv-loop : tie.InvT-loop
-Inv-loop list n result₀ map₀ links₀ count₀ i₀ result map links count i =
+Inv-loop prime list n result₀ map₀ links₀ count₀ i₀ result map links count i =
     (i ≤ n)
     × (length result ≡ length result₀)
     × (length map ≡ length map₀)
-    × Contracts.Holds goldilocks (Steps.replay quad (Nodes.nodes (interleaved list) n) i) i result map count
+    × Contracts.Holds (fieldOf prime) (Steps.replay (elements prime) (Nodes.nodes (interleaved list) n) i) i result map count
     × (length links ≡ length links₀)
     × NodeIndex (Nodes.nodes (interleaved result) count) links
 
 abbrev μ-loop : tie.MeasureT-loop
-μ-loop list n result₀ map₀ links₀ count₀ i₀ result map links count i = n - i
+μ-loop prime list n result₀ map₀ links₀ count₀ i₀ result map links count i = n - i
 
 clear-requires : tie.Need-clear-requires Inv-loop μ-loop
 clear-requires c κs = (c .before .before .before .before .before .pre .3)
 
 loop-holds : tie.Need-loop-holds Inv-loop μ-loop
 unfolding Steps.replay Nodes.nodes
-loop-holds c = (omega arith, refl, refl, holds-nothing goldilocks _ _, refl, (c .before .before .clear .ensures))
+loop-holds c = (omega arith, refl, refl, holds-nothing _ _ _, refl, (c .before .before .clear .ensures))
 
 node-at-requires : tie.Need-node-at-requires Inv-loop μ-loop
 node-at-requires c κs =
@@ -48,8 +48,8 @@ renamed-requires c κs =
     let at-loop-test = c .before .before in
     let at-loop = at-loop-test .before in
     let start = at-loop .before .before .before .before .before .before .before .before .before in
-    fine-any Below _ _ (turn-fine goldilocks (Nodes.nodes (interleaved (start .args .list .now)) (start .args .n))
-    (list-fine goldilocks (interleaved (start .args .list .now)) (start .args .n) (start .pre .0)) (at-loop .loop .i) _ _
+    fine-any (Below (start .args .prime)) _ _ (turn-fine (fieldOf (start .args .prime)) (Nodes.nodes (interleaved (start .args .list .now)) (start .args .n))
+    (list-fine (fieldOf (start .args .prime)) (interleaved (start .args .list .now)) (start .args .n) (start .pre .0)) (at-loop .loop .i) _ _
     (omega (arith, (start .pre .2), (at-loop .loop .inv .2), (at-loop-test .loop-test .taken)))
     ((c .node-at .ensures) ∙ sym (at-nodes _ _ _ (at-loop-test .loop-test .taken))))
 
@@ -61,10 +61,10 @@ push-requires c κs =
     let at-loop = at-loop-test .before in
     let at-clear = at-loop .before .before .before in
     let start = at-clear .before .before .before .before .before .before in
-    let h = turn-short goldilocks (Nodes.nodes (interleaved (start .args .list .now)) (start .args .n)) (list-fine goldilocks (interleaved (start .args .list .now)) (start .args .n) (start .pre .0))
+    let h = turn-short (fieldOf (start .args .prime)) (Nodes.nodes (interleaved (start .args .list .now)) (start .args .n)) (list-fine (fieldOf (start .args .prime)) (interleaved (start .args .list .now)) (start .args .n) (start .pre .0))
     (at-loop .loop .i) (at-loop .loop .result) (at-loop .loop .map) (at-loop .loop .count) (at-loop .loop .inv .3) in (
-      rw (at-renamed .renamed .ensures) (turn-request goldilocks (Nodes.nodes (interleaved (start .args .list .now)) (start .args .n))
-          (list-fine goldilocks (interleaved (start .args .list .now)) (start .args .n) (start .pre .0)) (at-loop .loop .i) (at-loop .loop .result) (at-loop .loop .map)
+      rw (at-renamed .renamed .ensures) (turn-request (fieldOf (start .args .prime)) (Nodes.nodes (interleaved (start .args .list .now)) (start .args .n))
+          (list-fine (fieldOf (start .args .prime)) (interleaved (start .args .list .now)) (start .args .n) (start .pre .0)) (at-loop .loop .i) (at-loop .loop .result) (at-loop .loop .map)
           (at-loop .loop .count) (at-loop .loop .inv .3) _ ((at-node-at .node-at .ensures) ∙ sym (at-nodes _ _ _ (at-loop-test .loop-test .taken)))),
       record {
         room = rw (same-room (at-loop .loop .result) (start .args .result .now) (at-loop .loop .inv .1)) (omega (arith, h, (start .pre .1), (at-loop-test .loop-test .taken)));
@@ -113,12 +113,12 @@ loop-again c =
       (at-push .push .ensures .pushed .kept) ∙ (at-loop .loop .inv .1),
       simp length-set
           (at-loop .loop .inv .2),
-      turn-holds goldilocks (Nodes.nodes (interleaved (start .args .list .now)) (start .args .n))
-          (list-fine goldilocks (interleaved (start .args .list .now)) (start .args .n) (start .pre .0)) (at-loop .loop .i) (at-loop .loop .result) (at-loop .loop .map)
+      turn-holds (fieldOf (start .args .prime)) (Nodes.nodes (interleaved (start .args .list .now)) (start .args .n))
+          (list-fine (fieldOf (start .args .prime)) (interleaved (start .args .list .now)) (start .args .n) (start .pre .0)) (at-loop .loop .i) (at-loop .loop .result) (at-loop .loop .map)
           (at-loop .loop .count) (at-loop .loop .inv .3) _ _ _ ((at-node-at .node-at .ensures) ∙ sym (at-nodes _ _ _ (at-loop-test .loop-test .taken)))
           (rw (at-renamed .renamed .ensures) at (at-push .push .ensures .pushed))
           (omega (arith, (start .pre .2), (at-loop-test .loop-test .taken), (at-loop .loop .inv .2))),
-      (at-push .push .kept .1 .1 .0) ∙
+      (at-push .push .kept .1 .1 .1 .0) ∙
           (at-loop .loop .inv .4),
       (at-push .push .ensures .index),
     )

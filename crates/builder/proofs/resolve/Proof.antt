@@ -1,4 +1,3 @@
-use Rattle.field.specs.Fields.{goldilocks}
 use Rattle.builder.specs.RequestLaws.{resolved-place, resolved-found}
 use borrow.Author.Needs.{needs}
 use Rattle.builder.proofs.resolve.Statement.{statement}
@@ -20,14 +19,14 @@ found-or-new-requires : tie.Need-found-or-new-requires
 found-or-new-requires c κs = search needs
 
 returns : tie.Need-returns
-returns c = resolved-place goldilocks _ _ _ _ _ (c .before .before .before .request-outcome .ensures) (c .before .first .given .1)
+returns c = resolved-place _ _ _ _ _ _ (c .before .before .before .request-outcome .ensures) (c .before .first .given .1)
 
 returns-2 : tie.Need-returns-2
 returns-2 c =
     let at-find = c .before in
     let at-first2 = at-find .before .before in
     let at-request-outcome = at-first2 .before .before in
-    resolved-found goldilocks _ _ _ _ _ _ _ (at-request-outcome .request-outcome .ensures) (at-first2 .first2 .given .1) (at-find .find .ensures)
+    resolved-found _ _ _ _ _ _ _ _ (at-request-outcome .request-outcome .ensures) (at-first2 .first2 .given .1) (at-find .find .ensures)
     (c .found-or-new .ensures)
 
 pub resolve-spec : {M : Type 1} → statement M

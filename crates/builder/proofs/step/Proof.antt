@@ -1,4 +1,4 @@
-use Rattle.field.specs.Fields.{goldilocks}
+use Rattle.field.specs.Fields.{fieldOf}
 use Rattle.builder.specs.CallLaws.{step-request, step-refused, step-done}
 use Rattle.dag.specs.BranchLaws.{told}
 use borrow.Author.Needs.{needs}
@@ -22,7 +22,7 @@ enter-requires c κs =
     let checked = c .before .before .before .before in
     let a = checked .before .before .before .args in
     rw (c .decode .ensures)
-    (step-request goldilocks (a .list .now) (a .n) (a .tag) (a .first) (a .second) (told (checked .step-check .ensures) (c .before .before .enum-told .given .1)))
+    (step-request (fieldOf (a .prime)) (a .list .now) (a .n) (a .tag) (a .first) (a .second) (told (checked .step-check .ensures) (c .before .before .enum-told .given .1)))
 
 same-length : tie.Need-same-length
 same-length c = search needs
@@ -31,7 +31,7 @@ returns : tie.Need-returns
 returns c =
     let checked = c .before .before .before in
     let a = checked .before .before .before .args in
-    let h = step-refused goldilocks (a .list .now) (a .n) (a .tag) (a .first) (a .second) _ (told (checked .step-check .ensures) (c .before .checked .given .1)) in
+    let h = step-refused (fieldOf (a .prime)) (a .list .now) (a .n) (a .tag) (a .first) (a .second) _ (told (checked .step-check .ensures) (c .before .checked .given .1)) in
     (h .answer, h .store)
 
 same-length-2 : tie.Need-same-length-2
@@ -43,7 +43,7 @@ returns-2 c =
     let checked = good .before .before in
     let a = checked .before .before .before .args in
     let h =
-    step-done goldilocks (a .list .now) (a .n) (a .tag) (a .first) (a .second) _ _ (told (checked .step-check .ensures) (good .enum-told .given .1))
+    step-done (fieldOf (a .prime)) (a .list .now) (a .n) (a .tag) (a .first) (a .second) _ _ (told (checked .step-check .ensures) (good .enum-told .given .1))
     (rw (c .before .before .before .decode .ensures) at (c .before .before .enter .ensures)) in
     (h .answer, h .store)
 

@@ -3,7 +3,7 @@ use Rattle.builder.specs.Steps as Steps
 use Rattle.dag.specs.declared.NodeKind.the-variants.{Constant}
 use Rattle.dag.specs.CaseLaws.{and-true}
 use Rattle.dag.specs.BranchLaws.{told, skip, into}
-use Rattle.field.specs.Field.{quad}
+use Rattle.field.specs.Field.{elements}
 use borrow.Author.Tests.{eq-eqb, ne-eqb}
 use mathlib.Core.Path.{refl, _∙_, ap, ap₂}
 use borrow.Author.Needs.{needs}
@@ -29,24 +29,24 @@ sub-requires c κs =
     (rw (at-element .element .ensures) (start .pre .left (h .0)), rw (c .element2 .ensures) (start .pre .right (h .1)))
 
 returns : tie.Need-returns
-unfolding quad Steps.subRule Steps.isSub Steps.isAdd Steps.isNeg
+unfolding elements Steps.subRule Steps.isSub Steps.isAdd Steps.isNeg
 returns c =
     let at-element2 = c .before in
     let at-element = at-element2 .before in
     let at-if1 = at-element .before in
     let at-both-constant = at-if1 .before in
     into _ (told (at-both-constant .both-constant .ensures) (at-if1 .if1 .taken))
-    (ap (λ e. Make (Constant e)) (c .sub .ensures .0 ∙ ap₂ (quad .sub) (at-element .element .ensures) (at-element2 .element2 .ensures)))
+    (ap (λ e. Make (Constant e)) (c .sub .ensures .0 ∙ ap₂ (elements (at-both-constant .before .args .prime) .sub) (at-element .element .ensures) (at-element2 .element2 .ensures)))
 
 is-the-requires : tie.Need-is-the-requires
 is-the-requires c κs = search needs
 
 returns-2 : tie.Need-returns-2
-unfolding quad Steps.subRule Steps.isSub Steps.isAdd Steps.isNeg
+unfolding elements Steps.subRule Steps.isSub Steps.isAdd Steps.isNeg
 returns-2 c = skip _ (told (c .before .before .before .both-constant .ensures) (c .before .before .if1 .left)) (into _ (told (c .before .is-the .ensures) (c .if2 .taken)) (refl))
 
 returns-3 : tie.Need-returns-3
-unfolding quad Steps.subRule Steps.isSub Steps.isAdd Steps.isNeg
+unfolding elements Steps.subRule Steps.isSub Steps.isAdd Steps.isNeg
 returns-3 c =
     let at-if2 = c .before in
     let at-is-the = at-if2 .before in
@@ -62,7 +62,7 @@ second-of-requires : tie.Need-second-of-requires
 second-of-requires c κs = search needs
 
 returns-4 : tie.Need-returns-4
-unfolding quad Steps.subRule Steps.isSub Steps.isAdd Steps.isNeg
+unfolding elements Steps.subRule Steps.isSub Steps.isAdd Steps.isNeg
 returns-4 c =
     let at-if4 = c .before in
     let at-with-first = at-if4 .before in
@@ -83,7 +83,7 @@ first-of-requires : tie.Need-first-of-requires
 first-of-requires c κs = search needs
 
 returns-5 : tie.Need-returns-5
-unfolding quad Steps.subRule Steps.isSub Steps.isAdd Steps.isNeg
+unfolding elements Steps.subRule Steps.isSub Steps.isAdd Steps.isNeg
 returns-5 c =
     let at-if5 = c .before in
     let at-with-second = at-if5 .before in
@@ -106,7 +106,7 @@ second-of-requires-2 : tie.Need-second-of-requires-2
 second-of-requires-2 c κs = search needs
 
 returns-6 : tie.Need-returns-6
-unfolding quad Steps.subRule Steps.isSub Steps.isAdd Steps.isNeg
+unfolding elements Steps.subRule Steps.isSub Steps.isAdd Steps.isNeg
 returns-6 c =
     let at-if6 = c .before in
     let at-with-first2 = at-if6 .before in
@@ -132,7 +132,7 @@ first-of-requires-2 : tie.Need-first-of-requires-2
 first-of-requires-2 c κs = search needs
 
 returns-7 : tie.Need-returns-7
-unfolding quad Steps.subRule Steps.isSub Steps.isAdd Steps.isNeg
+unfolding elements Steps.subRule Steps.isSub Steps.isAdd Steps.isNeg
 returns-7 c =
     let at-if7 = c .before in
     let at-has-tag = at-if7 .before in
@@ -156,7 +156,7 @@ returns-7 c =
     (into _ (told (at-has-tag .has-tag .ensures) (at-if7 .if7 .taken)) (ap (HandOver (start .args .a)) (c .first-of2 .ensures))))))))
 
 returns-8 : tie.Need-returns-8
-unfolding quad Steps.subRule Steps.isSub Steps.isAdd Steps.isNeg
+unfolding elements Steps.subRule Steps.isSub Steps.isAdd Steps.isNeg
 returns-8 c =
     let at-has-tag = c .before in
     let at-if6 = at-has-tag .before in

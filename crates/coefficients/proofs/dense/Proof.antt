@@ -5,7 +5,7 @@ use native.Mathlib.Nat.{lt-of-lt-of-le}
 use native.Mathlib.Omega.{arith}
 use borrow.Author.Needs.{needs}
 use lib.ListN.{length}
-use Rattle.field.specs.Fields.{goldilocks}
+use Rattle.field.specs.Fields.{fieldOf}
 use Rattle.dag.specs.ArrayLaws.{fill-next, fill-all}
 use Rattle.coefficients.specs.Terms as Terms
 use Rattle.dag.specs.Arrays as Padded
@@ -15,10 +15,10 @@ use Rattle.coefficients.proofs.dense.Statement.{statement}
 use Rattle.coefficients.proofs.dense.Tie as tie
 
 abbrev Inv-loop : tie.InvT-loop
-Inv-loop col scale sums coefficients₀ j₀ coefficients j = (j ≤ length col) × (coefficients ≡ Padded.padded 0 128 (Padded.upTo (Terms.dense goldilocks col) j))
+Inv-loop prime col scale sums coefficients₀ j₀ coefficients j = (j ≤ length col) × (coefficients ≡ Padded.padded 0 128 (Padded.upTo (Terms.dense (fieldOf prime) col) j))
 
 abbrev μ-loop : tie.MeasureT-loop
-μ-loop col scale sums coefficients₀ j₀ coefficients j = length col - j
+μ-loop prime col scale sums coefficients₀ j₀ coefficients j = length col - j
 
 size-inverse-requires : tie.Need-size-inverse-requires Inv-loop μ-loop
 size-inverse-requires c κs = search needs
@@ -63,7 +63,7 @@ loop-again c =
     let at-sums = at-loop .before in
     let at-size-inverse = at-sums .before in
     let start = at-size-inverse .before .before in
-    let told = dense-told goldilocks _ (start .pre) _ _ _ _ _ (at-loop-test .loop-test .taken) (at-sums .sums .ensures) refl
+    let told = dense-told (fieldOf (start .args .prime)) _ (start .pre) _ _ _ _ _ (at-loop-test .loop-test .taken) (at-sums .sums .ensures) refl
     (at-size-inverse .size-inverse .ensures .0) (c .mul .ensures .0) in
     (omega arith, fill-next _ _ _ _ _ _ (lt-of-lt-of-le (at-loop-test .loop-test .taken) (start .pre .short)) (at-loop .loop .inv .1) told)
 

@@ -3,19 +3,19 @@ use mathlib.Core.Path.{refl, sym, ap}
 use Prim.Native.Nat.{_*_, _-_, _≤_}
 use native.Mathlib.Omega.{arith}
 use borrow.Author.Needs.{needs}
-use Rattle.field.specs.Fields.{goldilocks}
+use Rattle.field.specs.Fields.{fieldOf}
 use Rattle.coefficients.specs.SplitLaws.{Rows, rows-none, rows-next, rows-all, rows-fit, row-fits, round-fits}
 use Rattle.coefficients.proofs.halved.Statement.{statement}
 use Rattle.coefficients.proofs.halved.Tie as tie
 
 abbrev Inv-loop : tie.InvT-loop
-Inv-loop from factors s n to₀ j₀ to j = (j ≤ 2 * n) × Rows goldilocks from factors s n j to
+Inv-loop prime from factors s n to₀ j₀ to j = (j ≤ 2 * n) × Rows (fieldOf prime) from factors s n j to
 
 abbrev μ-loop : tie.MeasureT-loop
-μ-loop from factors s n to₀ j₀ to j = 2 * n - j
+μ-loop prime from factors s n to₀ j₀ to j = 2 * n - j
 
 loop-holds : tie.Need-loop-holds Inv-loop μ-loop
-loop-holds c = (omega arith, rows-none goldilocks _ _ _ _)
+loop-holds c = (omega arith, rows-none (fieldOf (c .args .prime)) _ _ _ _)
 
 mul-loop : tie.Need-mul-loop Inv-loop μ-loop
 mul-loop c = omega (arith, rows-fit _ _ (c .before .pre .2) (c .before .pre .3))
@@ -73,12 +73,12 @@ loop-again c =
     let at-loop = at-round .before .before in
     let start = at-loop .before in (
       omega arith,
-      rows-next goldilocks _ _ _ _ _ _ _ _ _ (at-loop .loop .inv .1) refl (ap (λ k. k * (2 * start .args .s)) (at-round .round .ensures))
+      rows-next (fieldOf (start .args .prime)) _ _ _ _ _ _ _ _ _ (at-loop .loop .inv .1) refl (ap (λ k. k * (2 * start .args .s)) (at-round .round .ensures))
           (at-join-row .join-row .ensures),
     )
 
 returns : tie.Need-returns Inv-loop μ-loop
-returns c = rows-all goldilocks _ _ _ _ _ _ (c .loop-test .left) (c .before .loop .inv .1)
+returns c = rows-all (fieldOf (c .before .before .args .prime)) _ _ _ _ _ _ (c .loop-test .left) (c .before .loop .inv .1)
 
 pub halved-spec : {M : Type 1} → statement M
 halved-spec =

@@ -2,7 +2,7 @@
 use mathlib.Core.Path.{_∙_, ap}
 use Prim.Native.Nat.{_-_, _≤_}
 use native.Mathlib.Omega.{arith}
-use Rattle.field.specs.Fields.{goldilocks}
+use Rattle.field.specs.Fields.{fieldOf}
 use Rattle.field.specs.Field.{felt}
 use Rattle.coefficients.specs.Split as Split
 use Rattle.coefficients.specs.SplitLaws.{row-none, row-next, row-all}
@@ -10,13 +10,13 @@ use Rattle.coefficients.proofs.join_row.Statement.{statement}
 use Rattle.coefficients.proofs.join_row.Tie as tie
 
 abbrev Inv-loop : tie.InvT-loop
-Inv-loop from a x s to₀ at r₀ to r = (r ≤ s) × Split.RowDone goldilocks (Split.joined felt from s x a) to₀ at r to
+Inv-loop prime from a x s to₀ at r₀ to r = (r ≤ s) × Split.RowDone (fieldOf prime) (Split.joined (felt prime) from s x a) to₀ at r to
 
 abbrev μ-loop : tie.MeasureT-loop
-μ-loop from a x s to₀ at r₀ to r = s - r
+μ-loop prime from a x s to₀ at r₀ to r = s - r
 
 loop-holds : tie.Need-loop-holds Inv-loop μ-loop
-loop-holds c = (omega arith, row-none goldilocks _ _ _ (c .before .pre .1))
+loop-holds c = (omega arith, row-none (fieldOf (c .before .args .prime)) _ _ _ (c .before .pre .1))
 
 add-add : tie.Need-add-add Inv-loop μ-loop
 add-add c = omega arith
@@ -65,17 +65,18 @@ loop-less c = omega arith
 loop-again : tie.Need-loop-again Inv-loop μ-loop
 loop-again c =
     let at-mul = c .before in
-    let at-loop = at-mul .before .before .before .before in (
+    let at-loop = at-mul .before .before .before .before in
+    let prime = at-loop .before .before .args .prime in (
       omega arith,
-      row-next goldilocks _ _ _ _ _ _ (at-loop .loop .inv .1) (omega (arith, at-loop .loop .inv .1 .many))
-          (c .add .ensures .0 ∙ ap (felt .add _) (at-mul .mul .ensures .0)) (c .add .ensures .1),
+      row-next (fieldOf prime) _ _ _ _ _ _ (at-loop .loop .inv .1) (omega (arith, at-loop .loop .inv .1 .many))
+          (c .add .ensures .0 ∙ ap (felt prime .add _) (at-mul .mul .ensures .0)) (c .add .ensures .1),
     )
 
 same-length : tie.Need-same-length Inv-loop μ-loop
 same-length c = c .before .loop .inv .1 .many
 
 returns : tie.Need-returns Inv-loop μ-loop
-returns c = row-all goldilocks _ _ _ _ _ _ (c .before .loop .inv .0) (c .loop-test .left) (c .before .loop .inv .1)
+returns c = row-all (fieldOf (c .before .before .before .args .prime)) _ _ _ _ _ _ (c .before .loop .inv .0) (c .loop-test .left) (c .before .loop .inv .1)
 
 pub join-row-spec : {M : Type 1} → statement M
 join-row-spec =

@@ -3,10 +3,9 @@ use Prim.Native.Nat.{_-_, _≤_, _<_}
 use mathlib.Core.Path.{_≡_, refl}
 use native.Mathlib.Nat.{lt-of-lt-of-le}
 use native.Mathlib.Omega.{arith}
-use lib.Dec.{lit<}
-use Rattle.field.specs.Fields.{goldilocks}
+use Rattle.field.specs.Fields.{fieldOf}
 use Rattle.ring.specs.Power.{pow}
-use Rattle.field.specs.Field.{p, felt}
+use Rattle.field.specs.Field.{modulusOf, felt, large}
 use Rattle.dag.specs.ArrayLaws.{fill-next, fill-all}
 use Rattle.dag.specs.Arrays as Padded
 use Rattle.coefficients.specs.Arrays as Arrays
@@ -15,14 +14,14 @@ use Rattle.coefficients.proofs.powers.Statement.{statement}
 use Rattle.coefficients.proofs.powers.Tie as tie
 
 abbrev Inv-loop : tie.InvT-loop
-Inv-loop base n row₀ power₀ i₀ row power i = (i ≤ n) × (row ≡ Padded.padded 0 128 (Padded.upTo (pow felt base) i)) × (power ≡ pow felt base i) × (power < p)
+Inv-loop prime base n row₀ power₀ i₀ row power i = (i ≤ n) × (row ≡ Padded.padded 0 128 (Padded.upTo (pow (felt prime) base) i)) × (power ≡ pow (felt prime) base i) × (power < modulusOf prime)
 
 abbrev μ-loop : tie.MeasureT-loop
-μ-loop base n row₀ power₀ i₀ row power i = n - i
+μ-loop prime base n row₀ power₀ i₀ row power i = n - i
 
 loop-holds : tie.Need-loop-holds Inv-loop μ-loop
 unfolding Padded.padded Padded.upTo
-loop-holds c = (omega arith, refl, pow-start goldilocks _, lit< tt)
+loop-holds c = (omega arith, refl, pow-start (fieldOf (c .args .prime)) _, large (c .args .prime))
 
 mul-row : tie.Need-mul-row Inv-loop μ-loop
 mul-row c = omega arith
@@ -47,7 +46,7 @@ loop-again c =
       omega arith,
       fill-next _ _ _ _ _ _ (lt-of-lt-of-le (at-loop-test .loop-test .taken) (start .pre .1)) (at-loop .loop .inv .1)
           (at-loop .loop .inv .2),
-      pow-next goldilocks _ _ _ _ (at-loop .loop .inv .2) (c .mul .ensures .0),
+      pow-next (fieldOf (start .args .prime)) _ _ _ _ (at-loop .loop .inv .2) (c .mul .ensures .0),
       c .mul .ensures .1,
     )
 

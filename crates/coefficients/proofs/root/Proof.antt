@@ -1,7 +1,8 @@
 use mathlib.Core.Path.{_∙_, ap}
+use native.Mathlib.Omega.{arith}
 use Rattle.ring.specs.Power.{pow}
 use Rattle.field.specs.Field.{felt}
-use Rattle.field.specs.Generators.{generator}
+use Rattle.field.specs.Generators.{generator, columns-fit}
 use Rattle.coefficients.specs.Terms as Terms
 use borrow.Author.Needs.{needs}
 use Rattle.coefficients.proofs.root.Statement.{statement}
@@ -11,7 +12,7 @@ log-length-requires : tie.Need-log-length-requires
 log-length-requires c κs = search needs
 
 two-adic-generator-requires : tie.Need-two-adic-generator-requires
-two-adic-generator-requires c κs = search needs
+two-adic-generator-requires c κs = omega (arith, columns-fit (c .before .before .args .prime), c .log-length .ensures .1)
 
 pow-requires : tie.Need-pow-requires
 pow-requires c κs = search needs
@@ -22,7 +23,7 @@ returns c =
     let at-two-adic-generator = c .before in
     let at-log-length = at-two-adic-generator .before in
     let start = at-log-length .before .before in (
-      c .pow .ensures .0 ∙ ap (λ w. pow felt w (start .args .k)) (at-two-adic-generator .two-adic-generator .ensures .0 ∙ ap generator
+      c .pow .ensures .0 ∙ ap (λ w. pow (felt (start .args .prime)) w (start .args .k)) (at-two-adic-generator .two-adic-generator .ensures .0 ∙ ap (generator (start .args .prime))
           (at-log-length .log-length .ensures .0)),
       c .pow .ensures .1,
     )

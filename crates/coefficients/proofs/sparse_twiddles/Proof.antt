@@ -6,7 +6,7 @@ use native.Mathlib.Nat.{lt-of-lt-of-le}
 use native.Mathlib.Omega.{arith}
 use borrow.Author.Needs.{needs}
 use lib.ListN.{length, replicate}
-use Rattle.field.specs.Fields.{goldilocks}
+use Rattle.field.specs.Fields.{fieldOf}
 use Rattle.dag.specs.ArrayLaws.{fill-next, fill-all}
 use Rattle.dag.specs.Arrays as Padded
 use Rattle.coefficients.specs.Arrays as Arrays
@@ -15,10 +15,10 @@ use Rattle.coefficients.proofs.sparse_twiddles.Statement.{statement}
 use Rattle.coefficients.proofs.sparse_twiddles.Tie as tie
 
 abbrev Inv-loop : tie.InvT-loop
-Inv-loop col places step log rows₀ k₀ rows k = (k ≤ length places) × (rows ≡ Padded.padded (replicate 7 0) 11 (Padded.upTo (Arrays.twiddles goldilocks col) k))
+Inv-loop prime col places step log rows₀ k₀ rows k = (k ≤ length places) × (rows ≡ Padded.padded (replicate 7 0) 11 (Padded.upTo (Arrays.twiddles (fieldOf prime) col) k))
 
 abbrev μ-loop : tie.MeasureT-loop
-μ-loop col places step log rows₀ k₀ rows k = length places - k
+μ-loop prime col places step log rows₀ k₀ rows k = length places - k
 
 root-inverse-requires : tie.Need-root-inverse-requires Inv-loop μ-loop
 root-inverse-requires c κs = c .before .before .pre .0 .some
@@ -67,7 +67,7 @@ loop-again c =
     let at-log-length = at-loop .before in
     let at-root-inverse = at-log-length .before in
     let start = at-root-inverse .before .before .before in
-    let told = row-told goldilocks _ _ _ _ _ _ _ (ap (λ l. getD l (at-loop .loop .k) 0) (start .pre .1 .are)) (at-root-inverse .root-inverse .ensures .0)
+    let told = row-told (fieldOf (start .args .prime)) _ _ _ _ _ _ _ (ap (λ l. getD l (at-loop .loop .k) 0) (start .pre .1 .are)) (at-root-inverse .root-inverse .ensures .0)
     (at-pow .pow .ensures .0) (at-log-length .log-length .ensures .0) (c .squares .ensures) in
     (omega arith, fill-next _ _ _ _ _ _ (lt-of-lt-of-le (at-loop-test .loop-test .taken) (start .pre .1 .few)) (at-loop .loop .inv .1) told)
 

@@ -5,8 +5,8 @@ use native.Mathlib.Nat.{lt-of-lt-of-le}
 use native.Mathlib.Omega.{arith}
 use borrow.Author.Needs.{needs}
 use lib.ListN.{length, getD}
-use Rattle.field.specs.Fields.{goldilocks}
-use Rattle.field.specs.Field.{p}
+use Rattle.field.specs.Fields.{fieldOf}
+use Rattle.field.specs.Field.{modulusOf}
 use Rattle.columns.specs.Columns as Columns
 use Rattle.dag.specs.ArrayLaws.{fill-next, fill-all}
 use Rattle.columns.specs.ClassLaws.{below-at}
@@ -18,10 +18,10 @@ use Rattle.coefficients.proofs.sparse_values.Statement.{statement}
 use Rattle.coefficients.proofs.sparse_values.Tie as tie
 
 abbrev Inv-loop : tie.InvT-loop
-Inv-loop col places scale values₀ k₀ values k = (k ≤ length places) × (values ≡ Padded.padded 0 11 (Padded.upTo (λ i. Terms.scaledValue goldilocks col (getD (Columns.support col) i 0)) k))
+Inv-loop prime col places scale values₀ k₀ values k = (k ≤ length places) × (values ≡ Padded.padded 0 11 (Padded.upTo (λ i. Terms.scaledValue (fieldOf prime) col (getD (Columns.support col) i 0)) k))
 
 abbrev μ-loop : tie.MeasureT-loop
-μ-loop col places scale values₀ k₀ values k = length places - k
+μ-loop prime col places scale values₀ k₀ values k = length places - k
 
 size-inverse-requires : tie.Need-size-inverse-requires Inv-loop μ-loop
 size-inverse-requires c κs = search needs
@@ -53,7 +53,7 @@ mul-requires c κs =
     let at-loop-test = c .before .before in
     let at-size-inverse = at-loop-test .before .before in
     let start = at-size-inverse .before .before .before in (
-      below-at p _ _ (start .pre .0 .low) (support-inside _ _ _ (start .pre .1 .are) (at-loop-test .loop-test .taken)),
+      below-at (modulusOf (start .args .prime)) _ _ (start .pre .0 .low) (support-inside _ _ _ (start .pre .1 .are) (at-loop-test .loop-test .taken)),
       at-size-inverse .size-inverse .ensures .1,
     )
 
@@ -81,7 +81,7 @@ loop-again c =
     let start = at-size-inverse .before .before .before in (
       omega arith,
       fill-next _ _ _ _ _ _ (lt-of-lt-of-le (at-loop-test .loop-test .taken) (start .pre .1 .few)) (at-loop .loop .inv .1)
-          (value-told goldilocks _ _ _ _ _ (start .pre .1 .are) (at-size-inverse .size-inverse .ensures .0) (c .mul .ensures .0)),
+          (value-told (fieldOf (start .args .prime)) _ _ _ _ _ (start .pre .1 .are) (at-size-inverse .size-inverse .ensures .0) (c .mul .ensures .0)),
     )
 
 returns : tie.Need-returns Inv-loop μ-loop

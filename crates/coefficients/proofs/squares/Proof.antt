@@ -3,9 +3,9 @@ use Prim.Native.Nat.{_-_, _^_, _≤_, _<_}
 use mathlib.Core.Path.{_≡_, refl}
 use native.Mathlib.Nat.{lt-of-lt-of-le}
 use native.Mathlib.Omega.{arith}
-use Rattle.field.specs.Fields.{goldilocks}
+use Rattle.field.specs.Fields.{fieldOf}
 use Rattle.ring.specs.Power.{pow}
-use Rattle.field.specs.Field.{p, felt}
+use Rattle.field.specs.Field.{modulusOf, felt}
 use Rattle.dag.specs.ArrayLaws.{fill-next, fill-all}
 use Rattle.dag.specs.Arrays as Padded
 use Rattle.coefficients.specs.Arrays as Arrays
@@ -14,14 +14,14 @@ use Rattle.coefficients.proofs.squares.Statement.{statement}
 use Rattle.coefficients.proofs.squares.Tie as tie
 
 abbrev Inv-loop : tie.InvT-loop
-Inv-loop base log row₀ power₀ i₀ row power i = (i ≤ log) × (row ≡ Padded.padded 0 7 (Padded.upTo (λ k. pow felt base (2 ^ k)) i)) × (power ≡ pow felt base (2 ^ i)) × (power < p)
+Inv-loop prime base log row₀ power₀ i₀ row power i = (i ≤ log) × (row ≡ Padded.padded 0 7 (Padded.upTo (λ k. pow (felt prime) base (2 ^ k)) i)) × (power ≡ pow (felt prime) base (2 ^ i)) × (power < modulusOf prime)
 
 abbrev μ-loop : tie.MeasureT-loop
-μ-loop base log row₀ power₀ i₀ row power i = log - i
+μ-loop prime base log row₀ power₀ i₀ row power i = log - i
 
 loop-holds : tie.Need-loop-holds Inv-loop μ-loop
 unfolding Padded.padded Padded.upTo
-loop-holds c = (omega arith, refl, square-start goldilocks _ (c .pre .0), c .pre .0)
+loop-holds c = (omega arith, refl, square-start (fieldOf (c .args .prime)) _ (c .pre .0), c .pre .0)
 
 mul-row : tie.Need-mul-row Inv-loop μ-loop
 mul-row c = omega arith
@@ -46,7 +46,7 @@ loop-again c =
       omega arith,
       fill-next _ _ _ _ _ _ (lt-of-lt-of-le (at-loop-test .loop-test .taken) (start .pre .1)) (at-loop .loop .inv .1)
           (at-loop .loop .inv .2),
-      square-next goldilocks _ _ _ _ (at-loop .loop .inv .2) (c .mul .ensures .0),
+      square-next (fieldOf (start .args .prime)) _ _ _ _ (at-loop .loop .inv .2) (c .mul .ensures .0),
       c .mul .ensures .1,
     )
 

@@ -7,7 +7,7 @@ use borrow.Author.Needs.{needs}
 use lib.ListN.{length}
 use Rattle.dag.specs.CheckLaws.{first-all, first-stop, first-next, first-none}
 use Rattle.dag.specs.Refusals.{firstRefused}
-use Rattle.field.specs.Field.{p}
+use Rattle.field.specs.Field.{modulusOf}
 use Rattle.dag.specs.BranchLaws.{told}
 use Rattle.dag.specs.declared.Checked.the-variants.{Good}
 use Rattle.columns.specs.Prepare as Prepare
@@ -16,10 +16,10 @@ use Rattle.columns.proofs.entries_check.Statement.{statement}
 use Rattle.columns.proofs.entries_check.Tie as tie
 
 abbrev Inv-loop : tie.InvT-loop
-Inv-loop lengths entries j₀ j = (j ≤ length lengths) × (firstRefused (Prepare.entriesCheck p (Prepare.columns lengths entries)) j ≡ Good)
+Inv-loop prime lengths entries j₀ j = (j ≤ length lengths) × (firstRefused (Prepare.entriesCheck (modulusOf prime) (Prepare.columns lengths entries)) j ≡ Good)
 
 abbrev μ-loop : tie.MeasureT-loop
-μ-loop lengths entries j₀ j = length lengths - j
+μ-loop prime lengths entries j₀ j = length lengths - j
 
 loop-holds : tie.Need-loop-holds Inv-loop μ-loop
 loop-holds c = (omega arith, first-none _)
@@ -37,7 +37,7 @@ returns c =
     let at-loop-test = at-column .before in
     let at-loop = at-loop-test .before in
     first-stop _ _ _ _ (at-loop .loop .inv .1) (entries-bad _ _ _
-    (ap (Prepare.allBelow p) (sym (at-column .column .ensures)) ∙ told (at-all-below .all-below .ensures) (not-true _ (c .if1 .taken))))
+    (ap (Prepare.allBelow _) (sym (at-column .column .ensures)) ∙ told (at-all-below .all-below .ensures) (not-true _ (c .if1 .taken))))
     (at-loop-test .loop-test .taken)
 
 add-j : tie.Need-add-j Inv-loop μ-loop
@@ -53,7 +53,7 @@ loop-again c =
     let at-loop = at-column .before .before in (
       omega arith,
       first-next _ _ (at-loop .loop .inv .1) (entries-good _ _ _
-          (ap (Prepare.allBelow p) (sym (at-column .column .ensures)) ∙ told (at-all-below .all-below .ensures) (not-false _ (c .if1 .left)))),
+          (ap (Prepare.allBelow _) (sym (at-column .column .ensures)) ∙ told (at-all-below .all-below .ensures) (not-false _ (c .if1 .left)))),
     )
 
 returns-2 : tie.Need-returns-2 Inv-loop μ-loop

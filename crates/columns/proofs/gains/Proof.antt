@@ -5,7 +5,7 @@ use Prim.Native.Nat.{_-_, _≤_}
 use mathlib.Core.Path.{_≡_, refl, _∙_, ap}
 use native.Mathlib.Omega.{arith}
 use lib.ListN.{length}
-use Rattle.field.specs.Field.{p}
+use Rattle.field.specs.Field.{modulusOf}
 use Rattle.columns.specs.Columns as Columns
 use Rattle.columns.specs.Prepare as Prepare
 use Rattle.dag.specs.Arrays as Arrays
@@ -17,10 +17,10 @@ use Rattle.columns.proofs.gains.Statement.{statement}
 use Rattle.columns.proofs.gains.Tie as tie
 
 abbrev Inv-loop : tie.InvT-loop
-Inv-loop lengths entries gains₀ j₀ gains j = (j ≤ length lengths) × (gains ≡ Arrays.padded 0 16 (Arrays.upTo (λ i. Columns.gain p (Columns.column (Prepare.columns lengths entries) i)) j))
+Inv-loop prime lengths entries gains₀ j₀ gains j = (j ≤ length lengths) × (gains ≡ Arrays.padded 0 16 (Arrays.upTo (λ i. Columns.gain (modulusOf prime) (Columns.column (Prepare.columns lengths entries) i)) j))
 
 abbrev μ-loop : tie.MeasureT-loop
-μ-loop lengths entries gains₀ j₀ gains j = length lengths - j
+μ-loop prime lengths entries gains₀ j₀ gains j = length lengths - j
 
 loop-holds : tie.Need-loop-holds Inv-loop μ-loop
 unfolding Arrays.padded Arrays.upTo
@@ -30,7 +30,7 @@ column-requires : tie.Need-column-requires Inv-loop μ-loop
 column-requires c κs = (c .before .before .before .before .pre .handed, c .loop-test .taken)
 
 gain-requires : tie.Need-gain-requires Inv-loop μ-loop
-gain-requires c κs = rw (c .column .ensures) (tested-column p _ _ _ (c .before .loop-test .taken) (c .before .before .before .before .before .pre))
+gain-requires c κs = rw (c .column .ensures) (tested-column _ _ _ _ (c .before .loop-test .taken) (c .before .before .before .before .before .pre))
 
 mul-gains : tie.Need-mul-gains Inv-loop μ-loop
 mul-gains c =
@@ -58,7 +58,7 @@ loop-again c =
     let start = at-loop .before .before .before in (
       omega arith,
       fill-next _ _ _ _ _ _ (lt-of-lt-of-le (at-loop-test .loop-test .taken) (start .pre .handed .few)) (at-loop .loop .inv .1)
-          (c .gain .ensures ∙ ap (Columns.gain p) (at-column .column .ensures)),
+          (c .gain .ensures ∙ ap (Columns.gain (modulusOf (start .args .prime))) (at-column .column .ensures)),
     )
 
 returns : tie.Need-returns Inv-loop μ-loop

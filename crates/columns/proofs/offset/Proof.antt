@@ -1,5 +1,5 @@
-use lib.Dec.{lit<}
-use Rattle.field.specs.Field.{p}
+use native.Mathlib.Omega.{arith}
+use Rattle.field.specs.Field.{modulusOf, large}
 use Rattle.columns.specs.ClassLaws.{dominant-below, offset-dominant, offset-zero}
 use borrow.Author.Needs.{needs}
 use Rattle.columns.proofs.offset.Statement.{statement}
@@ -10,11 +10,14 @@ dominant-requires c κs = search needs
 
 combination-cost-requires : tie.Need-combination-cost-requires
 combination-cost-requires c κs =
-    let pre = c .before .before .before .pre in
-    (pre, dominant-below p _ _ _ (lit< tt) (pre .low) (pre .are) (c .dominant .ensures))
+    let start = c .before .before .before in
+    let pre = start .pre in
+    (pre, dominant-below (modulusOf (start .args .prime)) _ _ _ (omega (arith, large (start .args .prime))) (pre .low) (pre .are) (c .dominant .ensures))
 
 combination-cost-requires-2 : tie.Need-combination-cost-requires-2
-combination-cost-requires-2 c κs = search needs
+combination-cost-requires-2 c κs =
+    let start = c .before .before .before .before in
+    (start .pre, omega (arith, large (start .args .prime)))
 
 returns : tie.Need-returns
 returns c =
@@ -25,7 +28,7 @@ returns c =
     let pre = start .pre in (
       offset-dominant _ _ _ _ _ _ (pre .are) (at-dominant .dominant .ensures) (at-combination-cost .combination-cost .ensures)
           (at-combination-cost2 .combination-cost2 .ensures) (c .if1 .taken),
-      dominant-below p _ _ _ (lit< tt) (pre .low) (pre .are) (at-dominant .dominant .ensures),
+      dominant-below (modulusOf (start .args .prime)) _ _ _ (omega (arith, large (start .args .prime))) (pre .low) (pre .are) (at-dominant .dominant .ensures),
     )
 
 returns-2 : tie.Need-returns-2
@@ -37,7 +40,7 @@ returns-2 c =
     let pre = start .pre in (
       offset-zero _ _ _ _ _ _ (pre .are) (at-dominant .dominant .ensures) (at-combination-cost .combination-cost .ensures)
           (at-combination-cost2 .combination-cost2 .ensures) (c .if1 .left),
-      lit< tt,
+      omega (arith, large (start .args .prime)),
     )
 
 pub offset-spec : {M : Type 1} → statement M

@@ -1,4 +1,4 @@
-use Rattle.field.specs.Field.{p}
+use Rattle.field.specs.Field.{modulusOf}
 use Rattle.columns.specs.PrepareLaws.{lengths-small, check-lengths, check-store, check-handed, check-entries}
 use native.Mathlib.Omega.{arith}
 use borrow.Author.Tests.{lt-leb}
@@ -46,7 +46,7 @@ entries-check-requires c κs =
     let at-is-refused = at-if2 .before in
     let at-lengths-check = at-is-refused .before in
     let at-if1 = at-lengths-check .before in
-    check-handed p _ _ (at-if1 .if1 .left) (good-told (at-lengths-check .lengths-check .ensures) (at-is-refused .is-refused .ensures)
+    check-handed (modulusOf (at-if1 .before .before .before .args .prime)) _ _ (at-if1 .if1 .left) (good-told (at-lengths-check .lengths-check .ensures) (at-is-refused .is-refused .ensures)
     (at-if2 .if2 .left)) _ (at-start .start .ensures) (c .if3 .left)
 
 returns-4 : tie.Need-returns-4

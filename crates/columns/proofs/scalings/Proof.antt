@@ -4,7 +4,7 @@ use mathlib.Core.Logic.{⊎-elim}
 use mathlib.Core.Path.{_≡_}
 use native.Mathlib.Omega.{arith}
 use lib.ListN.{length, drop}
-use Rattle.field.specs.Field.{p}
+use Rattle.field.specs.Field.{modulusOf}
 use Rattle.dag.specs.BranchLaws.{told}
 use Rattle.columns.specs.Columns as Columns
 use Rattle.columns.specs.ClassLaws.{below-at, scaled-hit, scaled-miss, scaled-end}
@@ -12,10 +12,10 @@ use Rattle.columns.proofs.scalings.Statement.{statement}
 use Rattle.columns.proofs.scalings.Tie as tie
 
 abbrev Inv-loop : tie.InvT-loop
-Inv-loop values d n₀ i₀ n i = (n ≤ i) × (i ≤ length values) × (n + length (Columns.scalings p d (drop i values)) ≡ length (Columns.scalings p d values))
+Inv-loop prime values d n₀ i₀ n i = (n ≤ i) × (i ≤ length values) × (n + length (Columns.scalings (modulusOf prime) d (drop i values)) ≡ length (Columns.scalings (modulusOf prime) d values))
 
 abbrev μ-loop : tie.MeasureT-loop
-μ-loop values d n₀ i₀ n i = length values - i
+μ-loop prime values d n₀ i₀ n i = length values - i
 
 loop-holds : tie.Need-loop-holds Inv-loop μ-loop
 loop-holds c = (omega arith, omega arith, omega arith)
@@ -27,7 +27,7 @@ shared-slice-read-is-scaled : tie.Need-shared-slice-read-is-scaled Inv-loop μ-l
 shared-slice-read-is-scaled c = omega arith
 
 is-scaled-requires : tie.Need-is-scaled-requires Inv-loop μ-loop
-is-scaled-requires c κs = (below-at p _ _ (c .before .before .before .before .pre .0) (omega arith), c .before .before .before .before .pre .1)
+is-scaled-requires c κs = (below-at _ _ _ (c .before .before .before .before .pre .0) (omega arith), c .before .before .before .before .pre .1)
 
 add-n : tie.Need-add-n Inv-loop μ-loop
 add-n c = omega arith

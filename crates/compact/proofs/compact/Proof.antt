@@ -1,6 +1,6 @@
 use mathlib.Core.Path.{_∙_, ap}
 use native.Mathlib.Omega.{arith}
-use Rattle.field.specs.Fields.{goldilocks}
+use Rattle.field.specs.Fields.{fieldOf}
 use Rattle.dag.specs.View.{interleaved}
 use Rattle.dag.specs.CheckLaws.{good-told, bad-told}
 use Rattle.compact.specs.Calls.{compactCheck}
@@ -27,11 +27,11 @@ returns c =
     let at-is-refused = at-test .before in
     let at-check = at-is-refused .before in
     let start = at-check .before .before .before .before .before in
-    let told = at-check .compact-check .ensures ∙ ap (compactCheck goldilocks _ _ _) (at-check .before .room .ensures) in
+    let told = at-check .compact-check .ensures ∙ ap (compactCheck (fieldOf (start .args .prime)) _ _ _) (at-check .before .room .ensures) in
     let bad = bad-told told (at-is-refused .is-refused .ensures) (at-test .if1 .taken) in (
-      answer-refused goldilocks (interleaved (start .args .list .now)) (start .args .n) (start .args .root) (start .args .result .now) bad _ _
+      answer-refused (fieldOf (start .args .prime)) (interleaved (start .args .list .now)) (start .args .n) (start .args .root) (start .args .result .now) bad _ _
           told (c .no-roots .ensures),
-      result-refused goldilocks (interleaved (start .args .list .now)) (start .args .n) (start .args .root) (start .args .result .now) bad,
+      result-refused (fieldOf (start .args .prime)) (interleaved (start .args .list .now)) (start .args .n) (start .args .root) (start .args .result .now) bad,
     )
 
 one-root-requires : tie.Need-one-root-requires
@@ -44,9 +44,9 @@ compact-sized-requires c κs =
     let at-is-refused = at-test .before in
     let at-check = at-is-refused .before in
     let start = at-check .before .before .before .before .before in
-    let told = at-check .compact-check .ensures ∙ ap (compactCheck goldilocks _ _ _) (at-check .before .room .ensures) in
+    let told = at-check .compact-check .ensures ∙ ap (compactCheck (fieldOf (start .args .prime)) _ _ _) (at-check .before .room .ensures) in
     let good = good-told told (at-is-refused .is-refused .ensures) (at-test .if1 .left) in
-    may-compact goldilocks (interleaved (start .args .list .now)) (start .args .n) (start .args .root) (start .args .result .now) good _ (at-one-root .one-root .ensures)
+    may-compact (fieldOf (start .args .prime)) (interleaved (start .args .list .now)) (start .args .n) (start .args .root) (start .args .result .now) good _ (at-one-root .one-root .ensures)
 
 blank-records-requires : tie.Need-blank-records-requires
 blank-records-requires c κs =
@@ -56,11 +56,11 @@ blank-records-requires c κs =
     let at-is-refused = at-test .before in
     let at-check = at-is-refused .before in
     let start = at-check .before .before .before .before .before in
-    let told = at-check .compact-check .ensures ∙ ap (compactCheck goldilocks _ _ _) (at-check .before .room .ensures) in
+    let told = at-check .compact-check .ensures ∙ ap (compactCheck (fieldOf (start .args .prime)) _ _ _) (at-check .before .room .ensures) in
     let good = good-told told (at-is-refused .is-refused .ensures) (at-test .if1 .left) in
     omega (
       arith,
-      may-blank goldilocks (interleaved (start .args .list .now)) (start .args .n) (start .args .root) (start .args .result .now) good _ (at-one-root .one-root .ensures) _
+      may-blank (fieldOf (start .args .prime)) (interleaved (start .args .list .now)) (start .args .n) (start .args .root) (start .args .result .now) good _ (at-one-root .one-root .ensures) _
           (at-sized .compact-sized .ensures .0) _ (at-sized .compact-sized .ensures .1),
     )
 
@@ -79,11 +79,11 @@ returns-2 c =
     let at-is-refused = at-test .before in
     let at-check = at-is-refused .before in
     let start = at-check .before .before .before .before .before in
-    let told = at-check .compact-check .ensures ∙ ap (compactCheck goldilocks _ _ _) (at-check .before .room .ensures) in
+    let told = at-check .compact-check .ensures ∙ ap (compactCheck (fieldOf (start .args .prime)) _ _ _) (at-check .before .room .ensures) in
     let good = good-told told (at-is-refused .is-refused .ensures) (at-test .if1 .left) in (
-      answer-done goldilocks (interleaved (start .args .list .now)) (start .args .n) (start .args .root) (start .args .result .now) good _ (at-one-root .one-root .ensures) _
+      answer-done (fieldOf (start .args .prime)) (interleaved (start .args .list .now)) (start .args .n) (start .args .root) (start .args .result .now) good _ (at-one-root .one-root .ensures) _
           (at-sized .compact-sized .ensures .0) _ told,
-      result-done goldilocks (interleaved (start .args .list .now)) (start .args .n) (start .args .root) (start .args .result .now) good _ (at-one-root .one-root .ensures) _
+      result-done (fieldOf (start .args .prime)) (interleaved (start .args .list .now)) (start .args .n) (start .args .root) (start .args .result .now) good _ (at-one-root .one-root .ensures) _
           (at-sized .compact-sized .ensures .0) _ (at-sized .compact-sized .ensures .1) _ (at-blank-records .blank-records .ensures),
     )
 

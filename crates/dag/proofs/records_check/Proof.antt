@@ -1,6 +1,6 @@
 use Rattle.dag.specs.View.{interleaved}
 use Rattle.dag.specs.Refusals.{firstRefused}
-use Rattle.field.specs.Fields.{goldilocks}
+use Rattle.field.specs.Fields.{fieldOf}
 use Rattle.dag.specs.CheckLaws.{good-told, bad-told}
 use Prim.Native.Nat.{_≤_, _-_}
 use native.Mathlib.Nat.{le-antisymm}
@@ -14,10 +14,10 @@ use Rattle.dag.proofs.records_check.Statement.{statement}
 use Rattle.dag.proofs.records_check.Tie as tie
 
 abbrev Inv-loop : tie.InvT-loop
-Inv-loop list n i₀ i = (i ≤ n) × (Check.recordsCheck (goldilocks .bounds) (interleaved list) i ≡ Good)
+Inv-loop prime list n i₀ i = (i ≤ n) × (Check.recordsCheck (fieldOf prime .bounds) (interleaved list) i ≡ Good)
 
 abbrev μ-loop : tie.MeasureT-loop
-μ-loop list n i₀ i = n - i
+μ-loop prime list n i₀ i = n - i
 
 loop-holds : tie.Need-loop-holds Inv-loop μ-loop
 unfolding firstRefused
@@ -34,7 +34,7 @@ returns c =
     let at-is-refused = c .before in
     let at-check-at = at-is-refused .before in
     let at-loop = at-check-at .before .before in
-    at-check-at .check-at .ensures ∙ first-bad (Check.checkAt (goldilocks .bounds) _) _ _ (at-loop .loop .inv .1)
+    at-check-at .check-at .ensures ∙ first-bad (Check.checkAt _ _) _ _ (at-loop .loop .inv .1)
     (bad-told (at-check-at .check-at .ensures) (at-is-refused .is-refused .ensures) (c .if1 .taken)) (omega arith)
 
 add-i : tie.Need-add-i Inv-loop μ-loop
@@ -49,7 +49,7 @@ loop-again c =
     let at-check-at = at-is-refused .before in
     let at-loop = at-check-at .before .before in (
       omega arith,
-      first-next (Check.checkAt (goldilocks .bounds) _) _ (at-loop .loop .inv .1) (good-told (at-check-at .check-at .ensures) (at-is-refused .is-refused .ensures)
+      first-next (Check.checkAt _ _) _ (at-loop .loop .inv .1) (good-told (at-check-at .check-at .ensures) (at-is-refused .is-refused .ensures)
           (c .if1 .left)),
     )
 

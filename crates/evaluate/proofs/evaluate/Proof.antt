@@ -1,6 +1,5 @@
 -- `evaluate::evaluate` meets its contract.
 use mathlib.Core.Path.{_∙_}
-use Rattle.field.specs.Fields.{goldilocks}
 use Rattle.dag.specs.BranchLaws.{told}
 use Rattle.evaluate.specs.CallLaws.{words-refused, words-tested}
 use borrow.Author.Needs.{needs}
@@ -20,12 +19,12 @@ enum-told : tie.Need-enum-told
 enum-told c = search needs
 
 evaluate-sized-requires : tie.Need-evaluate-sized-requires
-evaluate-sized-requires c κs = words-tested goldilocks _ _ _ _ _ (told (c .before .before .words-check .ensures) (c .enum-told .given .1))
+evaluate-sized-requires c κs = words-tested _ _ _ _ _ _ (told (c .before .before .words-check .ensures) (c .enum-told .given .1))
 
 returns : tie.Need-returns
 returns c =
     let at-checked = c .before .before in
-    c .refused .ensures ∙ words-refused goldilocks _ _ _ _ _ _ (told (at-checked .before .before .words-check .ensures) (at-checked .checked .given .1))
+    c .refused .ensures ∙ words-refused _ _ _ _ _ _ _ (told (at-checked .before .before .words-check .ensures) (at-checked .checked .given .1))
 
 returns-2 : tie.Need-returns-2
 returns-2 c = search needs

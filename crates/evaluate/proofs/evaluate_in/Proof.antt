@@ -2,7 +2,7 @@
 use mathlib.Core.Path.{_∙_}
 use native.Mathlib.Omega.{arith}
 use lib.ListN.{length}
-use Rattle.field.specs.Fields.{goldilocks}
+use Rattle.field.specs.Fields.{fieldOf}
 use Rattle.dag.specs.BranchLaws.{told}
 use Rattle.evaluate.specs.CallLaws.{root-inside, may-fill, inputs-refused, inputs-value}
 use Rattle.evaluate.specs.KeyIndexLaws.{keyed-none}
@@ -13,7 +13,7 @@ use Rattle.evaluate.proofs.evaluate_in.Tie as tie
 index-keys-requires : tie.Need-index-keys-requires
 index-keys-requires c κs =
     let start = c .before .before .before .before .before .before in (
-      may-fill goldilocks _ _ _ _ _ (start .pre .0) (length (start .args .c0 .now)) (start .pre .1 .first) .lent,
+      may-fill (fieldOf (start .args .prime)) _ _ _ _ _ (start .pre .0) (length (start .args .c0 .now)) (start .pre .1 .first) .lent,
       keyed-none _ _ _ (start .pre .1 .usable)
           (start .pre .1 .empty),
       start .pre .1 .entries,
@@ -23,7 +23,7 @@ fill-values-requires : tie.Need-fill-values-requires
 fill-values-requires c κs =
     let at-index-keys = c .before .before .before .before .before in
     let start = at-index-keys .before .before .before .before .before .before .before in
-    ((may-fill goldilocks _ _ _ _ _ (start .pre .0) _ (start .pre .1 .first), start .pre .1 .second), at-index-keys .index-keys .ensures)
+    ((may-fill (fieldOf (start .args .prime)) _ _ _ _ _ (start .pre .0) _ (start .pre .1 .first), start .pre .1 .second), at-index-keys .index-keys .ensures)
 
 enum-known-filled : tie.Need-enum-known-filled
 enum-known-filled c = search needs
@@ -38,10 +38,10 @@ element-at-requires : tie.Need-element-at-requires
 element-at-requires c κs =
     let at-fill-values = c .before .before .before .before .before .before .before .before in
     let start = at-fill-values .before .before .before .before .before .before .before .before .before .before .before .before .before in
-    let h = root-inside goldilocks _ _ _ _ _ (start .pre .0) in (
-      omega (arith, h, start .pre .1 .first, at-fill-values .fill-values .kept),
+    let h = root-inside (fieldOf (start .args .prime)) _ _ _ _ _ (start .pre .0) in (
+      omega (arith, h, start .pre .1 .first, at-fill-values .fill-values .kept .1),
       omega
-          (arith, h, start .pre .1 .second, at-fill-values .fill-values .kept),
+          (arith, h, start .pre .1 .second, at-fill-values .fill-values .kept .1),
     )
 
 same-length : tie.Need-same-length
@@ -58,7 +58,7 @@ returns c =
     let at-filled = c .before .before in
     let at-fill-values = at-filled .before .before .before .before .before .before in
     let start = at-fill-values .before .before .before .before .before .before .before .before .before .before .before .before .before in
-    c .refused .ensures ∙ inputs-refused goldilocks _ _ _ _ _ (start .pre .0) _ (told (at-fill-values .fill-values .ensures .0) (at-filled .filled .given .1))
+    c .refused .ensures ∙ inputs-refused (fieldOf (start .args .prime)) _ _ _ _ _ (start .pre .0) _ (told (at-fill-values .fill-values .ensures .0) (at-filled .filled .given .1))
 
 same-length-4 : tie.Need-same-length-4
 same-length-4 c = search needs
@@ -74,8 +74,8 @@ returns-2 c =
     let at-enum-told = c .before .before .before in
     let at-fill-values = at-enum-told .before .before .before .before .before .before in
     let start = at-fill-values .before .before .before .before .before .before .before .before .before .before .before .before .before in
-    inputs-value goldilocks _ _ _ _ _ (start .pre .0) (told (at-fill-values .fill-values .ensures .0) (at-enum-told .enum-told .given .1)) _
-    (c .element-at .ensures ∙ at-fill-values .fill-values .ensures .1 (at-enum-told .enum-told .given .1) _ (root-inside goldilocks _ _ _ _ _ (start .pre .0)))
+    inputs-value (fieldOf (start .args .prime)) _ _ _ _ _ (start .pre .0) (told (at-fill-values .fill-values .ensures .0) (at-enum-told .enum-told .given .1)) _
+    (c .element-at .ensures ∙ at-fill-values .fill-values .ensures .1 (at-enum-told .enum-told .given .1) _ (root-inside (fieldOf (start .args .prime)) _ _ _ _ _ (start .pre .0)))
 
 pub evaluate-in-spec : {M : Type 1} → statement M
 evaluate-in-spec =

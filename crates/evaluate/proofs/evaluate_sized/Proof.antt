@@ -1,6 +1,6 @@
 -- `evaluate::evaluate_sized` meets its contract: each size of store is large enough.
 use native.Mathlib.Omega.{arith}
-use Rattle.field.specs.Fields.{goldilocks}
+use Rattle.field.specs.Fields.{fieldOf}
 use Rattle.evaluate.specs.Entries.{mostEntries}
 use Rattle.evaluate.specs.CallLaws.{stores-new, list-most, entries-most}
 use borrow.Author.Needs.{needs}
@@ -65,7 +65,7 @@ evaluate-in-requires-3 : tie.Need-evaluate-in-requires-3
 evaluate-in-requires-3 c κs =
     let start = c .before .before .before .before .before .before .before .before in (
       start .pre,
-      stores-new _ _ mostEntries mostEntries (list-most goldilocks _ _ _ _ _ (start .pre)) (entries-most goldilocks _ _ _ _ _ (start .pre))
+      stores-new _ _ mostEntries mostEntries (list-most (fieldOf (start .args .prime)) _ _ _ _ _ (start .pre)) (entries-most (fieldOf (start .args .prime)) _ _ _ _ _ (start .pre))
           (omega arith) (omega arith) (omega arith),
     )
 

@@ -7,7 +7,7 @@ use borrow.Author.Needs.{needs}
 use lib.ListN.{length}
 use Rattle.dag.specs.View.{interleaved}
 use Rattle.dag.specs.Refusals.{firstRefused}
-use Rattle.field.specs.Fields.{goldilocks}
+use Rattle.field.specs.Fields.{fieldOf}
 use Rattle.dag.specs.Nodes.{nodes}
 use Rattle.dag.specs.BranchLaws.{told}
 use Rattle.dag.specs.declared.Checked.the-variants.{Good, Refused}
@@ -24,12 +24,12 @@ never : {A : Type 0} {r : Refusal} → Refused r ≡ Good → A
 never e = let z : _≡_ {A = ℕ} 0 1 = cc in absurd (omega arith)
 
 abbrev Inv-loop : tie.InvT-loop
-Inv-loop list n assignment m links c0₀ c1₀ i₀ c0 c1 i =
+Inv-loop prime list n assignment m links c0₀ c1₀ i₀ c0 c1 i =
     (i ≤ n) × (length c0 ≡ length c0₀) × (length c1 ≡ length c1₀)
-    × Filled goldilocks (interleaved list) n assignment m c0 c1 i × (inputsCheck (entryOf entryWords assignment m) (nodes (interleaved list) n) i ≡ Good)
+    × Filled (fieldOf prime) (interleaved list) n assignment m c0 c1 i × (inputsCheck (entryOf entryWords assignment m) (nodes (interleaved list) n) i ≡ Good)
 
 abbrev μ-loop : tie.MeasureT-loop
-μ-loop list n assignment m links c0₀ c1₀ i₀ c0 c1 i = n - i
+μ-loop prime list n assignment m links c0₀ c1₀ i₀ c0 c1 i = n - i
 
 loop-holds : tie.Need-loop-holds Inv-loop μ-loop
 unfolding inputsCheck firstRefused
@@ -39,7 +39,7 @@ value-of-requires : tie.Need-value-of-requires Inv-loop μ-loop
 value-of-requires c κs =
     let at-loop = c .before .before .before in
     let start = at-loop .before .before .before .before .before .before in (
-      may-value goldilocks _ _ _ _ _ (start .pre .0 .0) _ _ _ (omega arith) (omega (arith, start .pre .0 .0 .fits, at-loop .loop .inv .1))
+      may-value (fieldOf (start .args .prime)) _ _ _ _ _ (start .pre .0 .0) _ _ _ (omega arith) (omega (arith, start .pre .0 .0 .fits, at-loop .loop .inv .1))
           (omega (arith, start .pre .0 .1, at-loop .loop .inv .2)) (at-loop .loop .inv .3),
       (start .pre .0 .0 .lent, start .pre .1),
     )
@@ -62,7 +62,7 @@ returns c =
     let at-value-of = c .before .before in
     let at-loop = at-value-of .before .before .before .before in
     let start = at-loop .before .before .before .before .before .before in (
-      input-none goldilocks _ _ _ _ _ (start .pre .0 .0) _ _ (omega arith) (at-loop .loop .inv .4)
+      input-none (fieldOf (start .args .prime)) _ _ _ _ _ (start .pre .0 .0) _ _ (omega arith) (at-loop .loop .inv .4)
           (sym (told (at-value-of .value-of .ensures) (c .enum-told .given .1))),
       λ e. never e,
     )
@@ -93,10 +93,10 @@ loop-again c =
       omega arith,
       at-put-element .put-element .kept .0 ∙ at-loop .loop .inv .1,
       at-put-element .put-element .kept .1 .0 ∙ at-loop .loop .inv .2,
-      filled-more goldilocks _ _ _ _ _ (start .pre .0 .0) _ _ _ (omega arith) (omega (arith, start .pre .0 .0 .fits, at-loop .loop .inv .1))
+      filled-more (fieldOf (start .args .prime)) _ _ _ _ _ (start .pre .0 .0) _ _ _ (omega arith) (omega (arith, start .pre .0 .0 .fits, at-loop .loop .inv .1))
           (omega (arith, start .pre .0 .1, at-loop .loop .inv .2)) (at-loop .loop .inv .3) _ _ _ e (at-put-element .put-element .ensures .0)
           (at-put-element .put-element .ensures .1),
-      input-more goldilocks _ _ _ _ _ (start .pre .0 .0) _ _ (omega arith) (at-loop .loop .inv .4) _ e,
+      input-more (fieldOf (start .args .prime)) _ _ _ _ _ (start .pre .0 .0) _ _ (omega arith) (at-loop .loop .inv .4) _ e,
     )
 
 same-length-3 : tie.Need-same-length-3 Inv-loop μ-loop

@@ -1,5 +1,5 @@
 use Rattle.dag.specs.Refusals.{firstRefused}
-use Rattle.field.specs.Fields.{goldilocks}
+use Rattle.field.specs.Fields.{fieldOf}
 use Rattle.evaluate.specs.EntryLaws.{entry-room}
 use Rattle.dag.specs.declared.Checked.the-variants.{Good}
 use Rattle.dag.specs.CheckLaws.{first-next, first-bad, good-told, bad-told}
@@ -13,10 +13,10 @@ use Rattle.evaluate.proofs.first_bad_entry.Statement.{statement}
 use Rattle.evaluate.proofs.first_bad_entry.Tie as tie
 
 abbrev Inv-loop : tie.InvT-loop
-Inv-loop entries width m i₀ i = (i ≤ m) × (firstRefused (Entries.entryCheck (goldilocks .bounds) width entries) i ≡ Good)
+Inv-loop prime entries width m i₀ i = (i ≤ m) × (firstRefused (Entries.entryCheck (fieldOf prime .bounds) width entries) i ≡ Good)
 
 abbrev μ-loop : tie.MeasureT-loop
-μ-loop entries width m i₀ i = m - i
+μ-loop prime entries width m i₀ i = m - i
 
 loop-holds : tie.Need-loop-holds Inv-loop μ-loop
 unfolding firstRefused
@@ -33,7 +33,7 @@ returns c =
     let at-is-refused = c .before in
     let at-entry-check = at-is-refused .before in
     let at-loop = at-entry-check .before .before in
-    at-entry-check .entry-check .ensures ∙ first-bad (Entries.entryCheck (goldilocks .bounds) _ _) _ _ (at-loop .loop .inv .1)
+    at-entry-check .entry-check .ensures ∙ first-bad (Entries.entryCheck _ _ _) _ _ (at-loop .loop .inv .1)
     (bad-told (at-entry-check .entry-check .ensures) (at-is-refused .is-refused .ensures) (c .if1 .taken)) (omega arith)
 
 add-i : tie.Need-add-i Inv-loop μ-loop
@@ -48,7 +48,7 @@ loop-again c =
     let at-entry-check = at-is-refused .before in
     let at-loop = at-entry-check .before .before in (
       omega arith,
-      first-next (Entries.entryCheck (goldilocks .bounds) _ _) _ (at-loop .loop .inv .1)
+      first-next (Entries.entryCheck _ _ _) _ (at-loop .loop .inv .1)
           (good-told (at-entry-check .entry-check .ensures) (at-is-refused .is-refused .ensures) (c .if1 .left)),
     )
 

@@ -1,5 +1,5 @@
 -- `evaluate::value_of` meets its contract, record by record.
-use Rattle.field.specs.Fields.{goldilocks}
+use Rattle.field.specs.Fields.{fieldOf}
 use Rattle.dag.specs.View.{interleaved}
 use Rattle.evaluate.specs.RecordLaws.{input-value, constant-value, add-value, sub-value, mul-value, neg-value, add-before, sub-before, mul-before, neg-before, low-read}
 use Rattle.evaluate.specs.Contracts.{elementAt}
@@ -32,7 +32,7 @@ element-at-requires c κs =
     let start = at-node-at .before .before .before .before .before .before in
     omega (
       arith,
-      add-before goldilocks (interleaved (start .args .list .now)) (start .args .i) (start .args .c0 .now) (start .args .c1 .now) (start .pre .0)
+      add-before (fieldOf (start .args .prime)) (interleaved (start .args .list .now)) (start .args .i) (start .args .c0 .now) (start .args .c1 .now) (start .pre .0)
           (at-node-at .node-at .ensures) (at-x3 .x3 .given .1),
       start .pre .0 .first,
       start .pre .0 .second,
@@ -45,7 +45,7 @@ element-at-requires-2 c κs =
     let start = at-node-at .before .before .before .before .before .before in
     omega (
       arith,
-      add-before goldilocks (interleaved (start .args .list .now)) (start .args .i) (start .args .c0 .now) (start .args .c1 .now) (start .pre .0)
+      add-before (fieldOf (start .args .prime)) (interleaved (start .args .list .now)) (start .args .i) (start .args .c0 .now) (start .args .c1 .now) (start .pre .0)
           (at-node-at .node-at .ensures) (at-x3 .x3 .given .1),
       start .pre .0 .first,
       start .pre .0 .second,
@@ -57,10 +57,10 @@ add-requires c κs =
     let at-x3 = at-element-at .before .before in
     let at-node-at = at-x3 .before .before in
     let start = at-node-at .before .before .before .before .before .before in
-    let h = add-before goldilocks (interleaved (start .args .list .now)) (start .args .i) (start .args .c0 .now) (start .args .c1 .now) (start .pre .0)
+    let h = add-before (fieldOf (start .args .prime)) (interleaved (start .args .list .now)) (start .args .i) (start .args .c0 .now) (start .args .c1 .now) (start .pre .0)
     (at-node-at .node-at .ensures) (at-x3 .x3 .given .1) in (
-      low-read goldilocks (start .pre .0) _ (omega arith) (at-element-at .element-at .ensures),
-      low-read goldilocks (start .pre .0) _ (omega arith)
+      low-read (fieldOf (start .args .prime)) (start .pre .0) _ (omega arith) (at-element-at .element-at .ensures),
+      low-read (fieldOf (start .args .prime)) (start .pre .0) _ (omega arith)
           (c .element-at2 .ensures),
     )
 
@@ -74,7 +74,7 @@ element-at-requires-3 c κs =
     let start = at-node-at .before .before .before .before .before .before in
     omega (
       arith,
-      sub-before goldilocks (interleaved (start .args .list .now)) (start .args .i) (start .args .c0 .now) (start .args .c1 .now) (start .pre .0)
+      sub-before (fieldOf (start .args .prime)) (interleaved (start .args .list .now)) (start .args .i) (start .args .c0 .now) (start .args .c1 .now) (start .pre .0)
           (at-node-at .node-at .ensures) (at-x4 .x4 .given .1),
       start .pre .0 .first,
       start .pre .0 .second,
@@ -87,7 +87,7 @@ element-at-requires-4 c κs =
     let start = at-node-at .before .before .before .before .before .before in
     omega (
       arith,
-      sub-before goldilocks (interleaved (start .args .list .now)) (start .args .i) (start .args .c0 .now) (start .args .c1 .now) (start .pre .0)
+      sub-before (fieldOf (start .args .prime)) (interleaved (start .args .list .now)) (start .args .i) (start .args .c0 .now) (start .args .c1 .now) (start .pre .0)
           (at-node-at .node-at .ensures) (at-x4 .x4 .given .1),
       start .pre .0 .first,
       start .pre .0 .second,
@@ -99,10 +99,10 @@ sub-requires c κs =
     let at-x4 = at-element-at3 .before .before in
     let at-node-at = at-x4 .before .before in
     let start = at-node-at .before .before .before .before .before .before in
-    let h = sub-before goldilocks (interleaved (start .args .list .now)) (start .args .i) (start .args .c0 .now) (start .args .c1 .now) (start .pre .0)
+    let h = sub-before (fieldOf (start .args .prime)) (interleaved (start .args .list .now)) (start .args .i) (start .args .c0 .now) (start .args .c1 .now) (start .pre .0)
     (at-node-at .node-at .ensures) (at-x4 .x4 .given .1) in (
-      low-read goldilocks (start .pre .0) _ (omega arith) (at-element-at3 .element-at3 .ensures),
-      low-read goldilocks (start .pre .0) _ (omega arith)
+      low-read (fieldOf (start .args .prime)) (start .pre .0) _ (omega arith) (at-element-at3 .element-at3 .ensures),
+      low-read (fieldOf (start .args .prime)) (start .pre .0) _ (omega arith)
           (c .element-at4 .ensures),
     )
 
@@ -116,7 +116,7 @@ element-at-requires-5 c κs =
     let start = at-node-at .before .before .before .before .before .before in
     omega (
       arith,
-      mul-before goldilocks (interleaved (start .args .list .now)) (start .args .i) (start .args .c0 .now) (start .args .c1 .now) (start .pre .0)
+      mul-before (fieldOf (start .args .prime)) (interleaved (start .args .list .now)) (start .args .i) (start .args .c0 .now) (start .args .c1 .now) (start .pre .0)
           (at-node-at .node-at .ensures) (at-x5 .x5 .given .1),
       start .pre .0 .first,
       start .pre .0 .second,
@@ -129,7 +129,7 @@ element-at-requires-6 c κs =
     let start = at-node-at .before .before .before .before .before .before in
     omega (
       arith,
-      mul-before goldilocks (interleaved (start .args .list .now)) (start .args .i) (start .args .c0 .now) (start .args .c1 .now) (start .pre .0)
+      mul-before (fieldOf (start .args .prime)) (interleaved (start .args .list .now)) (start .args .i) (start .args .c0 .now) (start .args .c1 .now) (start .pre .0)
           (at-node-at .node-at .ensures) (at-x5 .x5 .given .1),
       start .pre .0 .first,
       start .pre .0 .second,
@@ -141,10 +141,10 @@ mul-requires c κs =
     let at-x5 = at-element-at5 .before .before in
     let at-node-at = at-x5 .before .before in
     let start = at-node-at .before .before .before .before .before .before in
-    let h = mul-before goldilocks (interleaved (start .args .list .now)) (start .args .i) (start .args .c0 .now) (start .args .c1 .now) (start .pre .0)
+    let h = mul-before (fieldOf (start .args .prime)) (interleaved (start .args .list .now)) (start .args .i) (start .args .c0 .now) (start .args .c1 .now) (start .pre .0)
     (at-node-at .node-at .ensures) (at-x5 .x5 .given .1) in (
-      low-read goldilocks (start .pre .0) _ (omega arith) (at-element-at5 .element-at5 .ensures),
-      low-read goldilocks (start .pre .0) _ (omega arith)
+      low-read (fieldOf (start .args .prime)) (start .pre .0) _ (omega arith) (at-element-at5 .element-at5 .ensures),
+      low-read (fieldOf (start .args .prime)) (start .pre .0) _ (omega arith)
           (c .element-at6 .ensures),
     )
 
@@ -158,7 +158,7 @@ element-at-requires-7 c κs =
     let start = at-node-at .before .before .before .before .before .before in
     omega (
       arith,
-      neg-before goldilocks (interleaved (start .args .list .now)) (start .args .i) (start .args .c0 .now) (start .args .c1 .now) (start .pre .0)
+      neg-before (fieldOf (start .args .prime)) (interleaved (start .args .list .now)) (start .args .i) (start .args .c0 .now) (start .args .c1 .now) (start .pre .0)
           (at-node-at .node-at .ensures) (at-x6 .x6 .given .1),
       start .pre .0 .first,
       start .pre .0 .second,
@@ -169,7 +169,7 @@ neg-requires c κs =
     let at-x6 = c .before .before in
     let at-node-at = at-x6 .before .before in
     let start = at-node-at .before .before .before .before .before .before in
-    low-read goldilocks (start .pre .0) _ (neg-before goldilocks (interleaved (start .args .list .now)) (start .args .i) (start .args .c0 .now) (start .args .c1 .now) (start .pre .0)
+    low-read (fieldOf (start .args .prime)) (start .pre .0) _ (neg-before (fieldOf (start .args .prime)) (interleaved (start .args .list .now)) (start .args .i) (start .args .c0 .now) (start .args .c1 .now) (start .pre .0)
     (at-node-at .node-at .ensures) (at-x6 .x6 .given .1)) (c .element-at7 .ensures)
 
 returns : tie.Need-returns
@@ -177,7 +177,7 @@ returns c =
     let at-x = c .before .before in
     let at-node-at = at-x .before .before in
     let start = at-node-at .before .before .before .before .before .before in
-    input-value goldilocks (start .args .assignment .now) (start .args .m) (elementAt (start .args .c0 .now) (start .args .c1 .now)) (at-node-at .node-at .ensures)
+    input-value (fieldOf (start .args .prime)) (start .args .assignment .now) (start .args .m) (elementAt (start .args .c0 .now) (start .args .c1 .now)) (at-node-at .node-at .ensures)
     (at-x .x .given .1) (c .given .ensures)
 
 returns-2 : tie.Need-returns-2
@@ -185,7 +185,7 @@ returns-2 c =
     let at-x2 = c .before in
     let at-node-at = at-x2 .before .before in
     let start = at-node-at .before .before .before .before .before .before in
-    constant-value goldilocks (start .args .assignment .now) (start .args .m) (elementAt (start .args .c0 .now) (start .args .c1 .now))
+    constant-value (fieldOf (start .args .prime)) (start .args .assignment .now) (start .args .m) (elementAt (start .args .c0 .now) (start .args .c1 .now))
     (at-node-at .node-at .ensures) (at-x2 .x2 .given .1)
 
 returns-3 : tie.Need-returns-3
@@ -195,7 +195,7 @@ returns-3 c =
     let at-x3 = at-element-at .before .before in
     let at-node-at = at-x3 .before .before in
     let start = at-node-at .before .before .before .before .before .before in
-    add-value goldilocks (start .args .assignment .now) (start .args .m) (elementAt (start .args .c0 .now) (start .args .c1 .now)) (at-node-at .node-at .ensures)
+    add-value (fieldOf (start .args .prime)) (start .args .assignment .now) (start .args .m) (elementAt (start .args .c0 .now) (start .args .c1 .now)) (at-node-at .node-at .ensures)
     (at-element-at .element-at .ensures) (at-element-at2 .element-at2 .ensures) (at-x3 .x3 .given .1) (c .add .ensures .0)
 
 returns-4 : tie.Need-returns-4
@@ -205,7 +205,7 @@ returns-4 c =
     let at-x4 = at-element-at3 .before .before in
     let at-node-at = at-x4 .before .before in
     let start = at-node-at .before .before .before .before .before .before in
-    sub-value goldilocks (start .args .assignment .now) (start .args .m) (elementAt (start .args .c0 .now) (start .args .c1 .now)) (at-node-at .node-at .ensures)
+    sub-value (fieldOf (start .args .prime)) (start .args .assignment .now) (start .args .m) (elementAt (start .args .c0 .now) (start .args .c1 .now)) (at-node-at .node-at .ensures)
     (at-element-at3 .element-at3 .ensures) (at-element-at4 .element-at4 .ensures) (at-x4 .x4 .given .1) (c .sub .ensures .0)
 
 returns-5 : tie.Need-returns-5
@@ -215,7 +215,7 @@ returns-5 c =
     let at-x5 = at-element-at5 .before .before in
     let at-node-at = at-x5 .before .before in
     let start = at-node-at .before .before .before .before .before .before in
-    mul-value goldilocks (start .args .assignment .now) (start .args .m) (elementAt (start .args .c0 .now) (start .args .c1 .now)) (at-node-at .node-at .ensures)
+    mul-value (fieldOf (start .args .prime)) (start .args .assignment .now) (start .args .m) (elementAt (start .args .c0 .now) (start .args .c1 .now)) (at-node-at .node-at .ensures)
     (at-element-at5 .element-at5 .ensures) (at-element-at6 .element-at6 .ensures) (at-x5 .x5 .given .1) (c .mul .ensures .0)
 
 returns-6 : tie.Need-returns-6
@@ -224,7 +224,7 @@ returns-6 c =
     let at-x6 = at-element-at7 .before .before in
     let at-node-at = at-x6 .before .before in
     let start = at-node-at .before .before .before .before .before .before in
-    neg-value goldilocks (start .args .assignment .now) (start .args .m) (elementAt (start .args .c0 .now) (start .args .c1 .now)) (at-node-at .node-at .ensures)
+    neg-value (fieldOf (start .args .prime)) (start .args .assignment .now) (start .args .m) (elementAt (start .args .c0 .now) (start .args .c1 .now)) (at-node-at .node-at .ensures)
     (at-element-at7 .element-at7 .ensures) (at-x6 .x6 .given .1) (c .neg .ensures .0)
 
 pub value-of-spec : {M : Type 1} → statement M

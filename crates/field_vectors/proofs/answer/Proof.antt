@@ -53,7 +53,7 @@ returns-6 : tie.Need-returns-6
 unfolding asked
 returns-6 c =
     (c .neg .ensures .0)
-    ∙ asked-else _ _ _ (c .before .match .rest .0 .0 .0 .0 .1) (c .before .match .rest .0 .0 .0 .1) (c .before .match .rest .0 .0 .1) (c .before .match .rest .0 .1) (c .before .match .rest .1)
+    ∙ asked-else _ _ _ _ (c .before .match .rest .0 .0 .0 .0 .1) (c .before .match .rest .0 .0 .0 .1) (c .before .match .rest .0 .0 .1) (c .before .match .rest .0 .1) (c .before .match .rest .1)
 
 pub answer-spec : {M : Type 1} → statement M
 answer-spec =

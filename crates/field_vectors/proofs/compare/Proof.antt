@@ -10,7 +10,7 @@ use Rattle.field_vectors.proofs.compare.Tie as tie
 
 abbrev Inv-loop : tie.InvT-loop
 Inv-loop s vectors₀ matched₀ at₀ vectors matched at =
-    (at ≤ length s) × (at ≡ 104 * vectors) × (matched ≤ vectors) × (matched ≡ Vectors.matched s vectors)
+    (at ≤ length s) × (at ≡ 106 * vectors) × (matched ≤ vectors) × (matched ≡ Vectors.matched s vectors)
 
 abbrev μ-loop : tie.MeasureT-loop
 μ-loop s vectors₀ matched₀ at₀ vectors matched at = length s - at
@@ -43,7 +43,7 @@ loop-again c =
 
 returns : tie.Need-returns Inv-loop μ-loop
 returns c =
-    let e : c .before .loop .vectors ≡ length (c .before .before .before .args .s .now) / 104 = omega arith in
+    let e : c .before .loop .vectors ≡ length (c .before .before .before .args .s .now) / 106 = omega arith in
     (e, rw (← e) (c .before .loop .inv .3))
 
 pub compare-spec : {M : Type 1} → statement M

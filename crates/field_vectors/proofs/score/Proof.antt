@@ -21,11 +21,20 @@ add-element-3 c = search needs
 element-requires-3 : tie.Need-element-requires-3
 element-requires-3 c κs = search needs
 
-shared-slice-read-agrees : tie.Need-shared-slice-read-agrees
-shared-slice-read-agrees c = search needs
+shared-slice-read-nibble : tie.Need-shared-slice-read-nibble
+shared-slice-read-nibble c = search needs
 
-agrees-requires : tie.Need-agrees-requires
-agrees-requires c κs = search needs
+nibble-requires : tie.Need-nibble-requires
+nibble-requires c κs = search needs
+
+add-agrees-in : tie.Need-add-agrees-in
+add-agrees-in c = search needs
+
+shared-slice-read-agrees-in : tie.Need-shared-slice-read-agrees-in
+shared-slice-read-agrees-in c = search needs
+
+agrees-in-requires : tie.Need-agrees-in-requires
+agrees-in-requires c κs = search needs
 
 returns : tie.Need-returns
 returns c = (score-one _ _ _ (cc) (c .if1 .taken), search needs)
@@ -43,7 +52,10 @@ score-spec =
     element-requires-2
     add-element-3
     element-requires-3
-    shared-slice-read-agrees
-    agrees-requires
+    shared-slice-read-nibble
+    nibble-requires
+    add-agrees-in
+    shared-slice-read-agrees-in
+    agrees-in-requires
     returns
     returns-2)

@@ -37,7 +37,7 @@ write-listing-requires c κs =
     let at-normalize = at-told .before .before .before .before .before .before in
     let start = at-normalize .before .before .before .before .before .before .before in (
       may-list (start .args .list .now) (start .args .n) (start .args .root) (start .args .result .now) (interleaved (start .args .work .now) .room) _ (at-normalize .normalize .ensures .0)
-          (at-told .enum-told .given .1) _ (at-normalize .normalize .kept .1 .1 .1 .0),
+          (at-told .enum-told .given .1) _ (at-normalize .normalize .kept .1 .1 .1 .1 .0),
       omega (
         arith,
         start .pre,

@@ -4,8 +4,8 @@ use mathlib.Core.Path.{_≡_, refl, sym, _∙_, ap}
 use mathlib.Core.List.{[]}
 use native.Mathlib.Omega.{arith}
 use lib.ListN.{length}
-use Rattle.field.specs.Fields.{goldilocks}
-use Rattle.field.specs.Field.{p}
+use Rattle.field.specs.Fields.{fieldOf}
+use Rattle.field.specs.Field.{modulusOf}
 use Rattle.periodic.specs.Builder as Builder
 use Rattle.periodic.specs.Periodic as Periodic
 use Rattle.periodic.specs.Contracts as Said
@@ -19,15 +19,15 @@ use Rattle.lower.proofs.build_periodic_nodes.Statement.{statement}
 use Rattle.lower.proofs.build_periodic_nodes.Tie as tie
 
 abbrev Inv-loop : tie.InvT-loop
-Inv-loop list₀ n lengths entries log places₀ gains each count₀ j₀ list places count j =
+Inv-loop prime list₀ n lengths entries log places₀ gains each count₀ j₀ list places count j =
     (j ≤ length lengths)
     × (length places ≡ length places₀)
-    × Said.Listing goldilocks list₀ count₀ (Builder.turns (λ j ps. Builder.also ps
-    (Periodic.columnNode goldilocks (Prepare.columns lengths entries) log j)) j []) list count places j
-    × Said.Ready goldilocks list count
+    × Said.Listing (fieldOf prime) list₀ count₀ (Builder.turns (λ j ps. Builder.also ps
+    (Periodic.columnNode (fieldOf prime) (Prepare.columns lengths entries) log j)) j []) list count places j
+    × Said.Ready (fieldOf prime) list count
 
 abbrev μ-loop : tie.MeasureT-loop
-μ-loop list₀ n lengths entries log places₀ gains each count₀ j₀ list places count j = length lengths - j
+μ-loop prime list₀ n lengths entries log places₀ gains each count₀ j₀ list places count j = length lengths - j
 
 gains-requires : tie.Need-gains-requires Inv-loop μ-loop
 gains-requires c κs = c .before .before .before .before .pre .1 .tested
@@ -36,32 +36,32 @@ slice-aggregate-savings-each : tie.Need-slice-aggregate-savings-each Inv-loop μ
 slice-aggregate-savings-each c =
     let at-gains = c .before in
     let start = at-gains .before .before .before .before .before in
-    sym (ap length (at-gains .gains .ensures) ∙ length-gains p _ _ (start .pre .1 .tested .handed))
+    sym (ap length (at-gains .gains .ensures) ∙ length-gains (modulusOf (start .args .prime)) _ _ (start .pre .1 .tested .handed))
 
 savings-each-requires : tie.Need-savings-each-requires Inv-loop μ-loop
 savings-each-requires c κs =
     let at-gains = c .before in
     let start = at-gains .before .before .before .before .before in
-    (start .pre .1 .tested .handed, at-gains .gains .ensures)
+    (start .pre .1 .tested .handed, (_, at-gains .gains .ensures))
 
 loop-holds : tie.Need-loop-holds Inv-loop μ-loop
 loop-holds c =
     let at-point = c .before .before .before .before .before .before .before in
     let start = at-point in
-    (omega arith, refl, list-none goldilocks _ _ _ _ _ _ refl (none-inside _), start .pre .0)
+    (omega arith, refl, list-none (fieldOf (start .args .prime)) _ _ _ _ _ _ refl (none-inside _), start .pre .0)
 
 slice-aggregate-column-node : tie.Need-slice-aggregate-column-node Inv-loop μ-loop
 slice-aggregate-column-node c =
     let at-point = c .before .before .before .before .before .before in
     let at-gains = at-point in
     let start = at-gains .before .before .before .before .before in
-    sym (ap length (at-gains .gains .ensures) ∙ length-gains p _ _ (start .pre .1 .tested .handed))
+    sym (ap length (at-gains .gains .ensures) ∙ length-gains (modulusOf (start .args .prime)) _ _ (start .pre .1 .tested .handed))
 
 slice-aggregate-column-node-2 : tie.Need-slice-aggregate-column-node-2 Inv-loop μ-loop
 slice-aggregate-column-node-2 c =
     let at-savings-each = c .before .before .before .before .before in
     let start = at-savings-each .before .before .before .before .before .before .before in
-    sym (ap length (at-savings-each .savings-each .ensures) ∙ length-each p _ _ (start .pre .1 .tested .handed))
+    sym (ap length (at-savings-each .savings-each .ensures _ (at-savings-each .before .before .gains .ensures)) ∙ length-each (modulusOf (start .args .prime)) _ _ (start .pre .1 .tested .handed))
 
 column-node-requires : tie.Need-column-node-requires Inv-loop μ-loop
 column-node-requires c κs =
@@ -71,7 +71,7 @@ column-node-requires c κs =
     let at-gains = at-savings-each .before .before in
     let start = at-gains .before .before .before .before .before in (
       at-loop .loop .inv .3,
-      record { tested = start .pre .1 .tested; gained = at-gains .gains .ensures; saved = at-savings-each .savings-each .ensures },
+      record { tested = start .pre .1 .tested; gained = at-gains .gains .ensures; saved = at-savings-each .savings-each .ensures _ (at-gains .gains .ensures) },
       start .pre .1,
       at-loop-test .loop-test .taken,
     )
@@ -102,9 +102,9 @@ loop-again c =
     let h : at-loop .loop .j < length (at-loop .loop .places) = omega (arith, start .pre .2) in (
       omega arith,
       set-length (at-loop .loop .places) _ _ _ (at-loop .loop .inv .1),
-      list-next goldilocks _ _ _ _ _ _ _ _ _ _ _ h (at-loop .loop .inv .2)
+      list-next (fieldOf (start .args .prime)) _ _ _ _ _ _ _ _ _ _ _ h (at-loop .loop .inv .2)
           (at-column-node .column-node .ensures),
-      entered-ready goldilocks _ _ _ _ _ (at-loop .loop .inv .3) (at-column-node .column-node .ensures),
+      entered-ready (fieldOf (start .args .prime)) _ _ _ _ _ (at-loop .loop .inv .3) (at-column-node .column-node .ensures),
     )
 
 same-length : tie.Need-same-length Inv-loop μ-loop
@@ -119,7 +119,7 @@ returns c =
     let at-loop = c .before in
     let start = at-loop .before .before .before .before .before .before .before .before in
     let n = length-columns (start .args .lengths .now) (start .args .entries .now) in
-    rw n (list-all goldilocks _ _ _ _ _ _ _ _ _ _ _ (at-loop .loop .inv .0) (c .loop-test .left) (omega arith) (at-loop .loop .inv .2))
+    rw n (list-all (fieldOf (start .args .prime)) _ _ _ _ _ _ _ _ _ _ _ (at-loop .loop .inv .0) (c .loop-test .left) (omega arith) (at-loop .loop .inv .2))
 
 pub build-periodic-nodes-spec : {M : Type 1} → statement M
 build-periodic-nodes-spec =

@@ -1,7 +1,7 @@
 use mathlib.Core.Path.{ap}
 use native.Mathlib.Omega.{arith}
-use Rattle.field.specs.Fields.{goldilocks}
-use Rattle.field.specs.Field.{p}
+use Rattle.field.specs.Fields.{fieldOf}
+use Rattle.field.specs.Field.{modulusOf}
 use Rattle.columns.specs.Columns as Columns
 use Rattle.columns.specs.PrepareLaws.{tested-column}
 use Rattle.periodic.specs.SparseLaws.{entering-same}
@@ -16,7 +16,7 @@ column-requires c κs = (c .before .before .before .before .before .pre .1 .test
 column-form-requires : tie.Need-column-form-requires
 column-form-requires c κs =
     let start = c .before .before .before .before .before .before in
-    (start .pre .1, start .pre .3)
+    ((_, start .pre .1), start .pre .3)
 
 log-length-requires : tie.Need-log-length-requires
 log-length-requires c κs = search needs
@@ -33,9 +33,9 @@ column-value-requires c κs =
     let at-column = at-column-form .before in
     let start = at-column .before .before .before .before .before .before in (
       start .pre .0,
-      rw (at-column .column .ensures) (tested-column p _ _ _ (start .pre .3) (start .pre .2 .tested)),
-      formed-of goldilocks _ _ _ _ _
-          (start .pre .2 .tested .handed) (start .pre .3) (at-column .column .ensures) (at-column-form .column-form .ensures),
+      rw (at-column .column .ensures) (tested-column (modulusOf (start .args .prime)) _ _ _ (start .pre .3) (start .pre .2 .tested)),
+      formed-of (fieldOf (start .args .prime)) _ _ _ _ _
+          (start .pre .2 .tested .handed) (start .pre .3) (at-column .column .ensures) (at-column-form .column-form .ensures _ (start .pre .1)),
     )
 
 same-length : tie.Need-same-length
@@ -47,7 +47,8 @@ returns c =
     let at-log-length = at-column-value .before in
     let at-column-form = at-log-length .before .before in
     let at-column = at-column-form .before in
-    entering-same goldilocks _ _ _ _ _ _ (node-is goldilocks _ _ _ _ _ _ (at-column .column .ensures) (at-column-form .column-form .ensures)
+    let start = at-column .before .before .before .before .before .before in
+    entering-same _ _ _ _ _ _ _ (node-is (fieldOf (start .args .prime)) _ _ _ _ _ _ (at-column .column .ensures) (at-column-form .column-form .ensures _ (start .pre .1))
     (at-log-length .log-length .ensures .0)) (at-column-value .column-value .ensures)
 
 pub column-node-spec : {M : Type 1} → statement M

@@ -1,4 +1,3 @@
-use Rattle.field.specs.Fields.{goldilocks}
 use Rattle.periodic.specs.SparseLaws.{entering-same}
 use Rattle.lower.specs.FormLaws.{value-sparse, value-dense, value-basis}
 use borrow.Author.Needs.{needs}
@@ -30,19 +29,19 @@ same-length : tie.Need-same-length
 same-length c = search needs
 
 returns : tie.Need-returns
-returns c = entering-same goldilocks _ _ _ _ _ _ (value-sparse goldilocks _ _ _ (c .before .before .before .before .enum-told .given .1)) (c .before .before .sparse-value .ensures)
+returns c = entering-same _ _ _ _ _ _ _ (value-sparse _ _ _ _ (c .before .before .before .before .enum-told .given .1)) (c .before .before .sparse-value .ensures)
 
 same-length-2 : tie.Need-same-length-2
 same-length-2 c = search needs
 
 returns-2 : tie.Need-returns-2
-returns-2 c = entering-same goldilocks _ _ _ _ _ _ (value-dense goldilocks _ _ _ (c .before .before .before .before .enum-told2 .given .1)) (c .before .before .dense-value .ensures)
+returns-2 c = entering-same _ _ _ _ _ _ _ (value-dense _ _ _ _ (c .before .before .before .before .enum-told2 .given .1)) (c .before .before .dense-value .ensures)
 
 same-length-3 : tie.Need-same-length-3
 same-length-3 c = search needs
 
 returns-3 : tie.Need-returns-3
-returns-3 c = entering-same goldilocks _ _ _ _ _ _ (value-basis goldilocks _ _ _ (c .before .before .before .before .enum-told3 .given .1)) (c .before .before .basis-value .ensures)
+returns-3 c = entering-same _ _ _ _ _ _ _ (value-basis _ _ _ _ (c .before .before .before .before .enum-told3 .given .1)) (c .before .before .basis-value .ensures)
 
 pub column-value-spec : {M : Type 1} → statement M
 column-value-spec =

@@ -1,6 +1,6 @@
 use mathlib.Core.Path.{sym, _∙_, ap}
 use lib.ListN.{length}
-use Rattle.field.specs.Fields.{goldilocks}
+use Rattle.field.specs.Fields.{fieldOf}
 use Rattle.dag.specs.View.{interleaved}
 use Rattle.lower.specs.Lower.{lowerCheck}
 use Rattle.lower.specs.CallLaws.{passed, lower-refused, lower-done}
@@ -25,18 +25,18 @@ lower-ready-requires c κs =
     let at-lower-check = c .before .before .before .before .before in
     let start = at-lower-check .before .before .before .before .before .before .before .before .before in
     let told = at-lower-check .lower-check .ensures
-    ∙ ap (λ k. lowerCheck goldilocks (interleaved (start .args .list .now)) (start .args .n) (start .args .lengths .now) (start .args .entries .now) (start .args .period) k (length (start .args .places .now)))
+    ∙ ap (λ k. lowerCheck (fieldOf (start .args .prime)) (interleaved (start .args .list .now)) (start .args .n) (start .args .lengths .now) (start .args .entries .now) (start .args .period) k (length (start .args .places .now)))
     (at-lower-check .before .room .ensures) in
-    passed goldilocks _ _ _ _ _ _ _ (sym told ∙ c .before .before .before .enum-told .given .1)
+    passed (fieldOf (start .args .prime)) _ _ _ _ _ _ _ (sym told ∙ c .before .before .before .enum-told .given .1)
 
 returns : tie.Need-returns
 returns c =
     let at-lower-check = c .before .before .before in
     let start = at-lower-check .before .before .before .before .before .before .before .before .before in
     let told = at-lower-check .lower-check .ensures
-    ∙ ap (λ k. lowerCheck goldilocks (interleaved (start .args .list .now)) (start .args .n) (start .args .lengths .now) (start .args .entries .now) (start .args .period) k (length (start .args .places .now)))
+    ∙ ap (λ k. lowerCheck (fieldOf (start .args .prime)) (interleaved (start .args .list .now)) (start .args .n) (start .args .lengths .now) (start .args .entries .now) (start .args .period) k (length (start .args .places .now)))
     (at-lower-check .before .room .ensures) in
-    let d = lower-refused goldilocks _ _ _ _ _ _ _ _ _ (sym told ∙ c .before .checked .given .1) in
+    let d = lower-refused (fieldOf (start .args .prime)) _ _ _ _ _ _ _ _ _ (sym told ∙ c .before .checked .given .1) in
     (d .answer, (d .result-is, (d .work-is, d .places-are)))
 
 same-length : tie.Need-same-length
@@ -58,9 +58,9 @@ returns-2 c =
     let at-lower-check = at-enum-told .before .before in
     let start = at-lower-check .before .before .before .before .before .before .before .before .before in
     let told = at-lower-check .lower-check .ensures
-    ∙ ap (λ k. lowerCheck goldilocks (interleaved (start .args .list .now)) (start .args .n) (start .args .lengths .now) (start .args .entries .now) (start .args .period) k (length (start .args .places .now)))
+    ∙ ap (λ k. lowerCheck (fieldOf (start .args .prime)) (interleaved (start .args .list .now)) (start .args .n) (start .args .lengths .now) (start .args .entries .now) (start .args .period) k (length (start .args .places .now)))
     (at-lower-check .before .room .ensures) in
-    let d = lower-done goldilocks _ _ _ _ _ _ _ _ _ _ _ _ (sym told ∙ at-enum-told .enum-told .given .1)
+    let d = lower-done (fieldOf (start .args .prime)) _ _ _ _ _ _ _ _ _ _ _ _ (sym told ∙ at-enum-told .enum-told .given .1)
     (at-lower-ready .lower-ready .ensures .0) (at-lower-ready .lower-ready .ensures .1) in
     (d .answer, (d .result-is, (d .work-is, d .places-are)))
 

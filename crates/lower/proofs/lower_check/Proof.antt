@@ -1,6 +1,5 @@
 use mathlib.Core.Path.{sym, _∙_}
 use borrow.Author.Tests.{not-true, not-false}
-use Rattle.field.specs.Fields.{goldilocks}
 use Rattle.dag.specs.CheckLaws.{good-told, bad-told}
 use Rattle.lower.specs.CallLaws.{check-list, check-columns, check-stores, check-period}
 use borrow.Author.Needs.{needs}
@@ -14,7 +13,7 @@ is-refused-requires : tie.Need-is-refused-requires
 is-refused-requires c κs = search needs
 
 returns : tie.Need-returns
-returns c = check-list goldilocks _ _ _ _ _ _ _ _ (c .before .before .rootless-check .ensures) (bad-told (c .before .before .rootless-check .ensures) (c .before .is-refused .ensures) (c .if1 .taken))
+returns c = check-list _ _ _ _ _ _ _ _ _ (c .before .before .rootless-check .ensures) (bad-told (c .before .before .rootless-check .ensures) (c .before .is-refused .ensures) (c .if1 .taken))
 
 prepare-check-requires : tie.Need-prepare-check-requires
 prepare-check-requires c κs = search needs
@@ -29,7 +28,7 @@ returns-2 c =
     let at-if1 = at-prepare-check .before in
     let at-is-refused = at-if1 .before in
     let at-rootless-check = at-is-refused .before in
-    check-columns goldilocks _ _ _ _ _ _ _ (good-told (at-rootless-check .rootless-check .ensures) (at-is-refused .is-refused .ensures) (at-if1 .if1 .left)) _
+    check-columns _ _ _ _ _ _ _ _ (good-told (at-rootless-check .rootless-check .ensures) (at-is-refused .is-refused .ensures) (at-if1 .if1 .left)) _
     (at-prepare-check .prepare-check .ensures) (bad-told (at-prepare-check .prepare-check .ensures) (at-is-refused2 .is-refused2 .ensures)
     (c .if2 .taken))
 
@@ -49,7 +48,7 @@ returns-3 c =
     let at-if1 = at-prepare-check .before in
     let at-is-refused = at-if1 .before in
     let at-rootless-check = at-is-refused .before in
-    check-stores goldilocks _ _ _ _ _ _ _ (good-told (at-rootless-check .rootless-check .ensures) (at-is-refused .is-refused .ensures) (at-if1 .if1 .left))
+    check-stores _ _ _ _ _ _ _ _ (good-told (at-rootless-check .rootless-check .ensures) (at-is-refused .is-refused .ensures) (at-if1 .if1 .left))
     (good-told (at-prepare-check .prepare-check .ensures) (at-is-refused2 .is-refused2 .ensures) (at-if2 .if2 .left)) _ (at-lower-stores .lower-stores .ensures)
     (bad-told (at-lower-stores .lower-stores .ensures) (at-is-refused3 .is-refused3 .ensures) (c .if3 .taken))
 
@@ -68,7 +67,7 @@ returns-4 c =
     let at-if1 = at-prepare-check .before in
     let at-is-refused = at-if1 .before in
     let at-rootless-check = at-is-refused .before in
-    check-period goldilocks _ _ _ _ _ _ _ (good-told (at-rootless-check .rootless-check .ensures) (at-is-refused .is-refused .ensures) (at-if1 .if1 .left))
+    check-period _ _ _ _ _ _ _ _ (good-told (at-rootless-check .rootless-check .ensures) (at-is-refused .is-refused .ensures) (at-if1 .if1 .left))
     (good-told (at-prepare-check .prepare-check .ensures) (at-is-refused2 .is-refused2 .ensures) (at-if2 .if2 .left)) _
     (good-told (at-lower-stores .lower-stores .ensures) (at-is-refused3 .is-refused3 .ensures) (at-if3 .if3 .left))
     (sym (not-true _ (c .if4 .taken)) ∙ at-period-good .period-good .ensures)
@@ -85,7 +84,7 @@ returns-5 c =
     let at-if1 = at-prepare-check .before in
     let at-is-refused = at-if1 .before in
     let at-rootless-check = at-is-refused .before in
-    check-period goldilocks _ _ _ _ _ _ _ (good-told (at-rootless-check .rootless-check .ensures) (at-is-refused .is-refused .ensures) (at-if1 .if1 .left))
+    check-period _ _ _ _ _ _ _ _ (good-told (at-rootless-check .rootless-check .ensures) (at-is-refused .is-refused .ensures) (at-if1 .if1 .left))
     (good-told (at-prepare-check .prepare-check .ensures) (at-is-refused2 .is-refused2 .ensures) (at-if2 .if2 .left)) _
     (good-told (at-lower-stores .lower-stores .ensures) (at-is-refused3 .is-refused3 .ensures) (at-if3 .if3 .left))
     (sym (not-false _ (c .if4 .left)) ∙ at-period-good .period-good .ensures)

@@ -1,4 +1,3 @@
-use Rattle.field.specs.Fields.{goldilocks}
 use mathlib.Core.Path.{_∙_, ap}
 use native.Mathlib.Omega.{arith}
 use Rattle.dag.specs.Store.{front}
@@ -12,7 +11,7 @@ use Rattle.lower.proofs.store_list.Tie as tie
 copy-records-requires : tie.Need-copy-records-requires
 copy-records-requires c κs =
     let start = c .before .before .before in
-    (start .pre .0 .room, words-room (start .args .store .now) (start .args .n) (omega (arith, start .pre .1, start .pre .2)))
+    (start .pre .0 .1 .room, words-room (start .args .store .now) (start .args .n) (omega (arith, start .pre .1, start .pre .2)))
 
 sub-index-list : tie.Need-sub-index-list
 sub-index-list c = search needs
@@ -34,8 +33,8 @@ returns c =
     let at-index-list = c .before .before in
     let at-copy-records = at-index-list .before .before .before .before in
     let start = at-copy-records .before .before .before .before in
-    stored-list goldilocks (start .args .n) (start .pre .1) (start .args .list .now) _ _
-    (ap (front (start .args .n)) (at-copy-records .copy-records .ensures) ∙ front-copied (start .args .list .now) (start .args .store .now) (start .args .n) (start .pre .0 .room))
+    stored-list (start .args .n) (start .pre .1) (start .args .list .now) _ _
+    (ap (front (start .args .n)) (at-copy-records .copy-records .ensures) ∙ front-copied (start .args .list .now) (start .args .store .now) (start .args .n) (start .pre .0 .1 .room))
     (at-copy-records .copy-records .kept .1 .1 .0 ∙ start .pre .2) (at-index-list .index-list .ensures) (at-index-list .index-list .kept .1 .1 .0)
 
 pub store-list-spec : {M : Type 1} → statement M

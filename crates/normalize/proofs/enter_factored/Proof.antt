@@ -1,4 +1,4 @@
-use Rattle.field.specs.Fields.{goldilocks}
+use Rattle.field.specs.Fields.{fieldOf}
 use Rattle.plan.specs.declared.Plan.the-variants.{Factored}
 use Rattle.normalize.specs.EnterLaws as Enter
 use mathlib.Core.Path.{refl}
@@ -20,10 +20,10 @@ push-requires c κs =
     let at-mapped2 = c .before in
     let at-mapped = at-mapped2 .before in
     let start = at-mapped .before .before .before .before .before .before in (
-      Enter.inner-request goldilocks (start .args .work .now) (start .args .count) (start .args .map .now) (start .pre .0 .0) (start .args .x)
+      Enter.inner-request (fieldOf (start .args .prime)) (start .args .work .now) (start .args .count) (start .args .map .now) (start .pre .0 .0) (start .args .x)
           (Factored (start .args .factor) (start .args .a) (start .args .b)) (start .pre .0 .1) _ _ _ refl _ _ (at-mapped .mapped .ensures)
           (at-mapped2 .mapped2 .ensures) _ (c .like .ensures),
-      Enter.push-room goldilocks (start .args .work .now) (start .args .count) (start .args .map .now)
+      Enter.push-room (fieldOf (start .args .prime)) (start .args .work .now) (start .args .count) (start .args .map .now)
           (start .pre .0 .0) (start .args .x) (Factored (start .args .factor) (start .args .a) (start .args .b)) (start .pre .0 .1) _ (start .pre .1),
     )
 
@@ -37,10 +37,10 @@ push-requires-2 c κs =
     let at-mapped2 = at-like .before in
     let at-mapped = at-mapped2 .before in
     let start = at-mapped .before .before .before .before .before .before in
-    Enter.outer-request goldilocks (start .args .work .now) (start .args .count) (start .args .map .now) (start .pre .0 .0) (start .args .x)
+    Enter.outer-request (fieldOf (start .args .prime)) (start .args .work .now) (start .args .count) (start .args .map .now) (start .pre .0 .0) (start .args .x)
     (Factored (start .args .factor) (start .args .a) (start .args .b)) (start .pre .0 .1) _ _ _ refl _ _ (at-mapped .mapped .ensures)
     (at-mapped2 .mapped2 .ensures) _ (at-like .like .ensures) _ _ (at-push .push .ensures .pushed) _ (c .mapped3 .ensures)
-    (start .args .links .now) _ (start .pre .1) (at-push .push .ensures .index) (at-push .push .kept .1 .1 .0)
+    (start .args .links .now) _ (start .pre .1) (at-push .push .ensures .index) (at-push .push .kept .1 .1 .1 .0)
 
 same-length : tie.Need-same-length
 same-length c = search needs
@@ -57,7 +57,7 @@ returns c =
     let at-mapped2 = at-like .before in
     let at-mapped = at-mapped2 .before in
     let start = at-mapped .before .before .before .before .before .before in (
-      Enter.factored-planned goldilocks (start .args .work .now) (start .args .count) (start .args .map .now) (start .pre .0 .0) (start .args .x)
+      Enter.factored-planned (fieldOf (start .args .prime)) (start .args .work .now) (start .args .count) (start .args .map .now) (start .pre .0 .0) (start .args .x)
           (Factored (start .args .factor) (start .args .a) (start .args .b)) (start .pre .0 .1) _ _ _ refl _ _ (at-mapped .mapped .ensures)
           (at-mapped2 .mapped2 .ensures) _ (at-like .like .ensures) _ _ (at-push .push .ensures .pushed) _ (at-mapped3 .mapped3 .ensures) _ _
           (at-push2 .push2 .ensures .pushed),

@@ -1,4 +1,4 @@
-use Rattle.field.specs.Fields.{goldilocks}
+use Rattle.field.specs.Fields.{fieldOf}
 use Rattle.field.specs.Field.{Below}
 use Rattle.dag.specs.WellFormedLaws.{fine-any}
 use Rattle.normalize.specs.EnterLaws as Enter
@@ -15,7 +15,7 @@ enter-factored-requires c κs =
     let start = at-plan .before .before .before .before .before in (
       (
         (start .pre .0 .0),
-        Enter.entering-as goldilocks (start .args .work .now) (start .args .count) (start .args .map .now) (start .pre .0 .0) (start .args .x)
+        Enter.entering-as (fieldOf (start .args .prime)) (start .args .work .now) (start .args .count) (start .args .map .now) (start .pre .0 .0) (start .args .x)
             (start .args .plan) (start .pre .0 .1) (at-plan .plan .given .1),
       ),
       (start .pre .1),
@@ -28,14 +28,14 @@ mapped-requires : tie.Need-mapped-requires
 mapped-requires c κs =
     let at-plan2 = c .before .before .before in
     let start = at-plan2 .before .before .before .before .before in
-    Enter.rotated-fit goldilocks (start .args .work .now) (start .args .count) (start .args .map .now) (start .pre .0 .0) (start .args .x) (start .args .plan)
+    Enter.rotated-fit (fieldOf (start .args .prime)) (start .args .work .now) (start .args .count) (start .args .map .now) (start .pre .0 .0) (start .args .x) (start .args .plan)
     (start .pre .0 .1) _ _ (at-plan2 .plan2 .given .1) .0
 
 mapped-requires-2 : tie.Need-mapped-requires-2
 mapped-requires-2 c κs =
     let at-plan2 = c .before .before .before .before in
     let start = at-plan2 .before .before .before .before .before in
-    Enter.rotated-fit goldilocks (start .args .work .now) (start .args .count) (start .args .map .now) (start .pre .0 .0) (start .args .x) (start .args .plan)
+    Enter.rotated-fit (fieldOf (start .args .prime)) (start .args .work .now) (start .args .count) (start .args .map .now) (start .pre .0 .0) (start .args .x) (start .args .plan)
     (start .pre .0 .1) _ _ (at-plan2 .plan2 .given .1) .1
 
 like-requires : tie.Need-like-requires
@@ -47,9 +47,9 @@ push-requires c κs =
     let at-mapped = at-mapped2 .before in
     let at-plan2 = at-mapped .before .before .before .before in
     let start = at-plan2 .before .before .before .before .before in (
-      Enter.rotated-request goldilocks (start .args .work .now) (start .args .count) (start .args .map .now) (start .pre .0 .0) (start .args .x) (start .args .plan)
+      Enter.rotated-request (fieldOf (start .args .prime)) (start .args .work .now) (start .args .count) (start .args .map .now) (start .pre .0 .0) (start .args .x) (start .args .plan)
           (start .pre .0 .1) _ _ (at-plan2 .plan2 .given .1) _ _ (at-mapped .mapped .ensures) (at-mapped2 .mapped2 .ensures) _ (c .like .ensures),
-      Enter.push-room goldilocks (start .args .work .now) (start .args .count) (start .args .map .now) (start .pre .0 .0) (start .args .x) (start .args .plan)
+      Enter.push-room (fieldOf (start .args .prime)) (start .args .work .now) (start .args .count) (start .args .map .now) (start .pre .0 .0) (start .args .x) (start .args .plan)
           (start .pre .0 .1) _ (start .pre .1),
     )
 
@@ -59,15 +59,15 @@ enum-told c = search needs
 renamed-requires : tie.Need-renamed-requires
 renamed-requires c κs =
     let start = c .before .before .before .before .before .before .before in
-    fine-any Below _ _ (Enter.record-fits goldilocks (start .args .work .now) (start .args .count) (start .args .map .now) (start .pre .0 .0) (start .args .x)
+    fine-any (Below (start .args .prime)) _ _ (Enter.record-fits (fieldOf (start .args .prime)) (start .args .work .now) (start .args .count) (start .args .map .now) (start .pre .0 .0) (start .args .x)
     (start .args .plan) (start .pre .0 .1))
 
 push-requires-2 : tie.Need-push-requires-2
 push-requires-2 c κs =
     let start = c .before .before .before .before .before .before .before .before in (
-      rw (c .renamed .ensures) (Enter.plain-request goldilocks (start .args .work .now) (start .args .count) (start .args .map .now) (start .pre .0 .0)
+      rw (c .renamed .ensures) (Enter.plain-request (fieldOf (start .args .prime)) (start .args .work .now) (start .args .count) (start .args .map .now) (start .pre .0 .0)
           (start .args .x) (start .args .plan) (start .pre .0 .1)),
-      Enter.push-room goldilocks (start .args .work .now) (start .args .count) (start .args .map .now)
+      Enter.push-room (fieldOf (start .args .prime)) (start .args .work .now) (start .args .count) (start .args .map .now)
           (start .pre .0 .0) (start .args .x) (start .args .plan) (start .pre .0 .1) _ (start .pre .1),
     )
 
@@ -82,7 +82,7 @@ returns c =
     let at-enter-factored = c .before .before .before .before in
     let at-plan = at-enter-factored .before .before .before .before in
     let start = at-plan .before .before .before .before .before in (
-      Enter.planned-as goldilocks (start .args .work .now) (start .args .count) (start .args .map .now) (start .pre .0 .0) (start .args .x) (start .args .plan)
+      Enter.planned-as (fieldOf (start .args .prime)) (start .args .work .now) (start .args .count) (start .args .map .now) (start .pre .0 .0) (start .args .x) (start .args .plan)
           (start .pre .0 .1) _ _ (at-plan .plan .given .1) (at-enter-factored .enter-factored .ensures .0),
       (at-enter-factored .enter-factored .ensures .1),
     )
@@ -101,7 +101,7 @@ returns-2 c =
     let at-mapped = at-mapped2 .before in
     let at-plan2 = at-mapped .before .before .before .before in
     let start = at-plan2 .before .before .before .before .before in (
-      Enter.rotated-planned goldilocks (start .args .work .now) (start .args .count) (start .args .map .now) (start .pre .0 .0) (start .args .x) (start .args .plan)
+      Enter.rotated-planned (fieldOf (start .args .prime)) (start .args .work .now) (start .args .count) (start .args .map .now) (start .pre .0 .0) (start .args .x) (start .args .plan)
           (start .pre .0 .1) _ _ (at-plan2 .plan2 .given .1) _ _ (at-mapped .mapped .ensures) (at-mapped2 .mapped2 .ensures) _ (at-like .like .ensures) _
           _ (at-push .push .ensures .pushed),
       (at-push .push .ensures .index),
@@ -119,7 +119,7 @@ returns-3 c =
     let at-renamed = at-push2 .before in
     let at-enum-told = at-renamed .before .before .before in
     let start = at-enum-told .before .before .before .before .before in (
-      Enter.plain-planned goldilocks (start .args .work .now) (start .args .count) (start .args .map .now) (start .pre .0 .0) (start .args .x) (start .args .plan)
+      Enter.plain-planned (fieldOf (start .args .prime)) (start .args .work .now) (start .args .count) (start .args .map .now) (start .pre .0 .0) (start .args .x) (start .args .plan)
           (start .pre .0 .1) (at-enum-told .enum-told .given .1) _ _ (rw (at-renamed .renamed .ensures) at (at-push2 .push2 .ensures .pushed)),
       (at-push2 .push2 .ensures .index),
     )

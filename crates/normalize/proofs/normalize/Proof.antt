@@ -1,4 +1,4 @@
-use Rattle.field.specs.Fields.{goldilocks}
+use Rattle.field.specs.Fields.{fieldOf}
 use Rattle.dag.specs.CheckLaws.{good-told, bad-told}
 use Rattle.normalize.specs.CallLaws.{passed, normalize-refused, normalize-done}
 use mathlib.Core.Path.{_∙_, ap₂}
@@ -30,9 +30,9 @@ returns c =
     let at-rooms = at-check .before in
     let start = at-rooms .before .before .before .before .before .before .before in
     let told = at-check .normalize-check .ensures
-    ∙ ap₂ (normalizeCheck goldilocks (interleaved (start .args .list .now)) (start .args .n) (start .args .root)) (at-rooms .before .before .room .ensures) (at-rooms .room2 .ensures) in
+    ∙ ap₂ (normalizeCheck (fieldOf (start .args .prime)) (interleaved (start .args .list .now)) (start .args .n) (start .args .root)) (at-rooms .before .before .room .ensures) (at-rooms .room2 .ensures) in
     let bad = bad-told told (at-is-refused .is-refused .ensures) (c .before .if1 .taken) in
-    let h = normalize-refused goldilocks (start .args .list .now) (start .args .n) (start .args .root) (start .args .result .now) (start .args .work .now) _ _
+    let h = normalize-refused (fieldOf (start .args .prime)) (start .args .list .now) (start .args .n) (start .args .root) (start .args .result .now) (start .args .work .now) _ _
     told bad (c .no-roots .ensures) in (h .answer, (h .list-is, h .work-is))
 
 one-root-requires : tie.Need-one-root-requires
@@ -46,10 +46,10 @@ normalize-ready-requires c κs =
     let at-rooms = at-check .before in
     let start = at-rooms .before .before .before .before .before .before .before in
     let told = at-check .normalize-check .ensures
-    ∙ ap₂ (normalizeCheck goldilocks (interleaved (start .args .list .now)) (start .args .n) (start .args .root)) (at-rooms .before .before .room .ensures) (at-rooms .room2 .ensures) in
+    ∙ ap₂ (normalizeCheck (fieldOf (start .args .prime)) (interleaved (start .args .list .now)) (start .args .n) (start .args .root)) (at-rooms .before .before .room .ensures) (at-rooms .room2 .ensures) in
     let good = good-told told (at-is-refused .is-refused .ensures) (at-one-root .before .if1 .left) in
     rw (at-one-root .one-root .ensures)
-    (passed goldilocks (start .args .list .now) (start .args .n) (start .args .root) (interleaved (start .args .result .now) .room) (interleaved (start .args .work .now) .room) good)
+    (passed (fieldOf (start .args .prime)) (start .args .list .now) (start .args .n) (start .args .root) (interleaved (start .args .result .now) .room) (interleaved (start .args .work .now) .room) good)
 
 same-length : tie.Need-same-length
 same-length c = search needs
@@ -72,9 +72,9 @@ returns-2 c =
     let at-rooms = at-check .before in
     let start = at-rooms .before .before .before .before .before .before .before in
     let told = at-check .normalize-check .ensures
-    ∙ ap₂ (normalizeCheck goldilocks (interleaved (start .args .list .now)) (start .args .n) (start .args .root)) (at-rooms .before .before .room .ensures) (at-rooms .room2 .ensures) in
+    ∙ ap₂ (normalizeCheck (fieldOf (start .args .prime)) (interleaved (start .args .list .now)) (start .args .n) (start .args .root)) (at-rooms .before .before .room .ensures) (at-rooms .room2 .ensures) in
     let good = good-told told (at-is-refused .is-refused .ensures) (at-one-root .before .if1 .left) in
-    let h = normalize-done goldilocks (start .args .list .now) (start .args .n) (start .args .root) (start .args .result .now) (start .args .work .now) _ _ _
+    let h = normalize-done (fieldOf (start .args .prime)) (start .args .list .now) (start .args .n) (start .args .root) (start .args .result .now) (start .args .work .now) _ _ _
     good (rw (at-one-root .one-root .ensures) at (at-ready .normalize-ready .ensures)) in (h .answer, (h .list-is, h .work-is))
 
 pub normalize-spec : {M : Type 1} → statement M

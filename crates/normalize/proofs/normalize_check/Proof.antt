@@ -1,4 +1,3 @@
-use Rattle.field.specs.Fields.{goldilocks}
 use Rattle.normalize.specs.Calls as Calls
 use Rattle.dag.specs.PassLaws.{rooted}
 use Rattle.dag.specs.CheckLaws.{refused-then, good-told, bad-told}
@@ -18,7 +17,7 @@ unfolding Calls.normalizeCheck
 returns c = c .before .before .list-check .ensures ∙ refused-then _ _ (bad-told (c .before .before .list-check .ensures) (c .before .is-refused .ensures) (c .if1 .taken))
 
 normalize-stores-requires : tie.Need-normalize-stores-requires
-normalize-stores-requires c κs = rooted (goldilocks .bounds) _ _ _ (good-told (c .before .before .list-check .ensures) (c .before .is-refused .ensures) (c .if1 .left)) .list .most
+normalize-stores-requires c κs = rooted _ _ _ _ (good-told (c .before .before .list-check .ensures) (c .before .is-refused .ensures) (c .if1 .left)) .list .most
 
 returns-2 : tie.Need-returns-2
 unfolding Calls.normalizeCheck

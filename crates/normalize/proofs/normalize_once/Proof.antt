@@ -1,7 +1,7 @@
 use mathlib.Core.Path.{refl, _∙_}
 use native.Mathlib.Omega.{arith}
 use borrow.Author.Tests.{not-true, not-false}
-use Rattle.field.specs.Fields.{goldilocks}
+use Rattle.field.specs.Fields.{fieldOf}
 use Rattle.dag.specs.RootLaws.{inside-mono}
 use Rattle.normalize.specs.OnceLaws as Rounded
 use borrow.Author.Needs.{needs}
@@ -15,13 +15,13 @@ fanout-requires : tie.Need-fanout-requires
 fanout-requires c κs =
     let at-fill = c .before .before .before .before in
     let start = at-fill .before .before .before .before .before .before .before .before in
-    Rounded.counting goldilocks (start .pre .0) (start .pre .1) _ (at-fill .fill .ensures)
+    Rounded.counting (fieldOf (start .args .prime)) (start .pre .0) (start .pre .1) _ (at-fill .fill .ensures)
 
 index-list-requires : tie.Need-index-list-requires
 index-list-requires c κs =
     let at-fanout = c .before .before .before .before in
     let start = at-fanout .before .before .before .before .before .before .before .before .before .before .before .before .before in
-    Rounded.indexable goldilocks (start .pre .0) (start .pre .1)
+    Rounded.indexable (fieldOf (start .args .prime)) (start .pre .0) (start .pre .1)
 
 round-requires : tie.Need-round-requires
 round-requires c κs =
@@ -29,8 +29,8 @@ round-requires c κs =
     let at-fanout = at-index-list .before .before .before .before .before in
     let at-fill = at-fanout .before .before .before .before .before in
     let start = at-fill .before .before .before .before .before .before .before .before in
-    let u = Rounded.linkable goldilocks (start .pre .0) (start .pre .1) in (
-      Rounded.rounding goldilocks (start .pre .0) (start .pre .1) _ _ (at-fanout .fanout .kept .1 .1 .1 .0 ∙ at-fill .fill .kept .0) refl,
+    let u = Rounded.linkable (fieldOf (start .args .prime)) (start .pre .0) (start .pre .1) in (
+      Rounded.rounding (fieldOf (start .args .prime)) (start .pre .0) (start .pre .1) _ _ (at-fanout .fanout .kept .1 .1 .1 .0 ∙ at-fill .fill .kept .0) refl,
       at-index-list .index-list .ensures,
       u .0,
       u .1,
@@ -59,13 +59,13 @@ returns c =
     let at-round = c .before .before .before .before .before .before .before .before in
     let at-fanout = at-round .before .before .before .before .before .before .before .before .before .before .before .before .before .before in
     let start = at-fanout .before .before .before .before .before .before .before .before .before .before .before .before .before in
-    Rounded.not-fired goldilocks (start .pre .0) (at-round .round .ensures) (at-fanout .fanout .ensures) (not-true _ (c .if1 .taken))
+    Rounded.not-fired (fieldOf (start .args .prime)) (start .pre .0) (at-round .round .ensures) (at-fanout .fanout .ensures) (not-true _ (c .if1 .taken))
 
 renamed-roots-requires : tie.Need-renamed-roots-requires
 renamed-roots-requires c κs =
     let at-round = c .before .before .before .before .before .before .before .before .before in
     let start = at-round .before .before .before .before .before .before .before .before .before .before .before .before .before .before .before .before .before .before .before .before .before .before .before .before .before .before .before in
-    inside-mono _ _ (start .pre .0 .rooted .inside) _ (omega (arith, at-round .round .kept .1 .1 .1 .1 .1 .1 .0, start .pre .1 .places-long))
+    inside-mono _ _ (start .pre .0 .rooted .inside) _ (omega (arith, at-round .round .kept .1 .1 .1 .1 .1 .1 .1 .0, start .pre .1 .places-long))
 
 slice-aggregate-number-reachable : tie.Need-slice-aggregate-number-reachable
 slice-aggregate-number-reachable c = search needs
@@ -77,8 +77,8 @@ number-reachable-requires c κs =
     let at-index-list = at-round .before .before .before .before .before .before .before .before .before in
     let at-fanout = at-index-list .before .before .before .before .before in
     let start = at-fanout .before .before .before .before .before .before .before .before .before .before .before .before .before in
-    let h = Rounded.round-short goldilocks (start .pre .0) (at-round .round .ensures) (at-fanout .fanout .ensures) in (
-      Rounded.markable goldilocks (start .pre .0) (at-round .round .ensures) (at-fanout .fanout .ensures) (at-renamed .renamed-roots .ensures),
+    let h = Rounded.round-short (fieldOf (start .args .prime)) (start .pre .0) (at-round .round .ensures) (at-fanout .fanout .ensures) in (
+      Rounded.markable (fieldOf (start .args .prime)) (start .pre .0) (at-round .round .ensures) (at-fanout .fanout .ensures) (at-renamed .renamed-roots .ensures),
       refl,
       omega (arith, h, at-index-list .index-list .kept .1 .1 .0, start .pre .1 .own-long),
     )
@@ -111,7 +111,7 @@ returns-2 c =
     let at-round = at-renamed .before .before .before .before .before .before .before .before .before .before in
     let at-fanout = at-round .before .before .before .before .before .before .before .before .before .before .before .before .before .before in
     let start = at-fanout .before .before .before .before .before .before .before .before .before .before .before .before .before in
-    Rounded.no-shorter goldilocks (start .pre .0) (at-round .round .ensures) (at-fanout .fanout .ensures) (at-renamed .renamed-roots .ensures)
+    Rounded.no-shorter (fieldOf (start .args .prime)) (start .pre .0) (at-round .round .ensures) (at-fanout .fanout .ensures) (at-renamed .renamed-roots .ensures)
     (at-number-reachable .number-reachable .ensures .0) (omega (arith, c .if2 .taken))
 
 slice-aggregate-write-numbered : tie.Need-slice-aggregate-write-numbered
@@ -127,7 +127,7 @@ write-numbered-requires c κs =
     let at-fanout = at-round .before .before .before .before .before .before .before .before .before .before .before .before .before .before in
     let start = at-fanout .before .before .before .before .before .before .before .before .before .before .before .before .before in (
       at-number-reachable .number-reachable .ensures .1,
-      Rounded.write-fits goldilocks (start .pre .0) (at-round .round .ensures) (at-fanout .fanout .ensures) (at-renamed .renamed-roots .ensures)
+      Rounded.write-fits (fieldOf (start .args .prime)) (start .pre .0) (at-round .round .ensures) (at-fanout .fanout .ensures) (at-renamed .renamed-roots .ensures)
           (at-number-reachable .number-reachable .ensures .0) (omega (arith, at-if2 .if2 .left)),
     )
 
@@ -166,7 +166,7 @@ returns-3 c =
     let at-round = at-if1 .before .before .before .before .before .before .before .before in
     let at-fanout = at-round .before .before .before .before .before .before .before .before .before .before .before .before .before .before in
     let start = at-fanout .before .before .before .before .before .before .before .before .before .before .before .before .before in
-    Rounded.kept-once goldilocks (start .pre .0) (at-round .round .ensures) (at-fanout .fanout .ensures) (at-renamed .renamed-roots .ensures)
+    Rounded.kept-once (fieldOf (start .args .prime)) (start .pre .0) (at-round .round .ensures) (at-fanout .fanout .ensures) (at-renamed .renamed-roots .ensures)
     (at-number-reachable .number-reachable .ensures .0) (not-false _ (at-if1 .if1 .left)) (omega (arith, at-if2 .if2 .left))
     (at-write-numbered .write-numbered .ensures .0) (at-write-numbered .write-numbered .ensures .1)
 

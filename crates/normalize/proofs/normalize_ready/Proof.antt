@@ -1,5 +1,5 @@
 use mathlib.Core.Path.{_∙_}
-use Rattle.field.specs.Fields.{goldilocks}
+use Rattle.field.specs.Fields.{fieldOf}
 use Rattle.normalize.specs.CallLaws.{copied-ready, finished}
 use borrow.Author.Needs.{needs}
 use Rattle.normalize.proofs.normalize_ready.Statement.{statement}
@@ -12,7 +12,7 @@ normalize-sized-requires : tie.Need-normalize-sized-requires
 normalize-sized-requires c κs =
     let at-copy-records = c .before .before .before .before in
     let start = at-copy-records .before .before .before .before .before in
-    copied-ready goldilocks (start .pre) (start .args .result .now) (at-copy-records .copy-records .ensures)
+    copied-ready (fieldOf (start .args .prime)) (start .pre) (start .args .result .now) (at-copy-records .copy-records .ensures)
 
 blank-records-requires : tie.Need-blank-records-requires
 blank-records-requires c κs = search needs
@@ -33,9 +33,9 @@ returns c =
     let at-sized = at-blank-records .before .before .before .before .before .before in
     let at-copy-records = at-sized .before .before .before .before .before in
     let start = at-copy-records .before .before .before .before .before in
-    finished goldilocks (start .pre) (start .args .result .now) (at-copy-records .copy-records .ensures) (at-sized .normalize-sized .ensures)
-    (at-sized .normalize-sized .kept .1 .1 .0 ∙ at-copy-records .copy-records .kept .1 .1 .0) (at-sized .normalize-sized .last .1 .1 .1 .0)
-    (at-blank-records .blank-records .ensures) (at-sized .normalize-sized .kept .1 .1 .1 .0) (at-blank-from .blank-from .ensures)
+    finished (fieldOf (start .args .prime)) (start .pre) (start .args .result .now) (at-copy-records .copy-records .ensures) (at-sized .normalize-sized .ensures)
+    (at-sized .normalize-sized .kept .1 .1 .1 .0 ∙ at-copy-records .copy-records .kept .1 .1 .0) (at-sized .normalize-sized .last .1 .1 .1 .1 .0)
+    (at-blank-records .blank-records .ensures) (at-sized .normalize-sized .kept .1 .1 .1 .1 .0) (at-blank-from .blank-from .ensures)
 
 pub normalize-ready-spec : {M : Type 1} → statement M
 normalize-ready-spec =

@@ -5,7 +5,7 @@ use lib.ListN.{length}
 use Prim.Native.Nat.{_*_}
 use lib.Seq.{length-take-le, length-front}
 use Rattle.dag.specs.ViewLaws.{same-room}
-use Rattle.field.specs.Fields.{goldilocks}
+use Rattle.field.specs.Fields.{fieldOf}
 use Rattle.normalize.specs.OnceLaws.{scratch-part}
 use Rattle.normalize.specs.CallLaws.{running-begins, running-ready, running-on, fewer, ended}
 use Rattle.normalize.specs.Contracts.{Running}
@@ -13,8 +13,8 @@ use Rattle.normalize.proofs.normalize_rounds.Statement.{statement}
 use Rattle.normalize.proofs.normalize_rounds.Tie as tie
 
 abbrev Inv-loop : tie.InvT-loop
-Inv-loop n result₀ work₀ fan₀ map₀ own₀ links₀ count₀ places₀ rounds₀ result work fan map own links count places rounds =
-    Running goldilocks result₀ n places₀ result count places rounds
+Inv-loop prime n result₀ work₀ fan₀ map₀ own₀ links₀ count₀ places₀ rounds₀ result work fan map own links count places rounds =
+    Running (fieldOf prime) result₀ n places₀ result count places rounds
     × (length result ≡ length result₀)
     × (length work ≡ length work₀)
     × (length fan ≡ length fan₀)
@@ -23,12 +23,12 @@ Inv-loop n result₀ work₀ fan₀ map₀ own₀ links₀ count₀ places₀ ro
     × (length links ≡ length links₀)
 
 abbrev μ-loop : tie.MeasureT-loop
-μ-loop n result₀ work₀ fan₀ map₀ own₀ links₀ count₀ places₀ rounds₀ result work fan map own links count places rounds = count
+μ-loop prime n result₀ work₀ fan₀ map₀ own₀ links₀ count₀ places₀ rounds₀ result work fan map own links count places rounds = count
 
 loop-holds : tie.Need-loop-holds Inv-loop μ-loop
 loop-holds c =
     let start = c .before .before .before .before .before .before in
-    (running-begins goldilocks (start .pre .0), refl, refl, refl, refl, refl, refl)
+    (running-begins (fieldOf (start .args .prime)) (start .pre .0), refl, refl, refl, refl, refl, refl)
 
 slice-relend-prefix-normalize-once : tie.Need-slice-relend-prefix-normalize-once Inv-loop μ-loop
 slice-relend-prefix-normalize-once c =
@@ -95,7 +95,7 @@ normalize-once-requires c κs =
     let at-loop = c .before .before .before .before .before .before in
     let start = at-loop .before .before .before .before .before .before .before in
     let inv = at-loop .loop .inv in (
-      running-ready goldilocks (inv .0) _ (start .pre .0 .few) (rw (same-room (at-loop .loop .work) (start .args .work .now) (inv .2)) (start .pre .0 .room)),
+      running-ready (fieldOf (start .args .prime)) (inv .0) _ (start .pre .0 .few) (rw (same-room (at-loop .loop .work) (start .args .work .now) (inv .2)) (start .pre .0 .room)),
       scratch-part (start .pre .1) _ (omega (arith, inv .0 .lost)) _ _ _ _ (inv .3) (inv .4) (inv .5) (inv .6),
     )
 
@@ -103,43 +103,43 @@ same-length : tie.Need-same-length Inv-loop μ-loop
 same-length c =
     let at-once = c .before .before .before .before .before .before .before .before .before .before .before .before .before .before in
     let at-loop = at-once .before .before .before .before .before .before .before in
-    at-once .normalize-once .kept .0 ∙ at-loop .loop .inv .1
+    at-once .normalize-once .kept .1 .0 ∙ at-loop .loop .inv .1
 
 same-length-2 : tie.Need-same-length-2 Inv-loop μ-loop
 same-length-2 c =
     let at-once = c .before .before .before .before .before .before .before .before .before .before .before .before .before .before in
     let at-loop = at-once .before .before .before .before .before .before .before in
-    at-once .normalize-once .kept .1 .1 .1 .0 ∙ at-loop .loop .inv .2
+    at-once .normalize-once .kept .1 .1 .1 .1 .0 ∙ at-loop .loop .inv .2
 
 same-length-3 : tie.Need-same-length-3 Inv-loop μ-loop
 same-length-3 c =
     let at-once = c .before .before .before .before .before .before .before .before .before .before .before .before .before .before in
     let at-loop = at-once .before .before .before .before .before .before .before in
-    length-front (at-loop .loop .fan) (at-once .normalize-once .last .1 .1 .1 .1 .0) (at-loop .loop .count) (at-once .normalize-once .kept .1 .1 .1 .1 .0) ∙ at-loop .loop .inv .3
+    length-front (at-loop .loop .fan) (at-once .normalize-once .last .1 .1 .1 .1 .1 .0) (at-loop .loop .count) (at-once .normalize-once .kept .1 .1 .1 .1 .1 .0) ∙ at-loop .loop .inv .3
 
 same-length-4 : tie.Need-same-length-4 Inv-loop μ-loop
 same-length-4 c =
     let at-once = c .before .before .before .before .before .before .before .before .before .before .before .before .before .before in
     let at-loop = at-once .before .before .before .before .before .before .before in
-    length-front (at-loop .loop .map) (at-once .normalize-once .last .1 .1 .1 .1 .1 .0) (at-loop .loop .count) (at-once .normalize-once .kept .1 .1 .1 .1 .1 .0) ∙ at-loop .loop .inv .4
+    length-front (at-loop .loop .map) (at-once .normalize-once .last .1 .1 .1 .1 .1 .1 .0) (at-loop .loop .count) (at-once .normalize-once .kept .1 .1 .1 .1 .1 .1 .0) ∙ at-loop .loop .inv .4
 
 same-length-5 : tie.Need-same-length-5 Inv-loop μ-loop
 same-length-5 c =
     let at-once = c .before .before .before .before .before .before .before .before .before .before .before .before .before .before in
     let at-loop = at-once .before .before .before .before .before .before .before in
-    length-front (at-loop .loop .own) (at-once .normalize-once .last .1 .1 .1 .1 .1 .1 .0) (2 * at-loop .loop .count) (at-once .normalize-once .kept .1 .1 .1 .1 .1 .1 .0) ∙ at-loop .loop .inv .5
+    length-front (at-loop .loop .own) (at-once .normalize-once .last .1 .1 .1 .1 .1 .1 .1 .0) (2 * at-loop .loop .count) (at-once .normalize-once .kept .1 .1 .1 .1 .1 .1 .1 .0) ∙ at-loop .loop .inv .5
 
 same-length-6 : tie.Need-same-length-6 Inv-loop μ-loop
 same-length-6 c =
     let at-once = c .before .before .before .before .before .before .before .before .before .before .before .before .before .before in
     let at-loop = at-once .before .before .before .before .before .before .before in
-    length-front (at-loop .loop .links) (at-once .normalize-once .last .1 .1 .1 .1 .1 .1 .1 .0) (4 * at-loop .loop .count) (at-once .normalize-once .kept .1 .1 .1 .1 .1 .1 .1 .0) ∙ at-loop .loop .inv .6
+    length-front (at-loop .loop .links) (at-once .normalize-once .last .1 .1 .1 .1 .1 .1 .1 .1 .0) (4 * at-loop .loop .count) (at-once .normalize-once .kept .1 .1 .1 .1 .1 .1 .1 .1 .0) ∙ at-loop .loop .inv .6
 
 returns : tie.Need-returns Inv-loop μ-loop
 returns c =
     let at-once = c .before .before .before .before .before .before .before .before .before .before .before .before .before .before in
     let at-loop = at-once .before .before .before .before .before .before .before in
-    ended goldilocks (at-loop .loop .inv .0) (at-once .normalize-once .ensures) (not-true _ (c .if1 .taken))
+    ended _ (at-loop .loop .inv .0) (at-once .normalize-once .ensures) (not-true _ (c .if1 .taken))
 
 add-rounds : tie.Need-add-rounds Inv-loop μ-loop
 add-rounds c =
@@ -151,19 +151,19 @@ loop-less : tie.Need-loop-less Inv-loop μ-loop
 loop-less c =
     let at-once = c .before .before .before .before .before .before .before .before .before .before .before .before .before .before .before in
     let at-loop = at-once .before .before .before .before .before .before .before in
-    fewer goldilocks (at-loop .loop .inv .0) (at-once .normalize-once .ensures) (not-false _ (c .before .if1 .left))
+    fewer _ (at-loop .loop .inv .0) (at-once .normalize-once .ensures) (not-false _ (c .before .if1 .left))
 
 loop-again : tie.Need-loop-again Inv-loop μ-loop
 loop-again c =
     let at-once = c .before .before .before .before .before .before .before .before .before .before .before .before .before .before .before in
     let at-loop = at-once .before .before .before .before .before .before .before in (
-      running-on goldilocks (at-loop .loop .inv .0) (at-once .normalize-once .ensures) (not-false _ (c .before .if1 .left)),
-      at-once .normalize-once .kept .0 ∙ at-loop .loop .inv .1,
-      at-once .normalize-once .kept .1 .1 .1 .0 ∙ at-loop .loop .inv .2,
-      length-front (at-loop .loop .fan) (at-once .normalize-once .last .1 .1 .1 .1 .0) (at-loop .loop .count) (at-once .normalize-once .kept .1 .1 .1 .1 .0) ∙ at-loop .loop .inv .3,
-      length-front (at-loop .loop .map) (at-once .normalize-once .last .1 .1 .1 .1 .1 .0) (at-loop .loop .count) (at-once .normalize-once .kept .1 .1 .1 .1 .1 .0) ∙ at-loop .loop .inv .4,
-      length-front (at-loop .loop .own) (at-once .normalize-once .last .1 .1 .1 .1 .1 .1 .0) (2 * at-loop .loop .count) (at-once .normalize-once .kept .1 .1 .1 .1 .1 .1 .0) ∙ at-loop .loop .inv .5,
-      length-front (at-loop .loop .links) (at-once .normalize-once .last .1 .1 .1 .1 .1 .1 .1 .0) (4 * at-loop .loop .count) (at-once .normalize-once .kept .1 .1 .1 .1 .1 .1 .1 .0) ∙ at-loop .loop .inv .6,
+      running-on _ (at-loop .loop .inv .0) (at-once .normalize-once .ensures) (not-false _ (c .before .if1 .left)),
+      at-once .normalize-once .kept .1 .0 ∙ at-loop .loop .inv .1,
+      at-once .normalize-once .kept .1 .1 .1 .1 .0 ∙ at-loop .loop .inv .2,
+      length-front (at-loop .loop .fan) (at-once .normalize-once .last .1 .1 .1 .1 .1 .0) (at-loop .loop .count) (at-once .normalize-once .kept .1 .1 .1 .1 .1 .0) ∙ at-loop .loop .inv .3,
+      length-front (at-loop .loop .map) (at-once .normalize-once .last .1 .1 .1 .1 .1 .1 .0) (at-loop .loop .count) (at-once .normalize-once .kept .1 .1 .1 .1 .1 .1 .0) ∙ at-loop .loop .inv .4,
+      length-front (at-loop .loop .own) (at-once .normalize-once .last .1 .1 .1 .1 .1 .1 .1 .0) (2 * at-loop .loop .count) (at-once .normalize-once .kept .1 .1 .1 .1 .1 .1 .1 .0) ∙ at-loop .loop .inv .5,
+      length-front (at-loop .loop .links) (at-once .normalize-once .last .1 .1 .1 .1 .1 .1 .1 .1 .0) (4 * at-loop .loop .count) (at-once .normalize-once .kept .1 .1 .1 .1 .1 .1 .1 .1 .0) ∙ at-loop .loop .inv .6,
     )
 
 pub normalize-rounds-spec : {M : Type 1} → statement M

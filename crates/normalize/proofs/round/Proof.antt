@@ -1,4 +1,4 @@
-use Rattle.field.specs.Fields.{goldilocks}
+use Rattle.field.specs.Fields.{fieldOf}
 use Rattle.index.specs.Index.{NodeIndex}
 use Rattle.dag.specs.View.{interleaved}
 use Rattle.dag.specs.Nodes as Nodes
@@ -14,16 +14,16 @@ use Rattle.normalize.proofs.round.Statement.{statement}
 use Rattle.normalize.proofs.round.Tie as tie
 
 abbrev Inv-loop : tie.InvT-loop
-Inv-loop list n own fan work₀ links₀ map₀ count₀ fired₀ i₀ work links map count fired i =
+Inv-loop prime list n own fan work₀ links₀ map₀ count₀ fired₀ i₀ work links map count fired i =
     (i ≤ n)
     × (length work ≡ length work₀)
     × (length map ≡ length map₀)
-    × Contracts.RoundHeld goldilocks list n fan i work map count fired
+    × Contracts.RoundHeld (fieldOf prime) list n fan i work map count fired
     × (length links ≡ length links₀)
     × NodeIndex (Nodes.nodes (interleaved work) count) links
 
 abbrev μ-loop : tie.MeasureT-loop
-μ-loop list n own fan work₀ links₀ map₀ count₀ fired₀ i₀ work links map count fired i = n - i
+μ-loop prime list n own fan work₀ links₀ map₀ count₀ fired₀ i₀ work links map count fired i = n - i
 
 clear-requires : tie.Need-clear-requires Inv-loop μ-loop
 clear-requires c κs =
@@ -32,7 +32,7 @@ clear-requires c κs =
 
 loop-holds : tie.Need-loop-holds Inv-loop μ-loop
 unfolding Nodes.nodes
-loop-holds c = (omega arith, refl, refl, Turn.round-begins goldilocks _ _ _ _ _, refl, (c .before .before .clear .ensures))
+loop-holds c = (omega arith, refl, refl, Turn.round-begins _ _ _ _ _ _, refl, (c .before .before .clear .ensures))
 
 node-at-requires : tie.Need-node-at-requires Inv-loop μ-loop
 node-at-requires c κs =
@@ -44,7 +44,7 @@ plan-of-requires c κs =
     let at-loop-test = c .before in
     let at-loop = at-loop-test .before in
     let start = at-loop .before .before .before .before .before .before .before .before .before .before .before in (
-      Turn.turn-planning goldilocks (start .args .list .now) (start .args .n) (start .args .fan .now) (start .args .work .now) (start .args .map .now)
+      Turn.turn-planning (fieldOf (start .args .prime)) (start .args .list .now) (start .args .n) (start .args .fan .now) (start .args .work .now) (start .args .map .now)
           (start .pre .0) (at-loop .loop .i) (at-loop .loop .work) (at-loop .loop .map) (at-loop .loop .count) (at-loop .loop .fired)
           (at-loop .loop .inv .1) (at-loop .loop .inv .2) (at-loop .loop .inv .3) (at-loop-test .loop-test .taken) _
           ((c .node-at .ensures) ∙ sym (at-nodes _ _ _ (at-loop-test .loop-test .taken))),
@@ -59,12 +59,12 @@ enter-planned-requires c κs =
     let at-loop = at-loop-test .before in
     let at-clear = at-loop .before .before .before in
     let start = at-clear .before .before .before .before .before .before .before .before in
-    let h = Turn.round-count goldilocks (start .args .list .now) (start .args .n) (start .args .fan .now) (start .args .work .now) (start .args .map .now)
+    let h = Turn.round-count (fieldOf (start .args .prime)) (start .args .list .now) (start .args .n) (start .args .fan .now) (start .args .work .now) (start .args .map .now)
     (start .pre .0) (at-loop .loop .i) (at-loop .loop .work) (at-loop .loop .map) (at-loop .loop .count) (at-loop .loop .fired)
     (at-loop .loop .inv .1) (at-loop .loop .inv .2) (at-loop .loop .inv .3) in (
       (
         (at-loop .loop .i),
-        Turn.turn-entering goldilocks (start .args .list .now) (start .args .n) (start .args .fan .now) (start .args .work .now)
+        Turn.turn-entering (fieldOf (start .args .prime)) (start .args .list .now) (start .args .n) (start .args .fan .now) (start .args .work .now)
             (start .args .map .now) (start .pre .0) (at-loop .loop .i) (at-loop .loop .work) (at-loop .loop .map) (at-loop .loop .count)
             (at-loop .loop .fired) (at-loop .loop .inv .1) (at-loop .loop .inv .2) (at-loop .loop .inv .3) (at-loop-test .loop-test .taken) _
             ((at-node-at .node-at .ensures) ∙ sym (at-nodes _ _ _ (at-loop-test .loop-test .taken))) _ (at-plan-of .plan-of .ensures),
@@ -116,15 +116,15 @@ loop-again c =
     let at-loop = at-loop-test .before in
     let start = at-loop .before .before .before .before .before .before .before .before .before .before .before in (
       omega (arith, (at-loop-test .loop-test .taken)),
-      (at-enter-planned .enter-planned .kept .0) ∙ (at-loop .loop .inv .1),
+      (at-enter-planned .enter-planned .kept .1 .0) ∙ (at-loop .loop .inv .1),
       simp length-set
           (at-loop .loop .inv .2),
-      Turn.turn-held goldilocks (start .args .list .now) (start .args .n) (start .args .fan .now) (start .args .work .now)
+      Turn.turn-held (fieldOf (start .args .prime)) (start .args .list .now) (start .args .n) (start .args .fan .now) (start .args .work .now)
           (start .args .map .now) (start .pre .0) (at-loop .loop .i) (at-loop .loop .work) (at-loop .loop .map) (at-loop .loop .count)
           (at-loop .loop .fired) (at-loop .loop .inv .1) (at-loop .loop .inv .2) (at-loop .loop .inv .3) (at-loop-test .loop-test .taken) _
           ((at-node-at .node-at .ensures) ∙ sym (at-nodes _ _ _ (at-loop-test .loop-test .taken))) _ (at-plan-of .plan-of .ensures) _ _ _
           (at-enter-planned .enter-planned .ensures .0) (rw (at-fires .fires .ensures) at (c .either .ensures)),
-      (at-enter-planned .enter-planned .kept .1 .1 .0) ∙ (at-loop .loop .inv .4),
+      (at-enter-planned .enter-planned .kept .1 .1 .1 .0) ∙ (at-loop .loop .inv .4),
       (at-enter-planned .enter-planned .ensures .1),
     )
 

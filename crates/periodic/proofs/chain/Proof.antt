@@ -4,8 +4,8 @@ use mathlib.Core.List.{[], _∷_}
 use mathlib.Core.Path.{_≡_, refl, _∙_}
 use native.Mathlib.Omega.{arith}
 use lib.ListN.{length, getD}
-use Rattle.field.specs.Fields.{goldilocks}
-use Rattle.field.specs.Field.{quad}
+use Rattle.field.specs.Fields.{fieldOf}
+use Rattle.field.specs.Field.{elements}
 use Rattle.periodic.specs.Builder as Builder
 use Rattle.periodic.specs.Periodic as Periodic
 use Rattle.periodic.specs.Contracts as Said
@@ -15,17 +15,17 @@ use Rattle.periodic.proofs.chain.Statement.{statement}
 use Rattle.periodic.proofs.chain.Tie as tie
 
 abbrev Inv-loop : tie.InvT-loop
-Inv-loop list₀ n first factors k places₀ count₀ i₀ list places count i =
+Inv-loop prime list₀ n first factors k places₀ count₀ i₀ list places count i =
     (i ≤ k)
     × (k < length places)
     × (length places ≡ length places₀)
-    × Said.Listing goldilocks list₀ count₀ (Builder.turns (λ i ps. Builder.also ps (Builder.mul quad (getD ps i 0) (getD factors i 0))) i (first ∷ []))
+    × Said.Listing (fieldOf prime) list₀ count₀ (Builder.turns (λ i ps. Builder.also ps (Builder.mul (elements prime) (getD ps i 0) (getD factors i 0))) i (first ∷ []))
     list count places (i + 1)
-    × Said.Ready goldilocks list count
+    × Said.Ready (fieldOf prime) list count
     × Said.AllInside count factors
 
 abbrev μ-loop : tie.MeasureT-loop
-μ-loop list₀ n first factors k places₀ count₀ i₀ list places count i = k - i
+μ-loop prime list₀ n first factors k places₀ count₀ i₀ list places count i = k - i
 
 slice-write-places : tie.Need-slice-write-places Inv-loop μ-loop
 slice-write-places c = omega (arith, c .before .before .before .pre .4)
@@ -37,7 +37,7 @@ loop-holds c =
       omega arith,
       set-room (start .args .places .now) _ _ _ (start .pre .4),
       refl,
-      list-none goldilocks _ _ _ _ _ _ (first-place (start .args .places .now) _ h)
+      list-none (fieldOf (start .args .prime)) _ _ _ _ _ _ (first-place (start .args .places .now) _ h)
           (one-inside (start .pre .1)),
       start .pre .0,
       start .pre .2,
@@ -90,15 +90,16 @@ loop-again c =
     let at-mul = c .before .before in
     let at-loop = at-mul .before .before .before .before .before in
     let start = at-loop .before .before .before .before in
+    let field = fieldOf (start .args .prime) in
     let h : at-loop .loop .i + 1 < length (at-loop .loop .places) = omega arith in
     let j : at-loop .loop .i < at-loop .loop .i + 1 = omega arith in
-    let e = entering-at goldilocks (λ x. Builder.mul quad x (getD (start .args .factors .now) (at-loop .loop .i) 0)) _ _ _ _
+    let e = entering-at field (λ x. Builder.mul (elements (start .args .prime)) x (getD (start .args .factors .now) (at-loop .loop .i) 0)) _ _ _ _
     (word-is (at-loop .loop .places) _ _ j) (at-mul .mul .ensures) in (
       omega arith,
       set-room (at-loop .loop .places) _ _ _ (at-loop .loop .inv .1),
       set-length (at-loop .loop .places) _ _ _ (at-loop .loop .inv .2),
-      list-next goldilocks _ _ _ _ _ _ _ _ _ _ _ h (at-loop .loop .inv .3) e,
-      entered-ready goldilocks _ _ _ _ _ (at-loop .loop .inv .4) (at-mul .mul .ensures),
+      list-next field _ _ _ _ _ _ _ _ _ _ _ h (at-loop .loop .inv .3) e,
+      entered-ready field _ _ _ _ _ (at-loop .loop .inv .4) (at-mul .mul .ensures),
       all-later
           (at-mul .mul .ensures .ran .longer) (at-loop .loop .inv .5),
     )
@@ -111,7 +112,7 @@ same-length-2 c = c .before .loop .inv .2 ∙ set-length (c .before .before .bef
 
 returns : tie.Need-returns Inv-loop μ-loop
 unfolding Periodic.chain
-returns c = list-all goldilocks _ _ _ _ _ _ _ _ _ _ _ (c .before .loop .inv .0) (c .loop-test .left) (omega arith) (c .before .loop .inv .3)
+returns c = list-all _ _ _ _ _ _ _ _ _ _ _ _ (c .before .loop .inv .0) (c .loop-test .left) (omega arith) (c .before .loop .inv .3)
 
 pub chain-spec : {M : Type 1} → statement M
 chain-spec =

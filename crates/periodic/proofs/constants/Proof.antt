@@ -4,8 +4,8 @@ use mathlib.Core.List.{[]}
 use mathlib.Core.Path.{_≡_, refl}
 use native.Mathlib.Omega.{arith}
 use lib.ListN.{length, getD}
-use Rattle.field.specs.Fields.{goldilocks}
-use Rattle.field.specs.Field.{p, quad}
+use Rattle.field.specs.Fields.{fieldOf}
+use Rattle.field.specs.Field.{modulusOf, elements}
 use Rattle.periodic.specs.Builder as Builder
 use Rattle.periodic.specs.Periodic as Periodic
 use Rattle.periodic.specs.Contracts as Said
@@ -17,17 +17,17 @@ use Rattle.periodic.proofs.constants.Statement.{statement}
 use Rattle.periodic.proofs.constants.Tie as tie
 
 abbrev Inv-loop : tie.InvT-loop
-Inv-loop list₀ n numbers places₀ count₀ i₀ list places count i =
+Inv-loop prime list₀ n numbers places₀ count₀ i₀ list places count i =
     (i ≤ length numbers)
     × (length places ≡ length places₀)
-    × Said.Listing goldilocks list₀ count₀ (Builder.turns (λ j ks. Builder.also ks (Builder.constant quad (getD numbers j 0))) i []) list count places i
-    × Said.Ready goldilocks list count
+    × Said.Listing (fieldOf prime) list₀ count₀ (Builder.turns (λ j ks. Builder.also ks (Builder.constant (elements prime) (getD numbers j 0))) i []) list count places i
+    × Said.Ready (fieldOf prime) list count
 
 abbrev μ-loop : tie.MeasureT-loop
-μ-loop list₀ n numbers places₀ count₀ i₀ list places count i = length numbers - i
+μ-loop prime list₀ n numbers places₀ count₀ i₀ list places count i = length numbers - i
 
 loop-holds : tie.Need-loop-holds Inv-loop μ-loop
-loop-holds c = (omega arith, refl, list-none goldilocks _ _ _ _ _ _ refl (none-inside _), c .before .before .before .pre .0)
+loop-holds c = (omega arith, refl, list-none _ _ _ _ _ _ _ refl (none-inside _), c .before .before .before .pre .0)
 
 mul-constant : tie.Need-mul-constant Inv-loop μ-loop
 mul-constant c = omega arith
@@ -40,7 +40,7 @@ constant-requires c κs =
     let at-loop-test = c .before .before in
     let at-loop = at-loop-test .before in
     let start = at-loop .before .before .before .before in
-    (at-loop .loop .inv .3, below-at p _ _ (start .pre .1) (at-loop-test .loop-test .taken))
+    (at-loop .loop .inv .3, below-at (modulusOf (start .args .prime)) _ _ (start .pre .1) (at-loop-test .loop-test .taken))
 
 mul-places : tie.Need-mul-places Inv-loop μ-loop
 mul-places c =
@@ -68,9 +68,9 @@ loop-again c =
     let h : at-loop .loop .i < length (at-loop .loop .places) = omega (arith, start .pre .2) in (
       omega arith,
       set-length (at-loop .loop .places) _ _ _ (at-loop .loop .inv .1),
-      list-next goldilocks _ _ _ _ _ _ _ _ _ _ _ h (at-loop .loop .inv .2)
+      list-next (fieldOf (start .args .prime)) _ _ _ _ _ _ _ _ _ _ _ h (at-loop .loop .inv .2)
           (at-constant .constant .ensures),
-      entered-ready goldilocks _ _ _ _ _ (at-loop .loop .inv .3) (at-constant .constant .ensures),
+      entered-ready (fieldOf (start .args .prime)) _ _ _ _ _ (at-loop .loop .inv .3) (at-constant .constant .ensures),
     )
 
 same-length : tie.Need-same-length Inv-loop μ-loop
@@ -81,7 +81,7 @@ same-length-2 c = c .before .loop .inv .1
 
 returns : tie.Need-returns Inv-loop μ-loop
 unfolding Periodic.constants
-returns c = list-all goldilocks _ _ _ _ _ _ _ _ _ _ _ (c .before .loop .inv .0) (c .loop-test .left) (omega arith) (c .before .loop .inv .2)
+returns c = list-all _ _ _ _ _ _ _ _ _ _ _ _ (c .before .loop .inv .0) (c .loop-test .left) (omega arith) (c .before .loop .inv .2)
 
 pub constants-spec : {M : Type 1} → statement M
 constants-spec =

@@ -1,9 +1,9 @@
-use Rattle.field.specs.Fields.{goldilocks}
+use Rattle.field.specs.Fields.{fieldOf}
 use Rattle.periodic.specs.SparseLaws.{entering-same}
 use mathlib.Core.Path.{sym, ap}
 use native.Mathlib.Omega.{arith}
 use lib.ListN.{length, take}
-use Rattle.field.specs.Field.{quad}
+use Rattle.field.specs.Field.{elements}
 use Rattle.periodic.specs.Periodic as Periodic
 use Rattle.periodic.specs.RunLaws.{entered-ready, then-enter, inside-later}
 use Rattle.periodic.specs.ListLaws.{listed-ready}
@@ -29,7 +29,7 @@ slice-aggregate-constants : tie.Need-slice-aggregate-constants
 slice-aggregate-constants c =
     let at-dense = c .before .before in
     let start = at-dense .before .before .before .before .before .before .before in
-    sym (length-dense goldilocks (start .args .col .now) _ (at-dense .dense .ensures))
+    sym (length-dense (fieldOf (start .args .prime)) (start .args .col .now) _ (at-dense .dense .ensures))
 
 slice-aggregate-constants-2 : tie.Need-slice-aggregate-constants-2
 slice-aggregate-constants-2 c = search needs
@@ -38,11 +38,12 @@ constants-requires : tie.Need-constants-requires
 constants-requires c κs =
     let at-dense = c .before .before .before in
     let at-z-power = at-dense .before .before .before in
-    let start = at-z-power .before .before .before .before in (
-      entered-ready goldilocks _ _ _ _ _ (start .pre .0) (at-z-power .z-power .ensures),
-      dense-below goldilocks (start .args .col .now) _ (at-dense .dense .ensures),
+    let start = at-z-power .before .before .before .before in
+    let field = fieldOf (start .args .prime) in (
+      entered-ready field _ _ _ _ _ (start .pre .0) (at-z-power .z-power .ensures),
+      dense-below field (start .args .col .now) _ (at-dense .dense .ensures),
       le-trans
-          (le-of-eq (length-dense goldilocks (start .args .col .now) _ (at-dense .dense .ensures))) (start .pre .1 .short),
+          (le-of-eq (length-dense field (start .args .col .now) _ (at-dense .dense .ensures))) (start .pre .1 .short),
     )
 
 array-share-prefix-coeffs : tie.Need-array-share-prefix-coeffs
@@ -58,10 +59,11 @@ horner-eval-requires c κs =
     let at-constants = c .before .before .before .before .before in
     let at-dense = at-constants .before .before .before .before in
     let at-z-power = at-dense .before .before .before in
-    let start = at-z-power .before .before .before .before in (
-      listed-ready goldilocks _ _ _ _ _ _ _ (entered-ready goldilocks _ _ _ _ _ (start .pre .0) (at-z-power .z-power .ensures)) (at-constants .constants .ensures),
+    let start = at-z-power .before .before .before .before in
+    let field = fieldOf (start .args .prime) in (
+      listed-ready field _ _ _ _ _ _ _ (entered-ready field _ _ _ _ _ (start .pre .0) (at-z-power .z-power .ensures)) (at-constants .constants .ensures),
       inside-later (at-constants .constants .ensures .ran .longer) (at-z-power .z-power .ensures .inside),
-      dense-listed goldilocks (start .args .col .now) _ _ _
+      dense-listed field (start .args .col .now) _ _ _
           _ _ _ (at-dense .dense .ensures) (at-constants .constants .ensures) .inside,
     )
 
@@ -76,11 +78,12 @@ returns c =
     let at-dense = at-constants .before .before .before .before in
     let at-z-power = at-dense .before .before .before in
     let start = at-z-power .before .before .before .before in
-    let long = length-take-le (length (start .args .col .now)) (at-constants .constants .last .1 .1 .1 .0) (omega (arith, start .pre .1 .short)) in
-    then-enter goldilocks _ _ _ _ _ _ _ _ (at-z-power .z-power .ensures)
-    (then-listed goldilocks _ _ _ _ _ _ _ _ _ _ (dense-listed goldilocks (start .args .col .now) _ _ _ _ _ _ (at-dense .dense .ensures) (at-constants .constants .ensures))
-    (entering-same goldilocks _ _ _ _ _ _ (ap (λ x. Periodic.hornerEval quad (at-z-power .z-power .result .place)
-    (take (length (start .args .col .now)) (at-constants .constants .last .1 .1 .1 .0)) x) long) (at-horner-eval .horner-eval .ensures)))
+    let field = fieldOf (start .args .prime) in
+    let long = length-take-le (length (start .args .col .now)) (at-constants .constants .last .1 .1 .1 .1 .0) (omega (arith, start .pre .1 .short)) in
+    then-enter field _ _ _ _ _ _ _ _ (at-z-power .z-power .ensures)
+    (then-listed field _ _ _ _ _ _ _ _ _ _ (dense-listed field (start .args .col .now) _ _ _ _ _ _ (at-dense .dense .ensures) (at-constants .constants .ensures))
+    (entering-same field _ _ _ _ _ _ (ap (λ x. Periodic.hornerEval (elements (start .args .prime)) (at-z-power .z-power .result .place)
+    (take (length (start .args .col .now)) (at-constants .constants .last .1 .1 .1 .1 .0)) x) long) (at-horner-eval .horner-eval .ensures)))
 
 pub dense-value-spec : {M : Type 1} → statement M
 dense-value-spec =

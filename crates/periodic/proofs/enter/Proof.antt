@@ -1,7 +1,7 @@
 use mathlib.Core.Path.{_∙_}
 use native.Mathlib.Omega.{arith}
 use Rattle.dag.specs.ViewLaws.{words-room}
-use Rattle.field.specs.Fields.{goldilocks}
+use Rattle.field.specs.Fields.{fieldOf}
 use Rattle.periodic.specs.EnterLaws.{enter-long, enter-place, enter-node}
 use Rattle.periodic.specs.StoreLaws.{noted-told}
 use borrow.Author.Needs.{needs}
@@ -9,7 +9,7 @@ use Rattle.periodic.proofs.enter.Statement.{statement}
 use Rattle.periodic.proofs.enter.Tie as tie
 
 returns : tie.Need-returns
-returns c = enter-long goldilocks _ _ _ (c .if1 .taken)
+returns c = enter-long _ _ _ _ (c .if1 .taken)
 
 resolve-requires : tie.Need-resolve-requires
 resolve-requires c κs =
@@ -44,8 +44,8 @@ part-note-end c = search needs
 note-requires : tie.Need-note-requires
 note-requires c κs = search needs
 
-add-t15 : tie.Need-add-t15
-add-t15 c = search needs
+add-t16 : tie.Need-add-t16
+add-t16 c = search needs
 
 same-length : tie.Need-same-length
 same-length c = search needs
@@ -56,7 +56,7 @@ returns-2 c =
     let at-resolve = at-result .before .before in
     let at-if1 = at-resolve .before .before in
     let start = at-if1 .before .before in
-    enter-place goldilocks (start .args .list .now) (start .args .n) (start .args .x) (at-if1 .if1 .left)
+    enter-place (fieldOf (start .args .prime)) (start .args .list .now) (start .args .n) (start .args .x) (at-if1 .if1 .left)
     (record { sound = start .pre .0 .sound (at-if1 .if1 .left); fine = start .pre .1 (at-if1 .if1 .left) })
     (start .pre .0 .indexed (at-if1 .if1 .left)) _ (at-resolve .resolve .ensures) _ (at-result .result .given .1)
 
@@ -71,7 +71,7 @@ returns-3 c =
     let at-resolve = at-result2 .before .before in
     let at-if1 = at-resolve .before .before in
     let start = at-if1 .before .before in
-    enter-node goldilocks (start .args .list .now) (start .args .n) (start .args .x) (at-if1 .if1 .left)
+    enter-node (fieldOf (start .args .prime)) (start .args .list .now) (start .args .n) (start .args .x) (at-if1 .if1 .left)
     (record { sound = start .pre .0 .sound (at-if1 .if1 .left); fine = start .pre .1 (at-if1 .if1 .left) })
     (start .pre .0 .indexed (at-if1 .if1 .left)) _ (at-resolve .resolve .ensures) _ _ _ (start .pre .0 .long) (at-result2 .result2 .given .1)
     (at-put-node .put-node .ensures)
@@ -90,7 +90,7 @@ enter-spec =
     part-note-start
     part-note-end
     note-requires
-    add-t15
+    add-t16
     same-length
     returns-2
     same-length-2

@@ -2,10 +2,9 @@
 use Prim.Native.Nat.{_+_, _-_, _<_, _≤_}
 use mathlib.Core.Path.{_∙_}
 use native.Mathlib.Omega.{arith}
-use lib.Dec.{lit<}
 use lib.ListN.{length}
-use Rattle.field.specs.Fields.{goldilocks}
-use Rattle.field.specs.Field.{quad}
+use Rattle.field.specs.Fields.{fieldOf}
+use Rattle.field.specs.Field.{elements, large}
 use Rattle.periodic.specs.Builder as Builder
 use Rattle.periodic.specs.Periodic as Periodic
 use Rattle.periodic.specs.Contracts as Said
@@ -16,26 +15,26 @@ use Rattle.periodic.proofs.horner_eval.Statement.{statement}
 use Rattle.periodic.proofs.horner_eval.Tie as tie
 
 abbrev Inv-loop : tie.InvT-loop
-Inv-loop list₀ n point coeffs acc₀ i₀ list acc i =
+Inv-loop prime list₀ n point coeffs acc₀ i₀ list acc i =
     (i ≤ length coeffs)
-    × Said.Entering goldilocks list₀ (acc₀ .count) (Builder.turns (Periodic.hornerTurn quad point coeffs (length coeffs)) i (acc₀ .place)) list acc
-    × Said.Ready goldilocks list (acc .count)
+    × Said.Entering (fieldOf prime) list₀ (acc₀ .count) (Builder.turns (Periodic.hornerTurn (elements prime) point coeffs (length coeffs)) i (acc₀ .place)) list acc
+    × Said.Ready (fieldOf prime) list (acc .count)
     × Said.Inside (acc .count) point
     × Said.AllInside (acc .count) coeffs
 
 abbrev μ-loop : tie.MeasureT-loop
-μ-loop list₀ n point coeffs acc₀ i₀ list acc i = length coeffs - i
+μ-loop prime list₀ n point coeffs acc₀ i₀ list acc i = length coeffs - i
 
 constant-requires : tie.Need-constant-requires Inv-loop μ-loop
-constant-requires c κs = (c .before .before .before .pre .0, lit< tt)
+constant-requires c κs = (c .before .before .before .pre .0, omega (arith, large (c .before .before .before .args .prime)))
 
 loop-holds : tie.Need-loop-holds Inv-loop μ-loop
 loop-holds c =
     let at-constant = c .before .before in
     let start = at-constant .before .before .before .before in (
       omega arith,
-      enter-none goldilocks _ _ _ _ (at-constant .constant .ensures .inside),
-      entered-ready goldilocks _ _ _ _ _ (start .pre .0) (at-constant .constant .ensures),
+      enter-none (fieldOf (start .args .prime)) _ _ _ _ (at-constant .constant .ensures .inside),
+      entered-ready (fieldOf (start .args .prime)) _ _ _ _ _ (start .pre .0) (at-constant .constant .ensures),
       inside-later (at-constant .constant .ensures .ran .longer) (start .pre .1),
       all-later (at-constant .constant .ensures .ran .longer)
           (start .pre .2),
@@ -62,14 +61,14 @@ add-requires c κs =
     let at-loop = at-mul .before .before .before in
     let start = at-loop .before .before .before .before .before .before .before in
     let f : length (start .args .coeffs .now) - (at-loop .loop .i + 1) < length (start .args .coeffs .now) = omega arith in (
-      entered-ready goldilocks _ _ _ _ _ (at-loop .loop .inv .2) (at-mul .mul .ensures),
+      entered-ready (fieldOf (start .args .prime)) _ _ _ _ _ (at-loop .loop .inv .2) (at-mul .mul .ensures),
       inside-later (at-mul .mul .ensures .ran .longer)
           (at-loop .loop .inv .4 .at _ f),
       at-mul .mul .ensures .inside,
     )
 
 add-i : tie.Need-add-i Inv-loop μ-loop
-add-i c = omega arith
+add-i c = omega (arith, c .before .before .before .before .before .before .before .before .before .before .before .before .before .before .before .before .before .good .1 .1 .1 .1 .0)
 
 loop-less : tie.Need-loop-less Inv-loop μ-loop
 loop-less c = omega arith
@@ -82,8 +81,8 @@ loop-again c =
     let at-loop = at-mul .before .before .before in
     let up = le-trans (at-mul .mul .ensures .ran .longer) (at-add .add .ensures .ran .longer) in (
       omega arith,
-      enter-next goldilocks _ _ _ _ _ _ _ _ _ (at-loop .loop .inv .1) (then-enter goldilocks _ _ _ _ _ _ _ _ (at-mul .mul .ensures) (at-add .add .ensures)),
-      entered-ready goldilocks _ _ _ _ _ (entered-ready goldilocks _ _ _ _ _ (at-loop .loop .inv .2) (at-mul .mul .ensures)) (at-add .add .ensures),
+      enter-next _ _ _ _ _ _ _ _ _ _ (at-loop .loop .inv .1) (then-enter _ _ _ _ _ _ _ _ _ (at-mul .mul .ensures) (at-add .add .ensures)),
+      entered-ready _ _ _ _ _ _ (entered-ready _ _ _ _ _ _ (at-loop .loop .inv .2) (at-mul .mul .ensures)) (at-add .add .ensures),
       inside-later up
           (at-loop .loop .inv .3),
       all-later up (at-loop .loop .inv .4),
@@ -97,8 +96,8 @@ unfolding Periodic.hornerEval
 returns c =
     let at-loop = c .before in
     let at-constant = at-loop .before .before .before in
-    then-enter goldilocks _ _ _ _ _ _ _ _ (at-constant .constant .ensures)
-    (enter-all goldilocks _ _ _ _ _ _ _ _ (at-loop .loop .inv .0) (c .loop-test .left) (at-loop .loop .inv .1))
+    then-enter _ _ _ _ _ _ _ _ _ (at-constant .constant .ensures)
+    (enter-all _ _ _ _ _ _ _ _ _ (at-loop .loop .inv .0) (c .loop-test .left) (at-loop .loop .inv .1))
 
 pub horner-eval-spec : {M : Type 1} → statement M
 horner-eval-spec =

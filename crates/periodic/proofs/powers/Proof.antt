@@ -1,4 +1,4 @@
-use Rattle.field.specs.Fields.{goldilocks}
+use Rattle.field.specs.Fields.{fieldOf}
 use Rattle.periodic.specs.ListLaws.{set-length, set-room}
 use Prim.Native.Nat.{_<_}
 -- The invariant: the places after i turns, from where the loop began.
@@ -7,7 +7,7 @@ use mathlib.Core.List.{[], _∷_}
 use mathlib.Core.Path.{_≡_, refl, _∙_}
 use native.Mathlib.Omega.{arith}
 use lib.ListN.{length, getD}
-use Rattle.field.specs.Field.{quad}
+use Rattle.field.specs.Field.{elements}
 use Rattle.periodic.specs.Builder as Builder
 use Rattle.periodic.specs.Periodic as Periodic
 use Rattle.periodic.specs.Contracts as Said
@@ -17,16 +17,16 @@ use Rattle.periodic.proofs.powers.Statement.{statement}
 use Rattle.periodic.proofs.powers.Tie as tie
 
 abbrev Inv-loop : tie.InvT-loop
-Inv-loop list₀ n z k places₀ count₀ i₀ list places count i =
+Inv-loop prime list₀ n z k places₀ count₀ i₀ list places count i =
     (i ≤ k)
     × (k < length places)
     × (length places ≡ length places₀)
-    × Said.Listing goldilocks list₀ count₀ (Builder.turns (λ i ps. Builder.also ps (Builder.mul quad (getD ps i 0) (getD ps i 0))) i (z ∷ [])) list count
+    × Said.Listing (fieldOf prime) list₀ count₀ (Builder.turns (λ i ps. Builder.also ps (Builder.mul (elements prime) (getD ps i 0) (getD ps i 0))) i (z ∷ [])) list count
     places (i + 1)
-    × Said.Ready goldilocks list count
+    × Said.Ready (fieldOf prime) list count
 
 abbrev μ-loop : tie.MeasureT-loop
-μ-loop list₀ n z k places₀ count₀ i₀ list places count i = k - i
+μ-loop prime list₀ n z k places₀ count₀ i₀ list places count i = k - i
 
 slice-write-places : tie.Need-slice-write-places Inv-loop μ-loop
 slice-write-places c = omega (arith, c .before .before .pre .2)
@@ -38,7 +38,7 @@ loop-holds c =
       omega arith,
       set-room (start .args .places .now) _ _ _ (start .pre .2),
       refl,
-      list-none goldilocks _ _ _ _ _ _ (first-place (start .args .places .now) _ h)
+      list-none (fieldOf (start .args .prime)) _ _ _ _ _ _ (first-place (start .args .places .now) _ h)
           (one-inside (start .pre .1)),
       start .pre .0,
     )
@@ -77,12 +77,13 @@ loop-again c =
     let at-loop = at-mul .before .before .before .before in
     let h : at-loop .loop .i + 1 < length (at-loop .loop .places) = omega arith in
     let j : at-loop .loop .i < at-loop .loop .i + 1 = omega arith in
-    let e = entering-at goldilocks (λ x. Builder.mul quad x x) _ _ _ _ (word-is (at-loop .loop .places) _ _ j) (at-mul .mul .ensures) in (
+    let prime = at-loop .before .before .before .args .prime in
+    let e = entering-at (fieldOf prime) (λ x. Builder.mul (elements prime) x x) _ _ _ _ (word-is (at-loop .loop .places) _ _ j) (at-mul .mul .ensures) in (
       omega arith,
       set-room (at-loop .loop .places) _ _ _ (at-loop .loop .inv .1),
       set-length (at-loop .loop .places) _ _ _ (at-loop .loop .inv .2),
-      list-next goldilocks _ _ _ _ _ _ _ _ _ _ _ h (at-loop .loop .inv .3) e,
-      entered-ready goldilocks _ _ _ _ _ (at-loop .loop .inv .4) (at-mul .mul .ensures),
+      list-next _ _ _ _ _ _ _ _ _ _ _ _ h (at-loop .loop .inv .3) e,
+      entered-ready _ _ _ _ _ _ (at-loop .loop .inv .4) (at-mul .mul .ensures),
     )
 
 same-length : tie.Need-same-length Inv-loop μ-loop
@@ -93,7 +94,7 @@ same-length-2 c = c .before .loop .inv .2 ∙ set-length (c .before .before .bef
 
 returns : tie.Need-returns Inv-loop μ-loop
 unfolding Periodic.powers
-returns c = list-all goldilocks _ _ _ _ _ _ _ _ _ _ _ (c .before .loop .inv .0) (c .loop-test .left) (omega arith) (c .before .loop .inv .3)
+returns c = list-all _ _ _ _ _ _ _ _ _ _ _ _ (c .before .loop .inv .0) (c .loop-test .left) (omega arith) (c .before .loop .inv .3)
 
 pub powers-spec : {M : Type 1} → statement M
 powers-spec =

@@ -2,10 +2,9 @@
 use Prim.Native.Nat.{_-_, _<_, _≤_}
 use mathlib.Core.Path.{_∙_}
 use native.Mathlib.Omega.{arith}
-use lib.Dec.{lit<}
 use lib.ListN.{length, getD}
-use Rattle.field.specs.Fields.{goldilocks}
-use Rattle.field.specs.Field.{quad}
+use Rattle.field.specs.Fields.{fieldOf}
+use Rattle.field.specs.Field.{elements, large}
 use Rattle.periodic.specs.Builder as Builder
 use Rattle.periodic.specs.Periodic as Periodic
 use Rattle.periodic.specs.Contracts as Said
@@ -15,26 +14,26 @@ use Rattle.periodic.proofs.sparse_factor.Statement.{statement}
 use Rattle.periodic.proofs.sparse_factor.Tie as tie
 
 abbrev Inv-loop : tie.InvT-loop
-Inv-loop list₀ n zpow log row factor₀ i₀ list factor i =
+Inv-loop prime list₀ n zpow log row factor₀ i₀ list factor i =
     (i ≤ log)
-    × Said.Entering goldilocks list₀ (factor₀ .count) (Builder.turns (λ i factor. Periodic.sparseTurn quad (getD row i 0) (getD zpow i 0) factor) i
+    × Said.Entering (fieldOf prime) list₀ (factor₀ .count) (Builder.turns (λ i factor. Periodic.sparseTurn (elements prime) (getD row i 0) (getD zpow i 0) factor) i
     (factor₀ .place)) list factor
-    × Said.Ready goldilocks list (factor .count)
+    × Said.Ready (fieldOf prime) list (factor .count)
     × Said.AllInside (factor .count) zpow
 
 abbrev μ-loop : tie.MeasureT-loop
-μ-loop list₀ n zpow log row factor₀ i₀ list factor i = log - i
+μ-loop prime list₀ n zpow log row factor₀ i₀ list factor i = log - i
 
 constant-requires : tie.Need-constant-requires Inv-loop μ-loop
-constant-requires c κs = (c .before .before .before .pre .0, lit< tt)
+constant-requires c κs = (c .before .before .before .pre .0, large (c .before .before .before .args .prime))
 
 loop-holds : tie.Need-loop-holds Inv-loop μ-loop
 loop-holds c =
     let at-constant = c .before .before in
     let start = at-constant .before .before .before .before in (
       omega arith,
-      enter-none goldilocks _ _ _ _ (at-constant .constant .ensures .inside),
-      entered-ready goldilocks _ _ _ _ _ (start .pre .0) (at-constant .constant .ensures),
+      enter-none (fieldOf (start .args .prime)) _ _ _ _ (at-constant .constant .ensures .inside),
+      entered-ready (fieldOf (start .args .prime)) _ _ _ _ _ (start .pre .0) (at-constant .constant .ensures),
       all-later (at-constant .constant .ensures .ran .longer) (start .pre .1),
     )
 
@@ -81,8 +80,8 @@ loop-again c =
     let at-sparse-turn = c .before .before in
     let at-loop = at-sparse-turn .before .before .before .before in (
       omega arith,
-      enter-next goldilocks _ _ _ _ _ _ _ _ _ (at-loop .loop .inv .1) (at-sparse-turn .sparse-turn .ensures),
-      entered-ready goldilocks _ _ _ _ _
+      enter-next _ _ _ _ _ _ _ _ _ _ (at-loop .loop .inv .1) (at-sparse-turn .sparse-turn .ensures),
+      entered-ready _ _ _ _ _ _
           (at-loop .loop .inv .2) (at-sparse-turn .sparse-turn .ensures),
       all-later (at-sparse-turn .sparse-turn .ensures .ran .longer)
           (at-loop .loop .inv .3),
@@ -96,8 +95,8 @@ unfolding Periodic.sparseFactor
 returns c =
     let at-loop = c .before in
     let at-constant = at-loop .before .before .before in
-    then-enter goldilocks _ _ _ _ _ _ _ _ (at-constant .constant .ensures)
-    (enter-all goldilocks _ _ _ _ _ _ _ _ (at-loop .loop .inv .0) (c .loop-test .left) (at-loop .loop .inv .1))
+    then-enter _ _ _ _ _ _ _ _ _ (at-constant .constant .ensures)
+    (enter-all _ _ _ _ _ _ _ _ _ (at-loop .loop .inv .0) (c .loop-test .left) (at-loop .loop .inv .1))
 
 pub sparse-factor-spec : {M : Type 1} → statement M
 sparse-factor-spec =

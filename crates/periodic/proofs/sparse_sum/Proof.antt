@@ -3,10 +3,9 @@ use Prim.Native.Nat.{_+_, _-_, _<_, _≤_}
 use mathlib.Core.List.{[]}
 use mathlib.Core.Path.{_∙_}
 use native.Mathlib.Omega.{arith}
-use lib.Dec.{lit<}
 use lib.ListN.{getD}
-use Rattle.field.specs.Fields.{goldilocks}
-use Rattle.field.specs.Field.{quad}
+use Rattle.field.specs.Fields.{fieldOf}
+use Rattle.field.specs.Field.{elements, large}
 use Rattle.periodic.specs.Builder as Builder
 use Rattle.periodic.specs.Periodic as Periodic
 use Rattle.periodic.specs.Contracts as Said
@@ -18,24 +17,24 @@ use Rattle.periodic.proofs.sparse_sum.Statement.{statement}
 use Rattle.periodic.proofs.sparse_sum.Tie as tie
 
 abbrev Inv-loop : tie.InvT-loop
-Inv-loop list₀ n zpow log t rows values sum₀ k₀ list sum k =
+Inv-loop prime list₀ n zpow log t rows values sum₀ k₀ list sum k =
     (k ≤ t - 1)
-    × Said.Entering goldilocks list₀ (sum₀ .count) (Builder.turns
-    (Periodic.sumTurn quad zpow (λ k i. getD (getD rows k []) i 0) log (λ k. getD values k 0)) k (sum₀ .place)) list sum
-    × Said.Ready goldilocks list (sum .count)
+    × Said.Entering (fieldOf prime) list₀ (sum₀ .count) (Builder.turns
+    (Periodic.sumTurn (elements prime) zpow (λ k i. getD (getD rows k []) i 0) log (λ k. getD values k 0)) k (sum₀ .place)) list sum
+    × Said.Ready (fieldOf prime) list (sum .count)
     × Said.AllInside (sum .count) zpow
 
 abbrev μ-loop : tie.MeasureT-loop
-μ-loop list₀ n zpow log t rows values sum₀ k₀ list sum k = t - 1 - k
+μ-loop prime list₀ n zpow log t rows values sum₀ k₀ list sum k = t - 1 - k
 
 constant-requires : tie.Need-constant-requires Inv-loop μ-loop
-constant-requires c κs = (c .before .before .before .before .pre .0, lit< tt)
+constant-requires c κs = (c .before .before .before .before .pre .0, omega (arith, large (c .before .before .before .before .args .prime)))
 
 same-length : tie.Need-same-length Inv-loop μ-loop
 same-length c = c .before .before .constant .ensures .ran .kept
 
 returns : tie.Need-returns Inv-loop μ-loop
-returns c = entering-same goldilocks _ _ _ _ _ _ (sum-none _ _ _ _ _ _ (c .before .before .before .before .if1 .taken)) (c .before .before .constant .ensures)
+returns c = entering-same _ _ _ _ _ _ _ (sum-none _ _ _ _ _ _ (c .before .before .before .before .if1 .taken)) (c .before .before .constant .ensures)
 
 array-copy-out-sparse-term : tie.Need-array-copy-out-sparse-term Inv-loop μ-loop
 array-copy-out-sparse-term c = omega arith
@@ -55,8 +54,8 @@ loop-holds c =
     let at-sparse-term = c .before .before in
     let start = at-sparse-term .before .before .before .before .before .before in (
       omega arith,
-      enter-none goldilocks _ _ _ _ (at-sparse-term .sparse-term .ensures .inside),
-      entered-ready goldilocks _ _ _ _ _ (start .pre .0)
+      enter-none (fieldOf (start .args .prime)) _ _ _ _ (at-sparse-term .sparse-term .ensures .inside),
+      entered-ready (fieldOf (start .args .prime)) _ _ _ _ _ (start .pre .0)
           (at-sparse-term .sparse-term .ensures),
       all-later (at-sparse-term .sparse-term .ensures .ran .longer) (start .pre .1),
     )
@@ -114,14 +113,14 @@ add-requires : tie.Need-add-requires Inv-loop μ-loop
 add-requires c κs =
     let at-sparse-term2 = c .before .before .before in
     let at-loop = at-sparse-term2 .before .before .before .before in (
-      entered-ready goldilocks _ _ _ _ _ (at-loop .loop .inv .2) (at-sparse-term2 .sparse-term2 .ensures),
+      entered-ready _ _ _ _ _ _ (at-loop .loop .inv .2) (at-sparse-term2 .sparse-term2 .ensures),
       inside-later
           (at-sparse-term2 .sparse-term2 .ensures .ran .longer) (at-loop .loop .inv .1 .inside),
       at-sparse-term2 .sparse-term2 .ensures .inside,
     )
 
 add-k : tie.Need-add-k Inv-loop μ-loop
-add-k c = omega arith
+add-k c = omega (arith, c .before .before .before .before .before .before .before .before .before .before .before .before .before .before .before .before .before .before .before .pre .2 .few)
 
 loop-less : tie.Need-loop-less Inv-loop μ-loop
 loop-less c = omega arith
@@ -133,10 +132,10 @@ loop-again c =
     let at-sparse-term2 = at-add .before .before .before .before in
     let at-loop = at-sparse-term2 .before .before .before .before in (
       omega arith,
-      enter-next goldilocks _ _ _ _ _ _ _ _ _ (at-loop .loop .inv .1)
-          (then-enter goldilocks _ _ _ _ _ _ _ _ (at-sparse-term2 .sparse-term2 .ensures) (at-add .add .ensures)),
-      entered-ready goldilocks _ _ _ _ _
-          (entered-ready goldilocks _ _ _ _ _ (at-loop .loop .inv .2) (at-sparse-term2 .sparse-term2 .ensures)) (at-add .add .ensures),
+      enter-next _ _ _ _ _ _ _ _ _ _ (at-loop .loop .inv .1)
+          (then-enter _ _ _ _ _ _ _ _ _ (at-sparse-term2 .sparse-term2 .ensures) (at-add .add .ensures)),
+      entered-ready _ _ _ _ _ _
+          (entered-ready _ _ _ _ _ _ (at-loop .loop .inv .2) (at-sparse-term2 .sparse-term2 .ensures)) (at-add .add .ensures),
       all-later
           (le-trans (at-sparse-term2 .sparse-term2 .ensures .ran .longer) (at-add .add .ensures .ran .longer)) (at-loop .loop .inv .3),
     )
@@ -149,9 +148,9 @@ returns-2 c =
     let at-loop = c .before in
     let at-sparse-term = at-loop .before .before .before in
     let at-if1 = at-sparse-term .before .before .before in
-    entering-same goldilocks _ _ _ _ _ _ (sum-some _ _ _ _ _ _ (at-if1 .if1 .left))
-    (then-enter goldilocks _ _ _ _ _ _ _ _ (at-sparse-term .sparse-term .ensures)
-    (enter-all goldilocks _ _ _ _ _ _ _ _ (at-loop .loop .inv .0) (c .loop-test .left) (at-loop .loop .inv .1)))
+    entering-same _ _ _ _ _ _ _ (sum-some _ _ _ _ _ _ (at-if1 .if1 .left))
+    (then-enter _ _ _ _ _ _ _ _ _ (at-sparse-term .sparse-term .ensures)
+    (enter-all _ _ _ _ _ _ _ _ _ (at-loop .loop .inv .0) (c .loop-test .left) (at-loop .loop .inv .1)))
 
 pub sparse-sum-spec : {M : Type 1} → statement M
 sparse-sum-spec =

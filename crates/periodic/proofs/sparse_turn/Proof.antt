@@ -1,6 +1,6 @@
 use mathlib.Core.Path.{_∙_}
-use lib.Dec.{lit<}
-use Rattle.field.specs.Fields.{goldilocks}
+use Rattle.field.specs.Field.{large}
+use Rattle.field.specs.Fields.{fieldOf}
 use Rattle.periodic.specs.Periodic as Periodic
 use Rattle.periodic.specs.RunLaws.{entered-ready, then-enter, inside-later}
 use Rattle.periodic.proofs.sparse_turn.Statement.{statement}
@@ -13,7 +13,7 @@ mul-requires : tie.Need-mul-requires
 mul-requires c κs =
     let at-constant = c .before .before .before in
     let start = at-constant .before .before .before in (
-      entered-ready goldilocks _ _ _ _ _ (start .pre .0) (at-constant .constant .ensures),
+      entered-ready (fieldOf (start .args .prime)) _ _ _ _ _ (start .pre .0) (at-constant .constant .ensures),
       at-constant .constant .ensures .inside,
       inside-later
           (at-constant .constant .ensures .ran .longer) (start .pre .2),
@@ -24,15 +24,16 @@ constant-requires-2 c κs =
     let at-mul = c .before .before .before in
     let at-constant = at-mul .before .before .before .before in
     let start = at-constant .before .before .before in
-    (entered-ready goldilocks _ _ _ _ _ (entered-ready goldilocks _ _ _ _ _ (start .pre .0) (at-constant .constant .ensures)) (at-mul .mul .ensures), lit< tt)
+    (entered-ready (fieldOf (start .args .prime)) _ _ _ _ _ (entered-ready (fieldOf (start .args .prime)) _ _ _ _ _ (start .pre .0) (at-constant .constant .ensures)) (at-mul .mul .ensures), large (start .args .prime))
 
 add-requires : tie.Need-add-requires
 add-requires c κs =
     let at-constant2 = c .before .before .before in
     let at-mul = at-constant2 .before .before .before .before in
     let at-constant = at-mul .before .before .before .before in
-    let start = at-constant .before .before .before in (
-      entered-ready goldilocks _ _ _ _ _ (entered-ready goldilocks _ _ _ _ _ (entered-ready goldilocks _ _ _ _ _ (start .pre .0) (at-constant .constant .ensures)) (at-mul .mul .ensures))
+    let start = at-constant .before .before .before in
+    let field = fieldOf (start .args .prime) in (
+      entered-ready field _ _ _ _ _ (entered-ready field _ _ _ _ _ (entered-ready field _ _ _ _ _ (start .pre .0) (at-constant .constant .ensures)) (at-mul .mul .ensures))
           (at-constant2 .constant2 .ensures),
       at-constant2 .constant2 .ensures .inside,
       inside-later (at-constant2 .constant2 .ensures .ran .longer)
@@ -45,9 +46,10 @@ mul-requires-2 c κs =
     let at-constant2 = at-add .before .before .before .before in
     let at-mul = at-constant2 .before .before .before .before in
     let at-constant = at-mul .before .before .before .before in
-    let start = at-constant .before .before .before in (
-      entered-ready goldilocks _ _ _ _ _ (entered-ready goldilocks _ _ _ _ _ (entered-ready goldilocks _ _ _ _ _
-          (entered-ready goldilocks _ _ _ _ _ (start .pre .0) (at-constant .constant .ensures)) (at-mul .mul .ensures)) (at-constant2 .constant2 .ensures))
+    let start = at-constant .before .before .before in
+    let field = fieldOf (start .args .prime) in (
+      entered-ready field _ _ _ _ _ (entered-ready field _ _ _ _ _ (entered-ready field _ _ _ _ _
+          (entered-ready field _ _ _ _ _ (start .pre .0) (at-constant .constant .ensures)) (at-mul .mul .ensures)) (at-constant2 .constant2 .ensures))
           (at-add .add .ensures),
       inside-later (at-add .add .ensures .ran .longer)
           (inside-later (at-constant2 .constant2 .ensures .ran .longer)
@@ -73,8 +75,8 @@ returns c =
     let at-constant2 = at-add .before .before .before .before in
     let at-mul = at-constant2 .before .before .before .before in
     let at-constant = at-mul .before .before .before .before in
-    then-enter goldilocks _ _ _ _ _ _ _ _ (at-constant .constant .ensures) (then-enter goldilocks _ _ _ _ _ _ _ _ (at-mul .mul .ensures)
-    (then-enter goldilocks _ _ _ _ _ _ _ _ (at-constant2 .constant2 .ensures) (then-enter goldilocks _ _ _ _ _ _ _ _ (at-add .add .ensures) (at-mul2 .mul2 .ensures))))
+    then-enter _ _ _ _ _ _ _ _ _ (at-constant .constant .ensures) (then-enter _ _ _ _ _ _ _ _ _ (at-mul .mul .ensures)
+    (then-enter _ _ _ _ _ _ _ _ _ (at-constant2 .constant2 .ensures) (then-enter _ _ _ _ _ _ _ _ _ (at-add .add .ensures) (at-mul2 .mul2 .ensures))))
 
 pub sparse-turn-spec : {M : Type 1} → statement M
 sparse-turn-spec =

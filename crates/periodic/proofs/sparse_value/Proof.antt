@@ -1,10 +1,10 @@
-use Rattle.field.specs.Fields.{goldilocks}
+use Rattle.field.specs.Fields.{fieldOf}
 use Rattle.periodic.specs.SparseLaws.{listing-same}
 use Prim.Native.Nat.{_+_}
 use mathlib.Core.Path.{sym, _∙_, ap}
 use native.Mathlib.Omega.{arith}
 use lib.ListN.{length}
-use Rattle.field.specs.Field.{quad}
+use Rattle.field.specs.Field.{elements}
 use Rattle.periodic.specs.Periodic as Periodic
 use Rattle.periodic.specs.RunLaws.{entered-ready, then-enter}
 use Rattle.periodic.specs.ListLaws.{listed-ready}
@@ -31,7 +31,7 @@ powers-requires c κs =
     let at-log-length = c .before .before in
     let at-z-power = at-log-length .before .before .before in
     let start = at-z-power .before .before .before .before in (
-      entered-ready goldilocks _ _ _ _ _ (start .pre .0) (at-z-power .z-power .ensures),
+      entered-ready (fieldOf (start .args .prime)) _ _ _ _ _ (start .pre .0) (at-z-power .z-power .ensures),
       at-z-power .z-power .ensures .inside,
       omega
           (arith, at-log-length .log-length .ensures .1),
@@ -93,13 +93,14 @@ sparse-sum-requires c κs =
     let at-log-length = at-powers .before .before .before in
     let at-z-power = at-log-length .before .before .before in
     let start = at-z-power .before .before .before .before in
+    let field = fieldOf (start .args .prime) in
     let t = sym (length-take-le (at-support .support .result) (at-support .support .last .1 .0) (omega (arith, at-support .support .ensures .1))) ∙ ap
     length (at-support .support .ensures .0) in
-    let zs = length-take-le (at-log-length .log-length .result + 1) (at-powers .powers .last .1 .1 .1 .1 .0)
+    let zs = length-take-le (at-log-length .log-length .result + 1) (at-powers .powers .last .1 .1 .1 .1 .1 .0)
     (omega (arith, at-log-length .log-length .ensures .1)) in (
-      listed-ready goldilocks _ _ _ _ _ _ _ (entered-ready goldilocks _ _ _ _ _ (start .pre .0) (at-z-power .z-power .ensures)) (at-powers .powers .ensures),
+      listed-ready field _ _ _ _ _ _ _ (entered-ready field _ _ _ _ _ (start .pre .0) (at-z-power .z-power .ensures)) (at-powers .powers .ensures),
       at-powers .powers .ensures .inside,
-      rows-low goldilocks (start .args .col .now) _ _ _ _ (at-sparse-twiddles .sparse-twiddles .ensures) (at-sparse-values .sparse-values .ensures)
+      rows-low field (start .args .col .now) _ _ _ _ (at-sparse-twiddles .sparse-twiddles .ensures) (at-sparse-values .sparse-values .ensures)
           (at-log-length .log-length .ensures .0) t (at-support .support .ensures .1),
       omega arith,
     )
@@ -118,12 +119,13 @@ returns c =
     let at-log-length = at-powers .before .before .before in
     let at-z-power = at-log-length .before .before .before in
     let start = at-z-power .before .before .before .before in
+    let field = fieldOf (start .args .prime) in
     let t = sym (length-take-le (at-support .support .result) (at-support .support .last .1 .0) (omega (arith, at-support .support .ensures .1))) ∙ ap
     length (at-support .support .ensures .0) in
-    then-enter goldilocks _ _ _ _ _ _ _ _ (at-z-power .z-power .ensures)
-    (then-listed goldilocks _ _ _ _ _ _ _ _ _ _ (listing-same goldilocks _ _ _ _ _ _ _ _
-    (ap (Periodic.powers quad (at-z-power .z-power .result .place)) (at-log-length .log-length .ensures .0)) (at-powers .powers .ensures))
-    (sparse-entered goldilocks (start .args .col .now) _ _ _ _ _ _ _ _ _ (at-sparse-twiddles .sparse-twiddles .ensures)
+    then-enter field _ _ _ _ _ _ _ _ (at-z-power .z-power .ensures)
+    (then-listed field _ _ _ _ _ _ _ _ _ _ (listing-same field _ _ _ _ _ _ _ _
+    (ap (Periodic.powers (elements (start .args .prime)) (at-z-power .z-power .result .place)) (at-log-length .log-length .ensures .0)) (at-powers .powers .ensures))
+    (sparse-entered field (start .args .col .now) _ _ _ _ _ _ _ _ _ (at-sparse-twiddles .sparse-twiddles .ensures)
     (at-sparse-values .sparse-values .ensures) (at-log-length .log-length .ensures .0) t (at-sparse-sum .sparse-sum .ensures)))
 
 pub sparse-value-spec : {M : Type 1} → statement M

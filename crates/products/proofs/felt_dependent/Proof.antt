@@ -1,21 +1,31 @@
--- `products::felt_dependent` meets its contract: by which operand is below p.
-use mathlib.Core.Path.{_∙_}
+-- `products::felt_dependent` meets its contract: by the field that the number names.
+use mathlib.Core.Path.{refl}
+use Rattle.field.specs.NumberLaws.{in-known, in-unknown}
 use borrow.Author.Needs.{needs}
-use Rattle.products.specs.Turns.{accepted, no-value, no-factor}
 use Rattle.products.proofs.felt_dependent.Statement.{statement}
 use Rattle.products.proofs.felt_dependent.Tie as tie
 
+numbered-requires : tie.Need-numbered-requires
+numbered-requires c κs = search needs
+
+enum-known-known : tie.Need-enum-known-known
+enum-known-known c = search needs
+
+dependent-requires : tie.Need-dependent-requires
+dependent-requires c κs = search needs
+
+enum-told : tie.Need-enum-told
+enum-told c = search needs
+
 returns : tie.Need-returns
-returns c = no-value _ _ _ (search needs)
+returns c =
+    let at-known = c .before .before in
+    in-known _ _ _ (at-known .before .before .numbered .ensures) (at-known .known .given .1) (c .dependent .ensures)
 
 returns-2 : tie.Need-returns-2
-returns-2 c = no-factor _ _ _ (search needs) (search needs)
-
-times-power-requires : tie.Need-times-power-requires
-times-power-requires c κs = search needs
-
-returns-3 : tie.Need-returns-3
-returns-3 c = c .times-power .ensures ∙ accepted _ _ _ (search needs) (search needs)
+returns-2 c = in-unknown _ _ _ (c .before .before .numbered .ensures) (c .enum-told .given .1) refl
 
 pub felt-dependent-spec : {M : Type 1} → statement M
-felt-dependent-spec = tie.close (tie.spec returns returns-2 times-power-requires returns-3)
+felt-dependent-spec =
+    tie.close
+    (tie.spec numbered-requires enum-known-known dependent-requires enum-told returns returns-2)

@@ -10,6 +10,9 @@ number-requires c κs = search needs
 number-requires-2 : tie.Need-number-requires-2
 number-requires-2 c κs = search needs
 
+number-requires-3 : tie.Need-number-requires-3
+number-requires-3 c κs = search needs
+
 ace-build-requires : tie.Need-ace-build-requires
 ace-build-requires c κs = search needs
 
@@ -32,6 +35,7 @@ build-spec =
     (tie.spec
     number-requires
     number-requires-2
+    number-requires-3
     ace-build-requires
     answers-requires
     same-length

@@ -10,6 +10,9 @@ number-requires c κs = search needs
 number-requires-2 : tie.Need-number-requires-2
 number-requires-2 c κs = search needs
 
+number-requires-3 : tie.Need-number-requires-3
+number-requires-3 c κs = search needs
+
 ace-compact-requires : tie.Need-ace-compact-requires
 ace-compact-requires c κs = search needs
 
@@ -29,6 +32,7 @@ compact-spec =
     (tie.spec
     number-requires
     number-requires-2
+    number-requires-3
     ace-compact-requires
     answers-requires
     same-length

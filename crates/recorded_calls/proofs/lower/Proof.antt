@@ -10,6 +10,9 @@ number-requires c κs = search needs
 number-requires-2 : tie.Need-number-requires-2
 number-requires-2 c κs = search needs
 
+number-requires-3 : tie.Need-number-requires-3
+number-requires-3 c κs = search needs
+
 ace-lower-requires : tie.Need-ace-lower-requires
 ace-lower-requires c κs = search needs
 
@@ -30,9 +33,15 @@ unfolding outcome
 returns c =
     let b = c .before .before .before .before .before .before .before .before in
     let e = b .ace-lower .ensures in
-    let n = b .before .before .before .before .before .before .number .ensures in
-    let period = b .before .before .before .before .before .number2 .ensures in
-    record { told = c .answers .ensures ∙ rw (e .1 .1 .1, n, period); first = rw (n, period) at (e .0); second = rw (n, period) at (e .1 .0); third = rw (n, period) at (e .1 .1 .0) }
+    let field = b .before .before .before .before .before .before .before .number .ensures in
+    let n = b .before .before .before .before .before .before .number2 .ensures in
+    let period = b .before .before .before .before .before .number3 .ensures in
+    record {
+      told = c .answers .ensures ∙ rw (e .1 .1 .1, field, n, period);
+      first = rw (field, n, period) at (e .0);
+      second = rw (field, n, period) at (e .1 .0);
+      third = rw (field, n, period) at (e .1 .1 .0);
+    }
 
 pub lower-spec : {M : Type 1} → statement M
 lower-spec =
@@ -40,6 +49,7 @@ lower-spec =
     (tie.spec
     number-requires
     number-requires-2
+    number-requires-3
     ace-lower-requires
     answers-requires
     same-length

@@ -4,6 +4,9 @@ use borrow.Author.Needs.{needs}
 use Rattle.recorded_calls.proofs.prepare.Statement.{statement}
 use Rattle.recorded_calls.proofs.prepare.Tie as tie
 
+number-requires : tie.Need-number-requires
+number-requires c κs = search needs
+
 ace-prepare-requires : tie.Need-ace-prepare-requires
 ace-prepare-requires c κs = search needs
 
@@ -15,4 +18,4 @@ unfolding outcome
 returns c = record { told = cc; first = refl; second = refl; third = refl }
 
 pub prepare-spec : {M : Type 1} → statement M
-prepare-spec = tie.close (tie.spec ace-prepare-requires answers-long-requires returns)
+prepare-spec = tie.close (tie.spec number-requires ace-prepare-requires answers-long-requires returns)

@@ -16,6 +16,9 @@ number-requires-3 c κs = search needs
 number-requires-4 : tie.Need-number-requires-4
 number-requires-4 c κs = search needs
 
+number-requires-5 : tie.Need-number-requires-5
+number-requires-5 c κs = search needs
+
 ace-step-requires : tie.Need-ace-step-requires
 ace-step-requires c κs = search needs
 
@@ -37,6 +40,7 @@ step-spec =
     number-requires-2
     number-requires-3
     number-requires-4
+    number-requires-5
     ace-step-requires
     answers-requires
     same-length

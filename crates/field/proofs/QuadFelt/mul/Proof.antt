@@ -1,49 +1,48 @@
--- `field::QuadFelt::mul` meets its contract, part by part.
-use mathlib.Core.Path.{ap₂}
+-- `field::QuadFelt::mul` meets its contract: in field 2 there is no second part.
+use mathlib.Core.Path.{_≡_, sym, _∙_, ap, subst}
+use Prim.Native.Nat.{ℕ}
+use Rattle.field.specs.Field.{new, felt, elements, Below, element-laws, mul-part}
+use Rattle.field.specs.declared.Prime.{Prime}
 use borrow.Author.Needs.{needs}
-use Rattle.field.specs.Field.{felt, quad, new}
 use Rattle.field.proofs.QuadFelt.mul.Statement.{statement}
 use Rattle.field.proofs.QuadFelt.mul.Tie as tie
+
+enum-told : tie.Need-enum-told
+enum-told c = search needs
+
+pair-mul-requires : tie.Need-pair-mul-requires
+pair-mul-requires c κs = subst (λ (prime : Prime). Below prime (c .before .before .args .self) × Below prime (c .before .before .args .o)) (c .enum-told .given .1) (c .before .before .pre)
+
+enum-told-2 : tie.Need-enum-told-2
+enum-told-2 c = search needs
 
 mul-requires : tie.Need-mul-requires
 mul-requires c κs = search needs
 
-mul-requires-2 : tie.Need-mul-requires-2
-mul-requires-2 c κs = search needs
-
-mul-requires-3 : tie.Need-mul-requires-3
-mul-requires-3 c κs = search needs
-
-add-requires : tie.Need-add-requires
-add-requires c κs = search needs
-
-mul-requires-4 : tie.Need-mul-requires-4
-mul-requires-4 c κs = search needs
-
-mul-requires-5 : tie.Need-mul-requires-5
-mul-requires-5 c κs = search needs
-
-add-requires-2 : tie.Need-add-requires-2
-add-requires-2 c κs = search needs
+from-base-requires : tie.Need-from-base-requires
+from-base-requires c κs = search needs
 
 returns : tie.Need-returns
-unfolding quad felt
-returns c = (
-  ap₂ new
-      (cc)
-      (cc),
-  search needs,
-)
+returns c = rw (c .before .enum-told .given .1) (c .pair-mul .ensures)
+
+returns-2 : tie.Need-returns-2
+returns-2 c =
+    let told = c .before .before in
+    let start = told .before .before in
+    let e = c .from-base .ensures ∙ ap (λ (n : ℕ). new n 0) (c .before .mul .ensures .0) in
+    let f =
+    e ∙ subst (λ (prime : Prime). new (felt prime .mul (start .args .self .c0) (start .args .o .c0)) 0 ≡ elements prime .mul (start .args .self) (start .args .o)) (sym (told .enum-told2 .given .1))
+    (sym (mul-part (start .args .self) (start .args .o))) in
+    (f, subst (Below (start .args .prime)) (sym f) (element-laws (start .args .prime) .low-mul (start .args .self) (start .args .o)))
 
 pub mul-spec : {M : Type 1} → statement M
 mul-spec =
     tie.close
     (tie.spec
+    enum-told
+    pair-mul-requires
+    enum-told-2
     mul-requires
-    mul-requires-2
-    mul-requires-3
-    add-requires
-    mul-requires-4
-    mul-requires-5
-    add-requires-2
-    returns)
+    from-base-requires
+    returns
+    returns-2)

@@ -9,10 +9,10 @@ mul-requires : tie.Need-mul-requires
 mul-requires c κs = search needs
 
 returns : tie.Need-returns
-returns c = (even _ _ _ (search needs) (c .if1 .taken), search needs)
+returns c = (even _ _ _ _ (search needs) (c .if1 .taken), search needs)
 
 returns-2 : tie.Need-returns-2
-returns-2 c = (c .mul .ensures .0 ∙ odd _ _ _ (search needs) (c .before .if1 .left), search needs)
+returns-2 c = (c .mul .ensures .0 ∙ odd _ _ _ _ (search needs) (c .before .if1 .left), search needs)
 
 pub times-odd-spec : {M : Type 1} → statement M
 times-odd-spec = tie.close (tie.spec mul-requires returns returns-2)
