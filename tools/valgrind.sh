@@ -1,11 +1,11 @@
 #!/usr/bin/env bash
-# Runs the comparison's corners under valgrind, each store an allocation of its own, and normlist on the samples and on
-# house files made by hand: nothing may be read or written outside of what is lent.
+# Runs the comparison's corners in both fields under valgrind, each store an allocation of its own, and normlist on the
+# samples and on house files made by hand: nothing may be read or written outside of what is lent.
 #
 #   tools/valgrind.sh [--cases N] [NAME ...]
 #
 # NAME is a call, or normlist; without one, all of them. N random cases more are run for each call (default 0). It takes
-# about a minute, after proving and building what is missing or old; it is no part of the gate. ACE_SRC names the
+# about two minutes, after proving and building what is missing or old; it is no part of the gate. ACE_SRC names the
 # folder of the Rust, as for ./differential. What can't be run counts as failed.
 set -euo pipefail
 

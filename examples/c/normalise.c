@@ -14,6 +14,10 @@ enum { N = 6, ROOT = 5, ROOM = 3 * 10, WORK = 6 * N };
 static const char *const KINDS[] = {"in", "const", "add", "sub", "mul", "neg"};
 
 int main(void) {
+    if (ace_interface() != ACE_INTERFACE) {
+        printf("the header has interface %d, the archive another\n", ACE_INTERFACE);
+        return 1;
+    }
     const uint64_t list[3 * N] = {
         0, 0, 0, /* input 0 */
         0, 1, 0, /* input 1 */
@@ -26,7 +30,7 @@ int main(void) {
     for (int i = 0; i < ROOM; i++) result[i] = 99;
     for (int i = 0; i < WORK; i++) work[i] = 99;
 
-    ace_normalize(list, 3 * N, N, ROOT, result, ROOM, work, WORK, answer);
+    ace_normalize(ACE_FIELD_P, list, 3 * N, N, ROOT, result, ROOM, work, WORK, answer);
     if (answer[0] != 0) {
         printf("refused %" PRIu64 " %" PRIu64 "\n", answer[0], answer[1]);
         return 1;
@@ -43,7 +47,7 @@ int main(void) {
     printf("%" PRIu64 " words behind, %" PRIu64 " blank\n", ROOM - 3 * count, blank);
 
     /* Without a work store nothing is written, and the answer says why: 2. */
-    ace_normalize(list, 3 * N, N, ROOT, result, ROOM, work, 0, answer);
+    ace_normalize(ACE_FIELD_P, list, 3 * N, N, ROOT, result, ROOM, work, 0, answer);
     printf("refused %" PRIu64 " %" PRIu64 "\n", answer[0], answer[1]);
     return 0;
 }

@@ -10,8 +10,9 @@ mod calls;
 mod measure;
 mod products;
 
-use calls::Kind;
+use calls::{Kind, Sides};
 use measure::{Bench, Row};
+use oracle::{BabyBear, QuadFelt};
 
 /// The lists that normalising is timed on.
 const KINDS: [(&str, Kind); 3] = [
@@ -38,9 +39,14 @@ struct Timed<'a> {
 }
 
 impl<'a> Timed<'a> {
-    /// A call at several lengths.
-    fn at(name: &str, lengths: &'static [usize], time: impl Fn(usize) -> Row + 'a) -> Self {
-        Self { name: name.into(), lengths, grows: lengths.len() > 1, time: Box::new(time) }
+    /// A call over a field, at several lengths.
+    fn at<E: Sides>(
+        name: &str,
+        lengths: &'static [usize],
+        time: impl Fn(usize) -> Row + 'a,
+    ) -> Self {
+        let name = format!("field {}, {name}", E::OURS.number());
+        Self { name, lengths, grows: lengths.len() > 1, time: Box::new(time) }
     }
 
     /// A row for each length, with its name.
@@ -60,22 +66,22 @@ impl<'a> Timed<'a> {
     }
 }
 
-/// All that is timed but the products.
-fn timed(bench: &Bench) -> Vec<Timed<'_>> {
+/// All that is timed over a field but the products.
+fn timed<E: Sides>(bench: &Bench) -> Vec<Timed<'_>> {
     let normalized = KINDS.map(|(name, kind)| {
         let name = format!("normalize, {name}");
-        Timed::at(&name, &NORMALIZED, move |n| calls::normalize(bench, kind, n))
+        Timed::at::<E>(&name, &NORMALIZED, move |n| calls::normalize::<E>(bench, kind, n))
     });
-    let lowered = calls::columns().map(|(name, columns)| {
+    let lowered = calls::columns::<E>().map(|(name, columns)| {
         let name = format!("lower, {} {name} columns", columns.len());
-        Timed::at(&name, &[128], move |_| calls::lower(bench, &columns))
+        Timed::at::<E>(&name, &[128], move |_| calls::lower::<E>(bench, &columns))
     });
-    let colliding = |n| calls::build(bench, Kind::Colliding, n);
+    let colliding = |n| calls::build::<E>(bench, Kind::Colliding, n);
     let others = [
-        Timed::at("build", &LENGTHS, |n| calls::build(bench, Kind::Expression, n)),
-        Timed::at("build, inputs of one hash", &[4_096], colliding),
-        Timed::at("compact", &LENGTHS, |n| calls::compact(bench, n)),
-        Timed::at("evaluate", &LENGTHS, |n| calls::evaluate(bench, n)),
+        Timed::at::<E>("build", &LENGTHS, |n| calls::build::<E>(bench, Kind::Expression, n)),
+        Timed::at::<E>("build, inputs of one hash", &[4_096], colliding),
+        Timed::at::<E>("compact", &LENGTHS, |n| calls::compact::<E>(bench, n)),
+        Timed::at::<E>("evaluate", &LENGTHS, |n| calls::evaluate::<E>(bench, n)),
     ];
     normalized.into_iter().chain(others).chain(lowered).collect()
 }
@@ -91,7 +97,8 @@ impl Asked {
     /// Ends the run where a word is in no row's name.
     fn check(&self, timed: &[Timed]) {
         let names = timed.iter().flat_map(Timed::rows).map(|(name, _)| name);
-        let names: Vec<String> = names.chain([products::NAME.to_string()]).collect();
+        let names: Vec<String> =
+            names.chain(products::ALL.map(|each| each.name.to_string())).collect();
         let strange = |word: &&String| !names.iter().any(|name| name.contains(*word));
         if let Some(word) = self.0.iter().find(strange) {
             stop(&format!("no row has {word} in its name; the rows are\n  {}", names.join("\n  ")));
@@ -106,12 +113,13 @@ fn main() {
         stop(&format!("{other} is no option (--help tells more)"));
     }
     let (bench, asked) = (Bench { quick: !options.is_empty() }, Asked(words));
-    let timed = timed(&bench);
+    let timed: Vec<Timed> =
+        timed::<QuadFelt>(&bench).into_iter().chain(timed::<BabyBear>(&bench)).collect();
     asked.check(&timed);
     print_calls(&timed, &asked);
     print_growth(&timed, &asked);
-    if asked.row(products::NAME) {
-        products::print(&bench);
+    for products in products::ALL.iter().filter(|products| asked.row(products.name)) {
+        products.print(&bench);
     }
 }
 

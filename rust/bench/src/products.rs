@@ -1,15 +1,17 @@
-//! Products modulo p, each on the one before it, and side by side.
+//! Products modulo p and modulo q, each on the one before it, and side by side.
 
 use std::hint::black_box;
 use std::time::Instant;
 
+use model::field::{P, Q};
+
 use crate::measure::{Bench, median, shown};
 
 unsafe extern "C" {
-    /// value · factor^count, below p.
-    safe fn felt_dependent(value: u64, factor: u64, count: u64) -> u64;
-    /// The sum modulo 2^64 of the products of neighbours.
-    fn felt_independent(words: *const u64, length: usize) -> u64;
+    /// value · factor^count in a field; 0 where a word is not below its modulus.
+    safe fn felt_dependent(field: u64, value: u64, factor: u64, count: u64) -> u64;
+    /// The sum modulo 2^64 of the products of neighbours, in field 2 of their low halves.
+    fn felt_independent(field: u64, words: *const u64, length: usize) -> u64;
 }
 
 /// The products of one timing that each take the one before.
@@ -21,7 +23,7 @@ const REPEATS: usize = 100;
 
 /// By the 128-bit product and its remainder.
 fn remainder(a: u64, b: u64) -> u64 {
-    (a as u128 * b as u128 % model::field::P as u128) as u64
+    (a as u128 * b as u128 % P as u128) as u64
 }
 
 /// By the two-step reduction.
@@ -39,8 +41,16 @@ fn halves(a: u64, b: u64) -> u64 {
     oracle::Felt::of_words(high, cross << 32 | low & 0xffff_ffff).word()
 }
 
-/// Products that each take the one before.
-fn dependent(value: u64, factor: u64, product: impl Fn(u64, u64) -> u64) -> u64 {
+/// By the 64-bit product of the low halves and its remainder.
+fn short_remainder(a: u64, b: u64) -> u64 {
+    (a & 0xffff_ffff) * (b & 0xffff_ffff) % Q
+}
+
+/// Products that each take the one before; 0 where a word is not below the modulus.
+fn dependent<const M: u64>(value: u64, factor: u64, product: impl Fn(u64, u64) -> u64) -> u64 {
+    if value >= M || factor >= M {
+        return 0;
+    }
     (0..COUNT).fold(value, |value, _| product(value, factor))
 }
 
@@ -56,31 +66,53 @@ struct Way {
     independent: fn(&[u64]) -> u64,
 }
 
-/// A way of plain Rust.
+/// A way of plain Rust, under a modulus.
 macro_rules! way {
-    ($name:literal, $product:expr) => {
+    ($name:literal, $modulus:expr, $product:expr) => {
         Way {
             name: $name,
-            dependent: |value, factor| dependent(value, factor, $product),
+            dependent: |value, factor| dependent::<{ $modulus }>(value, factor, $product),
             independent: |words| independent(words, $product),
         }
     };
 }
 
-/// Ours, then plain Rust's.
-fn ways() -> Vec<Way> {
-    vec![
-        Way {
-            name: "ours",
-            dependent: |value, factor| felt_dependent(value, factor, COUNT),
-            // SAFETY: the pointer and the length are one slice's.
-            independent: |words| unsafe { felt_independent(words.as_ptr(), words.len()) },
-        },
-        way!("Rust, u128 and %", remainder),
-        way!("Rust, u128, two-step reduction", reduction),
-        way!("Rust, 32-bit halves, two-step reduction", halves),
-    ]
+/// Ours in the field of this number.
+const fn ours<const FIELD: u64>() -> Way {
+    Way {
+        name: "ours",
+        dependent: |value, factor| felt_dependent(FIELD, value, factor, COUNT),
+        // SAFETY: the pointer and the length are one slice's.
+        independent: |words| unsafe { felt_independent(FIELD, words.as_ptr(), words.len()) },
+    }
 }
+
+/// The products of a field: what their rows are about, and the ways to multiply, ours
+/// first.
+pub struct Products {
+    pub name: &'static str,
+    modulus: u64,
+    ways: &'static [Way],
+}
+
+/// The products in field 1, then in field 2.
+pub const ALL: [Products; 2] = [
+    Products {
+        name: "a product modulo p",
+        modulus: P,
+        ways: &[
+            ours::<1>(),
+            way!("Rust, u128 and %", P, remainder),
+            way!("Rust, u128, two-step reduction", P, reduction),
+            way!("Rust, 32-bit halves, two-step reduction", P, halves),
+        ],
+    },
+    Products {
+        name: "a product modulo q",
+        modulus: Q,
+        ways: &[ours::<2>(), way!("Rust, u64 and %", Q, short_remainder)],
+    },
+];
 
 /// The seconds of one product, in either loop.
 fn times(way: &Way, words: &[u64]) -> [f64; 2] {
@@ -94,36 +126,43 @@ fn times(way: &Way, words: &[u64]) -> [f64; 2] {
     [one, half.elapsed().as_secs_f64() / (REPEATS * (WORDS - 1)) as f64]
 }
 
-/// What the rows are about.
-pub const NAME: &str = "a product modulo p";
-
-/// A row for each way, timed by turns, with how many times its time ours takes.
-pub fn print(bench: &Bench) {
-    println!(
-        "\n{:<44} {:>12} {:>8} {:>12} {:>8}",
-        NAME, "dependent", "ours by", "independent", "ours by"
-    );
-    let mut rng = differential::Rng::new(1);
-    let words: Vec<u64> = (0..WORDS).map(|_| rng.below(model::field::P)).collect();
-    let ways = ways();
-    let turns = if bench.quick { 51 } else { 501 };
-    let mut taken = vec![[const { Vec::new() }; 2]; ways.len()];
-    for _ in 0..turns {
-        for (way, taken) in ways.iter().zip(&mut taken) {
-            let both = times(way, &words);
-            taken.iter_mut().zip(both).for_each(|(all, one)| all.push(one));
-        }
+impl Products {
+    /// Words below the modulus, on which all ways agree.
+    fn words(&self) -> Vec<u64> {
+        let mut rng = differential::Rng::new(1);
+        let words: Vec<u64> = (0..WORDS).map(|_| rng.below(self.modulus)).collect();
+        let answers = |way: &Way| [(way.dependent)(words[0], words[1]), (way.independent)(&words)];
+        let agree = self.ways.iter().all(|way| answers(way) == answers(&self.ways[0]));
+        assert!(agree, "{}: the ways to multiply differ", self.name);
+        words
     }
-    let medians: Vec<[f64; 2]> = taken.into_iter().map(|both| both.map(median)).collect();
-    for (way, both) in ways.iter().zip(&medians) {
-        let by = |which: usize| format!("{:.2}", medians[0][which] / both[which]);
+
+    /// A row for each way, timed by turns, with how many times its time ours takes.
+    pub fn print(&self, bench: &Bench) {
         println!(
-            "{:<44} {:>12} {:>8} {:>12} {:>8}",
-            way.name,
-            shown(both[0]),
-            by(0),
-            shown(both[1]),
-            by(1)
+            "\n{:<44} {:>12} {:>8} {:>12} {:>8}",
+            self.name, "dependent", "ours by", "independent", "ours by"
         );
+        let (ways, words) = (self.ways, self.words());
+        let turns = if bench.quick { 51 } else { 501 };
+        let mut taken = vec![[const { Vec::new() }; 2]; ways.len()];
+        for _ in 0..turns {
+            for (way, taken) in ways.iter().zip(&mut taken) {
+                let both = times(way, &words);
+                taken.iter_mut().zip(both).for_each(|(all, one)| all.push(one));
+            }
+        }
+        let medians: Vec<[f64; 2]> = taken.into_iter().map(|both| both.map(median)).collect();
+        for (way, both) in ways.iter().zip(&medians) {
+            let by = |which: usize| format!("{:.2}", medians[0][which] / both[which]);
+            println!(
+                "{:<44} {:>12} {:>8} {:>12} {:>8}",
+                way.name,
+                shown(both[0]),
+                by(0),
+                shown(both[1]),
+                by(1)
+            );
+        }
     }
 }

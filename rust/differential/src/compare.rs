@@ -2,9 +2,9 @@
 
 use std::collections::BTreeMap;
 
-use model::field::{Pair, generator, power};
+use model::field::Pair;
 use model::{
-    Call, Case, Judge, Outcome, Paper, Record, ZK, check_columns, expected, records, values,
+    Call, Case, Field, Judge, Outcome, Paper, Record, ZK, check_columns, expected, records, values,
 };
 
 use crate::cases::list_case;
@@ -21,9 +21,10 @@ pub struct Difference {
     pub file: Option<Vec<u8>>,
 }
 
-/// A call's comparisons so far.
+/// A call's comparisons over a field so far.
 pub struct Comparison {
     pub call: Call,
+    pub field: Field,
     /// Cases compared, follow-ups among them.
     pub cases: u64,
     /// Cases that differed.
@@ -40,13 +41,14 @@ pub struct Comparison {
 }
 
 impl Comparison {
-    pub fn new(call: Call, seed: u64, ours: Option<Lending>) -> Self {
+    pub fn new(call: Call, field: Field, seed: u64, ours: Option<Lending>) -> Self {
         Self {
             call,
+            field,
             cases: 0,
             failed: 0,
             outcomes: BTreeMap::new(),
-            paper: Paper::default(),
+            paper: Paper::over(field),
             second: matches!(call, Call::Normalize | Call::Lower).then_some(0),
             ours,
             rng: Rng::new(seed),
@@ -76,7 +78,7 @@ impl Comparison {
     /// The Rust's outcome, with the differences of the other sides from it.
     fn sides(&mut self, case: &Case, found: &mut Vec<Difference>) -> Outcome {
         self.cases += 1;
-        let rust = expected(case, &mut Rust);
+        let rust = expected(case, &mut Rust(self.field));
         *self.outcomes.entry(rust.answer[0]).or_default() += 1;
         let paper = expected(case, &mut self.paper);
         if paper != rust {
@@ -97,21 +99,21 @@ impl Comparison {
     /// Normalises the answer again, holds the rounds to `normalize_dag` and the values to each
     /// other.
     fn again(&mut self, case: &Case, outcome: &Outcome, found: &mut Vec<Difference>) {
-        let [n, root] = case.scalars[..] else { panic!("two numbers") };
+        let [_, n, root] = case.scalars[..] else { panic!("three numbers") };
         let [_, count, new_root, _] = outcome.answer[..] else { panic!("four words") };
         let before = records(&case.stores[0][..3 * n as usize]);
         let after = records(&outcome.after[0][..3 * count as usize]);
-        let next = list_case(Call::Normalize, &mut self.rng, &after, new_root);
+        let next = list_case(Call::Normalize, self.field, &mut self.rng, &after, new_root);
         let answer = self.sides(&next, found);
         let unchanged = records(&answer.after[0][..3 * count as usize]) == after;
         if answer.answer != [0, count, new_root, 0] || !unchanged {
             found.push(said(&next, "an answer normalised again changed"));
         }
-        if oracle::normalize_whole(&before, root) != (after.clone(), new_root) {
+        if Rust(self.field).normalize_whole(&before, root) != (after.clone(), new_root) {
             found.push(said(case, "normalize_dag and its rounds one by one differ"));
         }
         let seed = self.rng.word();
-        if value(&before, root, seed) != value(&after, new_root, seed) {
+        if value(self.field, &before, root, seed) != value(self.field, &after, new_root, seed) {
             found.push(said(case, "the root's value changed"));
         }
         self.checked();
@@ -119,17 +121,19 @@ impl Comparison {
 
     /// Evaluates each column's node at a power of the shared generator: the column's entry.
     fn entries(&mut self, case: &Case, outcome: &Outcome, found: &mut Vec<Difference>) {
-        let [_, period] = case.scalars[..] else { panic!("two numbers") };
-        let columns = check_columns(&case.stores[1], &case.stores[2]).expect("accepted columns");
+        let [_, _, period] = case.scalars[..] else { panic!("three numbers") };
+        let field = self.field;
+        let columns = check_columns(field, &case.stores[1], &case.stores[2]);
+        let columns = columns.expect("accepted columns");
         if columns.is_empty() {
             return;
         }
         let list = records(&outcome.after[0][..3 * outcome.answer[1] as usize]);
         let row = self.rng.below(period);
-        let point = power(generator(period.ilog2()), row);
+        let point = field.power(field.generator(period.ilog2()), row);
         let seed = self.rng.word();
-        let element = |key| if key == ZK { [point, 0] } else { element(key, seed) };
-        let values = values(&list, element, 7);
+        let element = |key| if key == ZK { [point, 0] } else { element(field, key, seed) };
+        let values = values(field, &list, element);
         for (column, &place) in columns.iter().zip(&outcome.after[2]) {
             let entry = column[(row % column.len() as u64) as usize];
             if values[place as usize] != [entry, 0] {
@@ -141,19 +145,19 @@ impl Comparison {
 }
 
 /// An element for a key, different under each seed.
-fn element(key: u64, seed: u64) -> Pair {
+fn element(field: Field, key: u64, seed: u64) -> Pair {
     let mut rng = Rng::new(key ^ seed.rotate_left(17));
-    [rng.below(model::field::P), rng.below(model::field::P)]
+    field.reduced([rng.word(), rng.word()])
 }
 
 /// The root's value with the elements of this seed.
-fn value(list: &[Record], root: u64, seed: u64) -> Pair {
-    values(list, |key| element(key, seed), 7)[root as usize]
+fn value(field: Field, list: &[Record], root: u64, seed: u64) -> Pair {
+    values(field, list, |key| element(field, key, seed))[root as usize]
 }
 
-/// Whether a judge answers this case as the Rust does.
-pub fn agrees(case: &Case, judge: &mut dyn Judge) -> bool {
-    expected(case, judge) == expected(case, &mut Rust)
+/// Whether a judge answers this case as the Rust over this field does.
+pub fn agrees(case: &Case, field: Field, judge: &mut dyn Judge) -> bool {
+    expected(case, judge) == expected(case, &mut Rust(field))
 }
 
 /// A difference of two outcomes.

@@ -3,7 +3,7 @@
 use std::collections::BTreeMap;
 use std::fmt::Write;
 
-use model::{FILE_LIMIT, HEAD, KINDS, Paper, RECORD, listing, read_house_file};
+use model::{FILE_LIMIT, Field, HEAD, KINDS, Paper, RECORD, listing, read_house_file};
 
 use crate::cases::LONGEST_FILE;
 use crate::compare::Difference;
@@ -94,8 +94,8 @@ impl<'a> Listings<'a> {
 
     /// Compares the listings of one file.
     pub fn take(&mut self, file: &[u8]) -> Option<Difference> {
-        let rust = listing(file, &mut Rust);
-        let paper = listing(file, &mut Paper::default());
+        let rust = listing(file, &mut Rust(Field::GOLDILOCKS));
+        let paper = listing(file, &mut Paper::over(Field::GOLDILOCKS));
         self.count(file, &rust);
         let delivery = Delivery::ALL[self.rng.weighted(&[5, 1, 2])];
         let mut found = (paper != rust).then(|| ("document 01", Ok(paper.into_bytes())));

@@ -16,9 +16,9 @@ use differential::compare::{Comparison, Difference};
 use differential::listings::Listings;
 use differential::ours::Lending;
 use differential::program::Program;
-use differential::report::{Missing, Summary, grouped, table};
+use differential::report::{self, Missing, Summary, grouped, table};
 use differential::{Rng, Rust, record};
-use model::{Call, Case};
+use model::{Call, Case, Field};
 
 use options::{Options, Part, Task};
 use progress::Progress;
@@ -45,11 +45,11 @@ const A_FILE: u64 = 100;
 const SECONDS: u64 = 60;
 
 /// About the seconds that short lists and corners take.
-const FIXED: u64 = 20;
+const FIXED: u64 = 40;
 
 /// The differences of one part: printed as cases to send, and kept.
 struct Shown<'a> {
-    name: &'static str,
+    name: String,
     seed: u64,
     count: u64,
     progress: &'a Progress,
@@ -62,7 +62,8 @@ impl Shown<'_> {
             return;
         }
         let Self { name, seed, count, .. } = self;
-        let path = Path::new(DIFFERENCES).join(format!("{name}-{count}.txt"));
+        let file = format!("{name}-{count}.txt").replace(", ", "-").replace(' ', "-");
+        let path = Path::new(DIFFERENCES).join(file);
         let heading = format!("DIFFERENCE {count} in {name}, seed {seed}");
         let mut kept = vec![path.clone()];
         let mut whole = keep(&path, format!("{heading}\n{}", difference.whole));
@@ -107,18 +108,18 @@ impl Run {
         }
     }
 
-    fn shown(&self, name: &'static str) -> Shown<'_> {
+    fn shown(&self, name: String) -> Shown<'_> {
         Shown { name, seed: self.options.seed, count: 0, progress: &self.progress }
     }
 
-    /// Compares the cases of one call: short lists, faults, corners, then random ones.
-    fn call(&self, call: Call) -> Summary {
+    /// Compares the cases of one call over a field: short lists, faults, corners, then random ones.
+    fn call(&self, call: Call, field: Field) -> Summary {
         let options = &self.options;
         let lending = if options.bare { Lending::Bare } else { Lending::Guarded };
         let lending = (!options.without_ours).then_some(lending);
-        let mut run = Comparison::new(call, options.seed, lending);
-        let mut rng = Rng::new(options.seed ^ (call as u64 + 1) << 56);
-        let mut shown = self.shown(call.signature().name);
+        let mut run = Comparison::new(call, field, options.seed, lending);
+        let mut rng = Rng::new(options.seed ^ (call as u64 + 1) << 56 ^ field.number << 48);
+        let mut shown = self.shown(report::name(call, field));
         let mut take = |case: Case| -> Flow {
             for difference in run.take(&case) {
                 shown.show(&difference);
@@ -128,12 +129,12 @@ impl Run {
         };
         let thorough = !options.quick && !options.corners;
         if !options.corners {
-            let _ = cases::exhaustive(call, &mut rng, thorough, &mut take);
+            let _ = cases::exhaustive(call, field, &mut rng, thorough, &mut take);
         }
-        let _ = cases::faulty(call, &mut rng, thorough, &mut take);
-        let _ = cases::fixed(call, &mut rng, thorough, &mut take);
+        let _ = cases::faulty(call, field, &mut rng, thorough, &mut take);
+        let _ = cases::fixed(call, field, &mut rng, thorough, &mut take);
         self.random(self.wanted(), || {
-            let _ = take(cases::random(call, &mut rng));
+            let _ = take(cases::random(call, field, &mut rng));
         });
         Summary::of_call(&run)
     }
@@ -146,7 +147,7 @@ impl Run {
             .then(|| Box::new(move |file: &[u8], delivery| program.list(file, delivery)) as _);
         let mut run = Listings::new(list, options.seed);
         let mut rng = Rng::new(options.seed ^ 0xff << 56);
-        let mut shown = self.shown("normlist");
+        let mut shown = self.shown(Part::Normlist.name());
         let mut take = |file: Vec<u8>| {
             if let Some(difference) = run.take(&file) {
                 shown.show(&difference);
@@ -166,7 +167,7 @@ impl Run {
         self.progress.begin(part.name());
         let mut summary = match (absent(part, &self.options), part) {
             (Some(why), _) => Summary::absent(part.name(), why),
-            (None, Part::Call(call)) => self.call(call),
+            (None, Part::Call(call, field)) => self.call(call, field),
             (None, Part::Normlist) => self.normlist(),
         };
         self.progress.end();
@@ -186,6 +187,10 @@ impl Run {
 #[cfg(feature = "ours")]
 fn calls_absent() -> Option<String> {
     let archive = ace::ARCHIVE;
+    let (has, wants) = (ace::words::interface(), ace::words::INTERFACE);
+    if has != wants {
+        return Some(format!("{archive} has interface {has}, and rust/ace is for {wants}"));
+    }
     let other = format!("{archive} is gone, or is not what was linked: touch it, and run again");
     (!ace::archive_is_linked()).then_some(other)
 }
@@ -200,7 +205,7 @@ fn absent(part: Part, options: &Options) -> Option<String> {
     let program = options.program.display();
     match part {
         _ if options.without_ours => None,
-        Part::Call(_) => calls_absent(),
+        Part::Call(..) => calls_absent(),
         Part::Normlist if options.program.exists() => None,
         Part::Normlist => Some(format!("{program} is not there (`rt check normlist` builds it)")),
     }
@@ -220,7 +225,7 @@ fn say_sides(options: &Options) {
 
 /// The whole comparison: what each part met, a table, the verdict.
 fn compare(options: Options) -> ExitCode {
-    let parts = options.part.map_or_else(Part::all, |part| vec![part]);
+    let parts = options.parts();
     say_sides(&options);
     let timed = options.seconds.is_some()
         || (options.cases.is_none() && !options.quick && !options.corners);
@@ -242,17 +247,16 @@ fn compare(options: Options) -> ExitCode {
 fn list() -> Result<ExitCode, String> {
     let mut file = Vec::new();
     std::io::stdin().read_to_end(&mut file).map_err(|error| format!("standard input: {error}"))?;
-    let text = model::listing(&file, &mut Rust);
+    let text = model::listing(&file, &mut Rust(Field::GOLDILOCKS));
     std::io::stdout().write_all(text.as_bytes()).map_err(|error| format!("{error}"))?;
     Ok(ExitCode::SUCCESS)
 }
 
 /// Writes the recorded sample of a call, or of every call.
 fn write_sample(options: &Options) -> Result<ExitCode, String> {
-    let calls = match options.part {
+    let calls = match options.what {
         None => Call::ALL.to_vec(),
-        Some(Part::Call(call)) => vec![call],
-        Some(Part::Normlist) => return Err("record takes a call".into()),
+        Some(name) => vec![Call::named(name).ok_or("record takes a call")?],
     };
     let out: &PathBuf = options.out.as_ref().ok_or("record needs --out FILE")?;
     let bytes = record::stream(&calls, options.count, options.seed);

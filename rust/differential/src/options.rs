@@ -2,25 +2,46 @@
 
 use std::path::PathBuf;
 
-use model::Call;
+use differential::report;
+use model::{Call, Field};
+
+/// The program that is compared, over house files of field 1.
+const NORMLIST: &str = "normlist";
 
 /// What is compared under one name.
 #[derive(Clone, Copy, Debug, PartialEq, Eq)]
 pub enum Part {
-    Call(Call),
+    Call(Call, Field),
     Normlist,
 }
 
 impl Part {
     /// Every part, in the order of a run.
-    pub fn all() -> Vec<Part> {
-        Call::ALL.into_iter().map(Part::Call).chain([Part::Normlist]).collect()
+    fn all() -> Vec<Part> {
+        let calls = Call::ALL.into_iter();
+        let parts = calls.flat_map(|call| Field::ALL.map(|field| Part::Call(call, field)));
+        parts.chain([Part::Normlist]).collect()
     }
 
-    pub fn name(self) -> &'static str {
+    /// The call or the program.
+    fn what(self) -> &'static str {
         match self {
-            Part::Call(call) => call.signature().name,
-            Part::Normlist => "normlist",
+            Part::Call(call, _) => call.signature().name,
+            Part::Normlist => NORMLIST,
+        }
+    }
+
+    fn field(self) -> Field {
+        match self {
+            Part::Call(_, field) => field,
+            Part::Normlist => Field::GOLDILOCKS,
+        }
+    }
+
+    pub fn name(self) -> String {
+        match self {
+            Part::Call(call, field) => report::name(call, field),
+            Part::Normlist => NORMLIST.to_string(),
         }
     }
 }
@@ -40,7 +61,9 @@ pub struct Options {
     pub seconds: Option<u64>,
     pub cases: Option<u64>,
     pub seed: u64,
-    pub part: Option<Part>,
+    /// The one call, or normlist, that is asked for.
+    pub what: Option<&'static str>,
+    pub field: Option<Field>,
     pub quick: bool,
     pub corners: bool,
     pub bare: bool,
@@ -57,22 +80,39 @@ fn number<T: std::str::FromStr>(option: &str, digits: &str) -> Result<T, String>
     digits.parse().map_err(|_| format!("{option} takes a number, not {digits}"))
 }
 
-/// The part with this name.
-fn part(name: &str) -> Result<Part, String> {
-    let names = || Part::all().iter().map(|part| part.name()).collect::<Vec<_>>().join(", ");
-    let found = Part::all().into_iter().find(|part| part.name() == name);
-    found.ok_or_else(|| format!("no call is named {name}; there are {}", names()))
+/// The call or the program with this name.
+fn what(name: &str) -> Result<&'static str, String> {
+    let mut names: Vec<&str> = Part::all().into_iter().map(Part::what).collect();
+    names.dedup();
+    let found = names.iter().find(|known| **known == name).copied();
+    found.ok_or_else(|| format!("no call is named {name}; there are {}", names.join(", ")))
+}
+
+/// The field with this number.
+fn field(digits: &str) -> Result<Field, String> {
+    let found = Field::numbered(number("--field", digits)?);
+    found.ok_or_else(|| format!("--field takes 1 or 2, not {digits}"))
 }
 
 impl Options {
-    /// The options of these words, or what is wrong with them.
-    pub fn read(words: &[String]) -> Result<Self, String> {
-        let mut options = Self {
+    /// The parts that are asked for, in the order of a run.
+    pub fn parts(&self) -> Vec<Part> {
+        let asked = |part: &Part| {
+            self.what.is_none_or(|what| part.what() == what)
+                && self.field.is_none_or(|field| part.field() == field)
+        };
+        Part::all().into_iter().filter(asked).collect()
+    }
+
+    /// The options of no words.
+    fn unnamed() -> Self {
+        Self {
             task: Task::Compare,
             seconds: None,
             cases: None,
             seed: 1,
-            part: None,
+            what: None,
+            field: None,
             quick: false,
             corners: false,
             bare: false,
@@ -81,7 +121,12 @@ impl Options {
             program: "target/bin/normlist".into(),
             out: None,
             count: 300,
-        };
+        }
+    }
+
+    /// The options of these words, or what is wrong with them.
+    pub fn read(words: &[String]) -> Result<Self, String> {
+        let mut options = Self::unnamed();
         let mut words = words.iter();
         while let Some(word) = words.next() {
             let mut value = || words.next().ok_or_else(|| format!("{word} needs a value"));
@@ -100,9 +145,13 @@ impl Options {
                 "--count" => options.count = number(word, value()?)?,
                 "--out" => options.out = Some(value()?.into()),
                 "--program" => options.program = value()?.into(),
-                "--call" => options.part = Some(part(value()?)?),
+                "--call" => options.what = Some(what(value()?)?),
+                "--field" => options.field = Some(field(value()?)?),
                 _ => return Err(format!("{word} is no option")),
             }
+        }
+        if options.parts().is_empty() {
+            return Err(format!("{NORMLIST} reads house files of field 1 alone"));
         }
         Ok(options)
     }

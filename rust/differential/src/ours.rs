@@ -100,32 +100,36 @@ fn call(case: &Case, _: &mut [Lent], _: &mut [u64]) {
 #[cfg(feature = "ours")]
 fn call(case: &Case, lent: &mut [Lent], answer: &mut [u64]) {
     let number = |place: usize| case.scalars[place];
+    let field = number(0);
     match case.call {
         Call::Step => {
-            let list = lent[0].store_mut();
-            ace::words::step(list, number(0), number(1), number(2), number(3), sized(answer));
+            let (list, [tag, first, second]) = (lent[0].store_mut(), [2, 3, 4].map(number));
+            ace::words::step(field, list, number(1), tag, first, second, sized(answer));
         }
         Call::Build => {
             let [list, result, map] = lent else { panic!("three stores") };
-            let (result, map) = (result.store_mut(), map.store_mut());
-            ace::words::build(list.store(), number(0), number(1), result, map, sized(answer));
+            let (list, result, map) = (list.store(), result.store_mut(), map.store_mut());
+            ace::words::build(field, list, number(1), number(2), result, map, sized(answer));
         }
         Call::Compact => {
             let [list, result] = lent else { panic!("two stores") };
             let (list, result) = (list.store(), result.store_mut());
-            ace::words::compact(list, number(0), number(1), result, sized(answer));
+            ace::words::compact(field, list, number(1), number(2), result, sized(answer));
         }
         Call::Normalize => {
             let [list, result, work] = lent else { panic!("three stores") };
-            let (result, work) = (result.store_mut(), work.store_mut());
-            ace::words::normalize(list.store(), number(0), number(1), result, work, sized(answer));
+            let (list, result, work) = (list.store(), result.store_mut(), work.store_mut());
+            ace::words::normalize(field, list, number(1), number(2), result, work, sized(answer));
         }
         Call::Evaluate => {
             let [list, assignment] = lent else { panic!("two stores") };
-            let (list, entries) = (list.store(), assignment.store());
-            ace::words::evaluate(list, number(0), number(1), entries, number(2), sized(answer));
+            let (list, entries, [n, root, m]) =
+                (list.store(), assignment.store(), [1, 2, 3].map(number));
+            ace::words::evaluate(field, list, n, root, entries, m, sized(answer));
         }
-        Call::Prepare => ace::words::prepare(lent[0].store(), lent[1].store(), sized(answer)),
+        Call::Prepare => {
+            ace::words::prepare(field, lent[0].store(), lent[1].store(), sized(answer));
+        }
         Call::Lower => lower(case, lent, sized(answer)),
     }
 }
@@ -136,8 +140,8 @@ fn lower(case: &Case, lent: &mut [Lent], answer: &mut [u64; 4]) {
     let [list, lengths, entries, result, work, places] = lent else { panic!("six stores") };
     let (list, lengths, entries) = (list.store(), lengths.store(), entries.store());
     let (result, work, places) = (result.store_mut(), work.store_mut(), places.store_mut());
-    let [n, period] = case.scalars[..] else { panic!("two numbers") };
-    ace::words::lower(list, n, lengths, entries, period, result, work, places, answer);
+    let [field, n, period] = case.scalars[..] else { panic!("three numbers") };
+    ace::words::lower(field, list, n, lengths, entries, period, result, work, places, answer);
 }
 
 /// These answer words, as many as the call has.

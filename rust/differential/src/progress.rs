@@ -9,7 +9,7 @@ use differential::report::grouped;
 
 /// What the line says.
 struct Line {
-    name: &'static str,
+    name: String,
     cases: u64,
     failed: u64,
     begun: Instant,
@@ -51,7 +51,7 @@ impl Progress {
             return Self(None);
         }
         let begun = Instant::now();
-        let line = Line { name: "", cases: 0, failed: 0, begun, on: false };
+        let line = Line { name: String::new(), cases: 0, failed: 0, begun, on: false };
         let line = Arc::new(Mutex::new(line));
         let shown = Arc::downgrade(&line);
         thread::spawn(move || {
@@ -68,7 +68,7 @@ impl Progress {
     }
 
     /// Begins with what has this name.
-    pub fn begin(&self, name: &'static str) {
+    pub fn begin(&self, name: String) {
         if let Some(line) = &self.0 {
             let begun = Instant::now();
             *held(line) = Line { name, cases: 0, failed: 0, begun, on: true };

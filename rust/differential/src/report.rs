@@ -3,7 +3,7 @@
 use std::collections::BTreeMap;
 use std::fmt::{self, Write};
 
-use model::Event;
+use model::{Call, Event, Field};
 
 use crate::compare::Comparison;
 use crate::listings::{Listings, REFUSALS};
@@ -30,9 +30,14 @@ impl fmt::Display for Missing {
     }
 }
 
+/// The name of a call over a field.
+pub fn name(call: Call, field: Field) -> String {
+    format!("{}, field {}", call.signature().name, field.number)
+}
+
 /// What was compared under one name, and what was met.
 pub struct Summary {
-    pub name: &'static str,
+    pub name: String,
     /// Cases compared.
     pub cases: u64,
     /// Cases that differed.
@@ -60,7 +65,7 @@ pub fn grouped(number: u64) -> String {
 impl Summary {
     /// What was met of what had to be.
     fn new(
-        name: &'static str,
+        name: String,
         counts: [u64; 2],
         outcomes: &BTreeMap<u64, u64>,
         refusals: &[u64],
@@ -85,13 +90,14 @@ impl Summary {
         }
         met.extend(run.second.filter(|&n| n > 0).map(|n| ("second checks".to_string(), n)));
         let counts = [run.cases, run.failed];
-        let mut summary = Self::new(signature.name, counts, &run.outcomes, signature.refusals, met);
+        let name = name(run.call, run.field);
+        let mut summary = Self::new(name, counts, &run.outcomes, signature.refusals, met);
         summary.missing.extend(run.second.filter(|&n| n == 0).map(|_| Missing::Second));
         summary
     }
 
     /// The summary of a part that could not be compared, and why.
-    pub fn absent(name: &'static str, why: String) -> Self {
+    pub fn absent(name: String, why: String) -> Self {
         let missing = vec![Missing::Absent(why)];
         let outcomes = BTreeMap::new();
         Self { name, cases: 0, failed: 0, seconds: 0.0, outcomes, met: vec![], missing }
@@ -99,7 +105,8 @@ impl Summary {
 
     /// The summary of the listings compared.
     pub fn of_listings(run: &Listings) -> Self {
-        Self::new("normlist", [run.cases, run.failed], &run.outcomes, &REFUSALS, run.met())
+        let counts = [run.cases, run.failed];
+        Self::new("normlist".to_string(), counts, &run.outcomes, &REFUSALS, run.met())
     }
 
     /// Cases accepted.
@@ -144,13 +151,13 @@ fn forms(run: &Comparison) -> Vec<(String, u64)> {
 /// A row for each of these, and the sum where there are several.
 pub fn table(rows: &[Summary]) -> String {
     let mut text = String::from(
-        "               cases      accepted       refused   differ    missing   seconds\n",
+        "                        cases      accepted       refused   differ    missing   seconds\n",
     );
     let mut row = |name: &str, numbers: [u64; 5], seconds: f64| {
         let [cases, accepted, refused, differ, missing] = numbers.map(grouped);
         let _ = writeln!(
             text,
-            "{name:<9} {cases:>10} {accepted:>13} {refused:>13} {differ:>8} {missing:>10} {seconds:>9.1}",
+            "{name:<18} {cases:>10} {accepted:>13} {refused:>13} {differ:>8} {missing:>10} {seconds:>9.1}",
         );
     };
     let mut sums = [0; 5];
@@ -158,7 +165,7 @@ pub fn table(rows: &[Summary]) -> String {
         let refused = each.cases - each.accepted();
         let missing = each.missing.len() as u64;
         let numbers = [each.cases, each.accepted(), refused, each.failed, missing];
-        row(each.name, numbers, each.seconds);
+        row(&each.name, numbers, each.seconds);
         for (sum, number) in sums.iter_mut().zip(numbers) {
             *sum += number;
         }

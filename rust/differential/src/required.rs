@@ -90,9 +90,12 @@ const ROUNDS: [Event; 23] = [
     LongRound,
 ];
 
-/// The events that a run of this call has to meet.
+/// What refusing a field's number can come before.
+const NO_FIELD: [Event; 2] = [FieldAlone, FieldFirst];
+
+/// The events that a run of this call has to meet, over each field.
 pub fn events(call: Call) -> Vec<Event> {
-    match call {
+    let events = match call {
         Call::Step => {
             let corners = [FoundOfSeveral, FullKnown, FullNew, ShortStore];
             [&RULES[..], &INTERNING, &corners].concat()
@@ -103,7 +106,8 @@ pub fn events(call: Call) -> Vec<Event> {
         Call::Evaluate => vec![RepeatedKey, UnreachableInput],
         Call::Prepare => CHOICES.to_vec(),
         Call::Lower => [&CHOICES[..], &LOWERING].concat(),
-    }
+    };
+    [&events[..], &NO_FIELD].concat()
 }
 
 /// Whether columns of length 2^`bits` can take this form.

@@ -3,59 +3,62 @@
 use std::ops::ControlFlow::{Break, Continue};
 
 use differential::compare::agrees;
-use differential::{Rng, cases, record};
-use model::{Call, Mutant, Paper, expected};
+use differential::{Rng, cases, record, report};
+use model::{Call, Field, Mutant, Paper, expected};
 
 /// Whether a case of a quick run is answered otherwise by this mutant than by the Rust.
-fn told(mutant: Mutant, call: Call) -> bool {
-    let mut paper = Paper::wrong(mutant);
+fn told(mutant: Mutant, call: Call, field: Field) -> bool {
+    let mut paper = Paper::wrong(mutant, field);
     let mut rng = Rng::new(1);
     let mut sink = |case: model::Case| {
         let few = case.stores.iter().all(|store| store.len() <= 12_400);
-        if few && !agrees(&case, &mut paper) { Break(()) } else { Continue(()) }
+        if few && !agrees(&case, field, &mut paper) { Break(()) } else { Continue(()) }
     };
-    cases::exhaustive(call, &mut rng, false, &mut sink).is_break()
-        || cases::faulty(call, &mut rng, false, &mut sink).is_break()
-        || (0..20_000).any(|_| sink(cases::random(call, &mut rng)).is_break())
-        || cases::fixed(call, &mut rng, false, &mut sink).is_break()
+    cases::telling(call, field, &mut rng, &mut sink).is_break()
+}
+
+/// Every call and field that show a mistake, which these tell from the right definitions.
+fn assert_told(mut told: impl FnMut(Mutant, Call, Field) -> bool) {
+    let mut missed = Vec::new();
+    for &mutant in Mutant::ALL {
+        for &call in mutant.calls() {
+            for field in Field::ALL.into_iter().filter(|&field| mutant.shows_in(field)) {
+                if !told(mutant, call, field) {
+                    missed.push(format!("{} ({})", mutant.text(), report::name(call, field)));
+                }
+            }
+        }
+    }
+    assert!(missed.is_empty(), "not told apart: {}", missed.join("; "));
 }
 
 #[test]
 fn every_wrong_definition_gives_a_difference() {
-    let mut missed = Vec::new();
-    for &mutant in Mutant::ALL {
-        for &call in mutant.calls() {
-            if !told(mutant, call) {
-                missed.push(format!("{} ({})", mutant.text(), call.signature().name));
-            }
-        }
-    }
-    assert!(missed.is_empty(), "not told apart: {}", missed.join("; "));
+    assert_told(told);
 }
 
 #[test]
 fn a_recorded_sample_tells_every_wrong_definition() {
-    let mut missed = Vec::new();
-    for call in Call::ALL {
-        let recorded = record::chosen(call, 300, 1);
-        for &mutant in Mutant::ALL.iter().filter(|mutant| mutant.calls().contains(&call)) {
-            let mut paper = Paper::wrong(mutant);
-            if recorded.iter().all(|(case, outcome)| expected(case, &mut paper) == *outcome) {
-                missed.push(format!("{} ({})", mutant.text(), call.signature().name));
-            }
-        }
-    }
-    assert!(missed.is_empty(), "not told apart: {}", missed.join("; "));
+    let recorded = Call::ALL.map(|call| record::chosen(call, 300, 1));
+    assert_told(|mutant, call, field| {
+        let mut paper = Paper::wrong(mutant, field);
+        let is_other = |number| Field::numbered(number).is_some_and(|other| other != field);
+        let cases = &recorded[call as usize];
+        let mut own = cases.iter().filter(|(case, _)| !is_other(case.scalars[0]));
+        own.any(|(case, outcome)| expected(case, &mut paper) != *outcome)
+    });
 }
 
 #[test]
 fn the_right_definitions_give_none() {
-    let mut paper = Paper::default();
-    for call in Call::ALL {
-        let mut rng = Rng::new(2);
-        for _ in 0..2_000 {
-            let case = cases::random(call, &mut rng);
-            assert!(agrees(&case, &mut paper), "{}", case.text(true));
+    for field in Field::ALL {
+        let mut paper = Paper::over(field);
+        for call in Call::ALL {
+            let mut rng = Rng::new(2);
+            for _ in 0..2_000 {
+                let case = cases::random(call, field, &mut rng);
+                assert!(agrees(&case, field, &mut paper), "{}", case.text(true));
+            }
         }
     }
 }

@@ -7,11 +7,11 @@ use differential::listings::{Listings, REFUSALS};
 use differential::program::{Delivery, Program};
 use differential::report::{Missing, Summary};
 use differential::{Rng, Rust};
-use model::{HEAD, RECORD, house_file, listing, read_house_file};
+use model::{Field, HEAD, RECORD, house_file, listing, read_house_file};
 
 /// What `normlist` prints.
 fn right(file: &[u8]) -> String {
-    listing(file, &mut Rust)
+    listing(file, &mut Rust(Field::GOLDILOCKS))
 }
 
 /// A refusal's line.

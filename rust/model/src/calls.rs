@@ -3,10 +3,12 @@
 use crate::BLANK;
 use crate::case::{Call, Case, Outcome, Record};
 use crate::events::Event;
+use crate::field::Field;
 use crate::judge::Judge;
 use crate::lists::reached;
+use crate::mutants::Mutant;
 use crate::refusal::{
-    LIMIT, LOWER_WORK, PERIOD, Refusal, check_assignment, check_columns, check_list, check_record,
+    LIMIT, LOWER_WORK, Refusal, check_assignment, check_columns, check_list, check_record,
 };
 
 /// The values that an accepted call answers, and its writable stores afterwards.
@@ -27,19 +29,10 @@ impl From<Refusal> for Refused {
     }
 }
 
-/// What this call comes to by this judge.
+/// What this call comes to by this judge, who is over its field.
 pub fn expected(case: &Case, judge: &mut dyn Judge) -> Outcome {
-    let result = match case.call {
-        Call::Step => step(case, judge),
-        Call::Build => build(case, judge),
-        Call::Compact => compact(case, judge),
-        Call::Normalize => normalize(case, judge),
-        Call::Evaluate => evaluate(case, judge),
-        Call::Prepare => prepare(case, judge),
-        Call::Lower => lower(case, judge),
-    };
     let mut answer = vec![0; case.call.signature().answer];
-    match result {
+    match called(case, judge) {
         Ok(accepted) => {
             answer[1..=accepted.values.len()].copy_from_slice(&accepted.values);
             Outcome { answer, after: accepted.after }
@@ -50,6 +43,47 @@ pub fn expected(case: &Case, judge: &mut dyn Judge) -> Outcome {
             Outcome { answer, after: refused.after.unwrap_or_else(|| case.writable()) }
         }
     }
+}
+
+/// What the call accepts or refuses: the field's number before all else.
+fn called(case: &Case, judge: &mut dyn Judge) -> Result<Accepted, Refused> {
+    let field = field(case, judge)?;
+    match case.call {
+        Call::Step => step(case, field, judge),
+        Call::Build => build(case, field, judge),
+        Call::Compact => compact(case, field, judge),
+        Call::Normalize => normalize(case, field, judge),
+        Call::Evaluate => evaluate(case, field, judge),
+        Call::Prepare => prepare(case, field, judge),
+        Call::Lower => lower(case, field, judge),
+    }
+}
+
+/// The judge's field, which is the call's, or 49.
+fn field(case: &Case, judge: &mut dyn Judge) -> Result<Field, Refusal> {
+    let field = judge.field();
+    if let Some(named) = Field::numbered(case.scalars[0]) {
+        assert_eq!(named.number, field.number, "the judge is over the call's field");
+        return Ok(field);
+    }
+    let opening = match case.call {
+        Call::Prepare => columns(case, field).err(),
+        _ => list(case, field).err(),
+    };
+    judge.note(if opening.is_none() { Event::FieldAlone } else { Event::FieldFirst });
+    Err(opening.filter(|_| judge.has(Mutant::FieldLate)).unwrap_or(Refusal::new(49)))
+}
+
+/// The call's list, where it passes the list check.
+fn list(case: &Case, field: Field) -> Result<Vec<Record>, Refusal> {
+    let n = case.number("n").expect("a call on a list");
+    check_list(field, &case.stores[0], n, case.number("root"))
+}
+
+/// The call's columns, where Prepare's tests let them pass; Lower has a list before them.
+fn columns(case: &Case, field: Field) -> Result<Vec<Vec<u64>>, Refusal> {
+    let behind = usize::from(case.call == Call::Lower);
+    check_columns(field, &case.stores[behind], &case.stores[behind + 1])
 }
 
 /// A store of this length: these words, then blanks.
@@ -67,12 +101,12 @@ fn enough(stores: &[(&Vec<u64>, usize)]) -> Result<(), Refusal> {
     Ok(())
 }
 
-fn step(case: &Case, judge: &mut dyn Judge) -> Result<Accepted, Refused> {
-    let [n, tag, first, second] = case.scalars[..] else { panic!("four numbers") };
+fn step(case: &Case, field: Field, judge: &mut dyn Judge) -> Result<Accepted, Refused> {
+    let [_, n, tag, first, second] = case.scalars[..] else { panic!("five numbers") };
     let store = &case.stores[0];
-    let list = check_list(store, n, true, None)?;
+    let list = list(case, field)?;
     let request = [tag, first, second];
-    if let Some(number) = check_record(request, n) {
+    if let Some(number) = check_record(field, request, n) {
         return Err(Refusal::at(number, list.len()).into());
     }
     let (stepped, place) = judge.step(&list, request);
@@ -92,10 +126,10 @@ fn step(case: &Case, judge: &mut dyn Judge) -> Result<Accepted, Refused> {
     Ok(Accepted { values: vec![place, stepped.len() as u64], after: vec![after] })
 }
 
-fn build(case: &Case, judge: &mut dyn Judge) -> Result<Accepted, Refused> {
-    let [n, root] = case.scalars[..] else { panic!("two numbers") };
-    let [list, result, map] = &case.stores[..] else { panic!("three stores") };
-    let requests = check_list(list, n, false, Some(root))?;
+fn build(case: &Case, field: Field, judge: &mut dyn Judge) -> Result<Accepted, Refused> {
+    let [_, _, root] = case.scalars[..] else { panic!("three numbers") };
+    let [_, result, map] = &case.stores[..] else { panic!("three stores") };
+    let requests = list(case, field)?;
     enough(&[(result, 3 * requests.len()), (map, requests.len())])?;
     let (built, places) = judge.build(&requests);
     Ok(Accepted {
@@ -104,10 +138,10 @@ fn build(case: &Case, judge: &mut dyn Judge) -> Result<Accepted, Refused> {
     })
 }
 
-fn compact(case: &Case, judge: &mut dyn Judge) -> Result<Accepted, Refused> {
-    let [n, root] = case.scalars[..] else { panic!("two numbers") };
-    let [list, result] = &case.stores[..] else { panic!("two stores") };
-    let records = check_list(list, n, false, Some(root))?;
+fn compact(case: &Case, field: Field, judge: &mut dyn Judge) -> Result<Accepted, Refused> {
+    let [_, _, root] = case.scalars[..] else { panic!("three numbers") };
+    let [_, result] = &case.stores[..] else { panic!("two stores") };
+    let records = list(case, field)?;
     enough(&[(result, 3 * records.len())])?;
     let (kept, root) = judge.compact(&records, root);
     Ok(Accepted {
@@ -116,10 +150,10 @@ fn compact(case: &Case, judge: &mut dyn Judge) -> Result<Accepted, Refused> {
     })
 }
 
-fn normalize(case: &Case, judge: &mut dyn Judge) -> Result<Accepted, Refused> {
-    let [n, root] = case.scalars[..] else { panic!("two numbers") };
-    let [list, result, work] = &case.stores[..] else { panic!("three stores") };
-    let records = check_list(list, n, false, Some(root))?;
+fn normalize(case: &Case, field: Field, judge: &mut dyn Judge) -> Result<Accepted, Refused> {
+    let [_, _, root] = case.scalars[..] else { panic!("three numbers") };
+    let [_, result, work] = &case.stores[..] else { panic!("three stores") };
+    let records = list(case, field)?;
     enough(&[(result, 3 * records.len()), (work, 6 * records.len())])?;
     let (normal, root, rounds) = judge.normalize(&records, root);
     Ok(Accepted {
@@ -128,11 +162,10 @@ fn normalize(case: &Case, judge: &mut dyn Judge) -> Result<Accepted, Refused> {
     })
 }
 
-fn evaluate(case: &Case, judge: &mut dyn Judge) -> Result<Accepted, Refused> {
-    let [n, root, m] = case.scalars[..] else { panic!("three numbers") };
-    let [list, assignment] = &case.stores[..] else { panic!("two stores") };
-    let records = check_list(list, n, false, Some(root))?;
-    let entries = check_assignment(assignment, m)?;
+fn evaluate(case: &Case, field: Field, judge: &mut dyn Judge) -> Result<Accepted, Refused> {
+    let [_, _, root, m] = case.scalars[..] else { panic!("four numbers") };
+    let records = list(case, field)?;
+    let entries = check_assignment(field, &case.stores[1], m)?;
     let unassigned =
         |record: &Record| record[0] == 0 && entries.iter().all(|entry| entry[0] != record[1]);
     if let Some(place) = records.iter().position(unassigned) {
@@ -145,26 +178,23 @@ fn evaluate(case: &Case, judge: &mut dyn Judge) -> Result<Accepted, Refused> {
     Ok(Accepted { values: vec![c0, c1], after: vec![] })
 }
 
-fn prepare(case: &Case, judge: &mut dyn Judge) -> Result<Accepted, Refused> {
-    let [lengths, entries] = &case.stores[..] else { panic!("two stores") };
-    let columns = check_columns(lengths, entries)?;
+fn prepare(case: &Case, field: Field, judge: &mut dyn Judge) -> Result<Accepted, Refused> {
+    let columns = columns(case, field)?;
     let mut values = vec![columns.len() as u64];
     values.extend(judge.forms(&columns));
     Ok(Accepted { values, after: vec![] })
 }
 
-fn lower(case: &Case, judge: &mut dyn Judge) -> Result<Accepted, Refused> {
-    let [n, period] = case.scalars[..] else { panic!("two numbers") };
-    let [list, lengths, entries, result, work, places] = &case.stores[..] else {
-        panic!("six stores")
-    };
-    let records = check_list(list, n, true, None)?;
-    let columns = check_columns(lengths, entries)?;
+fn lower(case: &Case, field: Field, judge: &mut dyn Judge) -> Result<Accepted, Refused> {
+    let [_, _, period] = case.scalars[..] else { panic!("three numbers") };
+    let [_, lengths, _, result, work, places] = &case.stores[..] else { panic!("six stores") };
+    let records = list(case, field)?;
+    let columns = columns(case, field)?;
     enough(&[(work, LOWER_WORK), (places, columns.len())])?;
     let longest = lengths.iter().copied().max();
-    if longest
-        .is_some_and(|longest| !period.is_power_of_two() || period > PERIOD || period < longest)
-    {
+    let is_period =
+        |longest| period.is_power_of_two() && (longest..=field.longest_period).contains(&period);
+    if longest.is_some_and(|longest| !is_period(longest)) {
         return Err(Refusal::new(15).into());
     }
     let (lowered, nodes) = match longest {

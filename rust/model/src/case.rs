@@ -33,6 +33,7 @@ pub struct Store(pub &'static str, pub bool);
 /// What a call takes and answers, in the order of its signature.
 pub struct Signature {
     pub name: &'static str,
+    /// Its numbers: the field's, then the others.
     pub scalars: &'static [&'static str],
     pub stores: &'static [Store],
     /// How many words it answers.
@@ -47,59 +48,60 @@ const WORK: Store = Store("work", true);
 const LENGTHS: Store = Store("lengths", false);
 const ENTRIES: Store = Store("entries", false);
 
-/// The refusals of a list with a root.
-const ROOTED: &[u64] = &[1, 2, 3, 4, 5, 6];
+/// The numbers and the refusals of a call on a list with a root.
+const ROOTED: &[&str] = &["field", "n", "root"];
+const ROOTED_REFUSALS: &[u64] = &[1, 2, 3, 4, 5, 6, 49];
 
 /// The calls' signatures, in the order of `Call`.
 static SIGNATURES: [Signature; 7] = [
     Signature {
         name: "step",
-        scalars: &["n", "tag", "first", "second"],
+        scalars: &["field", "n", "tag", "first", "second"],
         stores: &[Store("list", true)],
         answer: 4,
-        refusals: &[1, 2, 3, 4, 5, 7],
+        refusals: &[1, 2, 3, 4, 5, 7, 49],
     },
     Signature {
         name: "build",
-        scalars: &["n", "root"],
+        scalars: ROOTED,
         stores: &[LIST, RESULT, Store("map", true)],
         answer: 4,
-        refusals: ROOTED,
+        refusals: ROOTED_REFUSALS,
     },
     Signature {
         name: "compact",
-        scalars: &["n", "root"],
+        scalars: ROOTED,
         stores: &[LIST, RESULT],
         answer: 4,
-        refusals: ROOTED,
+        refusals: ROOTED_REFUSALS,
     },
     Signature {
         name: "normalize",
-        scalars: &["n", "root"],
+        scalars: ROOTED,
         stores: &[LIST, RESULT, WORK],
         answer: 4,
-        refusals: ROOTED,
+        refusals: ROOTED_REFUSALS,
     },
     Signature {
         name: "evaluate",
-        scalars: &["n", "root", "m"],
+        scalars: &["field", "n", "root", "m"],
         stores: &[LIST, Store("assignment", false)],
         answer: 4,
-        refusals: &[1, 2, 3, 4, 5, 6, 11, 12],
+        refusals: &[1, 2, 3, 4, 5, 6, 11, 12, 49],
     },
     Signature {
         name: "prepare",
-        scalars: &[],
+        scalars: &["field"],
         stores: &[LENGTHS, ENTRIES],
         answer: 18,
-        refusals: &[2, 4, 13, 14],
+        refusals: &[2, 4, 13, 14, 49],
     },
     Signature {
         name: "lower",
-        scalars: &["n", "period"],
+        scalars: &["field", "n", "period"],
         stores: &[LIST, LENGTHS, ENTRIES, RESULT, WORK, Store("places", true)],
         answer: 4,
-        refusals: &[1, 2, 3, 4, 5, 7, 13, 14, 15],
+        refusals: &[1, 2, 3, 4, 5, 7, 13, 14, 15, 49],
     },
 ];
 
@@ -124,7 +126,7 @@ impl Call {
     }
 }
 
-/// A call, its numbers and the words of its stores as lent.
+/// A call, its numbers, that of its field first, and the words of its stores as lent.
 #[derive(Clone, Debug, PartialEq, Eq)]
 pub struct Case {
     pub call: Call,
@@ -133,6 +135,12 @@ pub struct Case {
 }
 
 impl Case {
+    /// The number with this name, where the call takes one.
+    pub fn number(&self, name: &str) -> Option<u64> {
+        let mut names = self.call.signature().scalars.iter();
+        names.position(|&scalar| scalar == name).map(|place| self.scalars[place])
+    }
+
     /// The stores that the call may write, as lent.
     pub fn writable(&self) -> Vec<Vec<u64>> {
         let signature = self.call.signature();

@@ -2,11 +2,11 @@
 
 use crate::case::Record;
 use crate::events::Event::*;
-use crate::field::{P, add, generator, inverse, mul, power, sub};
+use crate::field::Field;
 use crate::judge::Paper;
 use crate::keys::ZK;
 use crate::mutants::Mutant;
-use crate::refusal::{LIMIT, PERIOD};
+use crate::refusal::LIMIT;
 use crate::steps::Builder;
 
 const SPARSE: u64 = 0;
@@ -83,25 +83,27 @@ fn dominant(paper: &mut Paper, classes: &[Class]) -> Option<u64> {
 }
 
 /// Additions, scalings and constants of an offset and classes over the basis.
-fn combination_cost(offset: u64, classes: &[Class]) -> u64 {
+fn combination_cost(field: Field, offset: u64, classes: &[Class]) -> u64 {
     let elements: usize = classes.iter().map(|class| class.entries.len()).sum();
-    let scaled =
-        classes.iter().filter(|class| class.coefficient != 1 && class.coefficient != P - 1);
+    let units = [1, field.minus_one()];
+    let scaled = classes.iter().filter(|class| !units.contains(&class.coefficient));
     let offset_cost = if offset == 0 { 0 } else { 3 };
     (elements as u64).saturating_sub(1) + 3 * scaled.count() as u64 + offset_cost
 }
 
 /// The offset, zero or the dominant value, and the classes over it.
 fn combination(paper: &mut Paper, column: &[u64]) -> (u64, Vec<Class>) {
+    let field = paper.field;
     let all = classes(column);
     let direct: Vec<Class> = all.iter().filter(|class| class.coefficient != 0).cloned().collect();
     let Some(offset) = dominant(paper, &all) else { return (0, direct) };
     let complement: Vec<Class> = all
         .iter()
         .filter(|class| class.coefficient != offset)
-        .map(|class| Class { coefficient: sub(class.coefficient, offset), ..class.clone() })
+        .map(|class| Class { coefficient: field.sub(class.coefficient, offset), ..class.clone() })
         .collect();
-    let (over, plain) = (combination_cost(offset, &complement), combination_cost(0, &direct));
+    let over = combination_cost(field, offset, &complement);
+    let plain = combination_cost(field, 0, &direct);
     if over == plain {
         paper.met(OffsetTied);
     }
@@ -121,22 +123,23 @@ fn basis(paper: &mut Paper, column: &[u64]) -> Option<u64> {
         return None;
     }
     let (offset, classes) = combination(paper, column);
-    Some(combination_cost(offset, &classes))
+    Some(combination_cost(paper.field, offset, &classes))
 }
 
 /// The cost of a column on its own.
-pub fn standalone_cost(column: &[u64]) -> u64 {
-    standalone(&Paper::default(), column)
+pub fn standalone_cost(field: Field, column: &[u64]) -> u64 {
+    standalone(&Paper::over(field), column)
 }
 
 /// The cost of a column over the basis, if it has one.
-pub fn basis_cost(column: &[u64]) -> Option<u64> {
-    basis(&mut Paper::default(), column)
+pub fn basis_cost(field: Field, column: &[u64]) -> Option<u64> {
+    basis(&mut Paper::over(field), column)
 }
 
 /// What a column saves over the basis, never below 0.
-pub fn saving(column: &[u64]) -> u64 {
-    basis_cost(column).map_or(0, |basis| standalone_cost(column).saturating_sub(basis))
+pub fn saving(field: Field, column: &[u64]) -> u64 {
+    let basis = basis_cost(field, column);
+    basis.map_or(0, |basis| standalone_cost(field, column).saturating_sub(basis))
 }
 
 /// What the savings of a period have to exceed.
@@ -210,7 +213,7 @@ fn note_surroundings(paper: &mut Paper, list: &[Record], columns: &[Vec<u64>], p
     let longest = columns.iter().map(|column| column.len() as u64).max();
     for (is, event) in [
         (longest == Some(period), PeriodLongest),
-        (period == PERIOD, PeriodMost),
+        (period == paper.field.longest_period, PeriodMost),
         (list.contains(&[0, ZK, 0]), ZkPresent),
     ] {
         if is {
@@ -269,21 +272,22 @@ fn sparse_node(builder: &mut Builder, column: &[u64], ratio: u64) -> u64 {
             power_node = builder.request([4, power_node, power_node]);
         }
     }
-    let unit = inverse(generator(log(column) as u32));
+    let field = builder.paper.field;
+    let unit = field.inverse(field.generator(log(column) as u32));
     let late = u64::from(builder.paper.is(Mutant::LaterTwiddle));
-    let scale = inverse(column.len() as u64);
+    let scale = field.inverse(column.len() as u64);
     let mut sum = None;
     for (entry, &value) in column.iter().enumerate().filter(|&(_, &value)| value != 0) {
         let mut factor = builder.constant(1);
         for (level, &power_node) in powers.iter().enumerate() {
-            let twiddle = power(unit, (entry as u64 + late) << level);
+            let twiddle = field.power(unit, (entry as u64 + late) << level);
             let twiddle = builder.constant(twiddle);
             let scaled = builder.request([4, twiddle, power_node]);
             let one = builder.constant(1);
             let one_plus = builder.request([2, one, scaled]);
             factor = builder.request([4, factor, one_plus]);
         }
-        let scaled_value = builder.constant(mul(value, scale));
+        let scaled_value = builder.constant(field.mul(value, scale));
         let term = builder.request([4, scaled_value, factor]);
         sum = Some(match sum {
             None => term,
@@ -294,21 +298,23 @@ fn sparse_node(builder: &mut Builder, column: &[u64], ratio: u64) -> u64 {
 }
 
 /// Coefficient j: the sum of entry i × w^(−ij), over P.
-fn coefficients(column: &[u64]) -> Vec<u64> {
+fn coefficients(field: Field, column: &[u64]) -> Vec<u64> {
     let length = column.len();
-    let unit = inverse(generator(log(column) as u32));
-    let powers: Vec<u64> = (0..length as u64).map(|exponent| power(unit, exponent)).collect();
-    let scale = inverse(length as u64);
-    let term = |i: usize, j: usize| mul(column[i], powers[i * j % length]);
-    let sum = |j: usize| (0..length).fold(0, |sum, i| add(sum, term(i, j)));
-    (0..length).map(|j| mul(sum(j), scale)).collect()
+    let unit = field.inverse(field.generator(log(column) as u32));
+    let powers: Vec<u64> = (0..length as u64).map(|exponent| field.power(unit, exponent)).collect();
+    let scale = field.inverse(length as u64);
+    let term = |i: usize, j: usize| field.mul(column[i], powers[i * j % length]);
+    let sum = |j: usize| (0..length).fold(0, |sum, i| field.add(sum, term(i, j)));
+    (0..length).map(|j| field.mul(sum(j), scale)).collect()
 }
 
 /// Horner's rule from the highest coefficient down.
 fn dense_node(builder: &mut Builder, column: &[u64], ratio: u64) -> u64 {
     let point = column_point(builder, ratio);
-    let mut coefficients: Vec<u64> =
-        coefficients(column).iter().map(|&coefficient| builder.constant(coefficient)).collect();
+    let mut coefficients: Vec<u64> = coefficients(builder.paper.field, column)
+        .iter()
+        .map(|&coefficient| builder.constant(coefficient))
+        .collect();
     if builder.paper.is(Mutant::HighestFirst) {
         coefficients.reverse();
     }
@@ -330,14 +336,16 @@ struct Products {
 impl Products {
     /// The factors' nodes and their running products.
     fn over(builder: &mut Builder, point: u64, length: usize) -> Self {
-        let unit = generator(length.ilog2());
-        let roots: Vec<u64> = (0..length as u64).map(|exponent| power(unit, exponent)).collect();
+        let field = builder.paper.field;
+        let unit = field.generator(length.ilog2());
+        let roots: Vec<u64> =
+            (0..length as u64).map(|exponent| field.power(unit, exponent)).collect();
         let mut factors = Vec::new();
         for &root in &roots {
             let root = builder.constant(root);
             factors.push(builder.request([3, point, root]));
         }
-        let mut prefix = vec![builder.constant(inverse(length as u64))];
+        let mut prefix = vec![builder.constant(field.inverse(length as u64))];
         for place in 1..length {
             prefix.push(builder.request([4, prefix[place - 1], factors[place - 1]]));
         }
@@ -362,15 +370,16 @@ fn basis_node(builder: &mut Builder, column: &[u64], ratio: u64) -> u64 {
     let point = column_point(builder, ratio);
     let products = Products::over(builder, point, column.len());
     let (offset, classes) = combination(builder.paper, column);
-    let minus: Vec<bool> = classes.iter().map(|class| class.coefficient == P - 1).collect();
-    if !minus.is_sorted() {
+    let minus_one = builder.paper.field.minus_one();
+    let is_minus = |class: &&Class| class.coefficient == minus_one;
+    if !classes.iter().is_sorted_by_key(|class| is_minus(&class)) {
         builder.paper.met(MinusOneClass);
     }
     let passes =
         if builder.paper.is(Mutant::MinusOneFirst) { [true, false] } else { [false, true] };
     let mut sum = builder.constant(offset);
     for subtracted in passes {
-        for class in classes.iter().filter(|class| (class.coefficient == P - 1) == subtracted) {
+        for class in classes.iter().filter(|class| is_minus(class) == subtracted) {
             sum = add_class(builder, &products, class, sum, subtracted);
         }
     }

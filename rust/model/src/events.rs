@@ -98,12 +98,14 @@ events! {
     MinusOneClass = "class of minus one before another",
     SixteenLongest = "16 columns of 128",
     PeriodLongest = "period equal to the longest column",
-    PeriodMost = "period 2^32",
+    PeriodMost = "longest period",
     ZkPresent = "ZK present already",
     LandsOnLimit = "4,096 records result",
     OneOver = "4,097 records result",
     ResultExact = "result store exactly enough",
     ResultShort = "result store one word short",
+    FieldAlone = "49 with a good list or columns",
+    FieldFirst = "49 before another refusal",
 }
 
 /// How often each event was met, and each form and edge at each column length.

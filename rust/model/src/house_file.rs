@@ -3,6 +3,7 @@
 use std::fmt::Write;
 
 use crate::case::Record;
+use crate::field::Field;
 use crate::judge::Judge;
 use crate::refusal::{Refusal, check_list};
 
@@ -56,10 +57,10 @@ pub fn read_house_file(file: &[u8]) -> Result<(Vec<Record>, u64), Refusal> {
     }
     let record = |bytes: &[u8]| [number(&bytes[..1]), number(&bytes[1..9]), number(&bytes[9..])];
     let words: Vec<u64> = body.chunks(RECORD).flat_map(record).collect();
-    Ok((check_list(&words, count, false, Some(root))?, root))
+    Ok((check_list(Field::GOLDILOCKS, &words, count, Some(root))?, root))
 }
 
-/// What `normlist` prints for a file, its list normalised by this judge.
+/// What `normlist` prints for a file, its list normalised by this judge over field 1.
 pub fn listing(file: &[u8], judge: &mut dyn Judge) -> String {
     let (list, root) = match read_house_file(file) {
         Ok(read) => read,

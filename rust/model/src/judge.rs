@@ -2,11 +2,19 @@
 
 use crate::case::Record;
 use crate::events::{Event, Tally};
-use crate::field::Pair;
+use crate::field::{Field, Pair};
 use crate::mutants::Mutant;
 
-/// The answers to lists, assignments and columns that are good.
+/// The answers to lists, assignments and columns that are good, over one field.
 pub trait Judge {
+    /// The field.
+    fn field(&self) -> Field;
+
+    /// Whether this mistake is in force.
+    fn has(&self, _mutant: Mutant) -> bool {
+        false
+    }
+
     /// The list after one request on it, and the result's place.
     fn step(&mut self, list: &[Record], request: Record) -> (Vec<Record>, u64);
 
@@ -37,17 +45,22 @@ pub trait Judge {
     fn note(&mut self, _event: Event) {}
 }
 
-/// Document 01's definitions, with one of them wrong where a mutant is chosen.
-#[derive(Default)]
+/// Document 01's definitions over a field, with one of them wrong where a mutant is chosen.
 pub struct Paper {
+    pub field: Field,
     pub mutant: Option<Mutant>,
     pub tally: Tally,
 }
 
 impl Paper {
+    /// The definitions over this field.
+    pub fn over(field: Field) -> Self {
+        Self { field, mutant: None, tally: Tally::default() }
+    }
+
     /// The definitions with this mistake in them.
-    pub fn wrong(mutant: Mutant) -> Self {
-        Self { mutant: Some(mutant), tally: Tally::default() }
+    pub fn wrong(mutant: Mutant, field: Field) -> Self {
+        Self { mutant: Some(mutant), ..Self::over(mutant.field(field)) }
     }
 
     /// Whether this mistake is in force.
@@ -62,6 +75,14 @@ impl Paper {
 }
 
 impl Judge for Paper {
+    fn field(&self) -> Field {
+        self.field
+    }
+
+    fn has(&self, mutant: Mutant) -> bool {
+        self.is(mutant)
+    }
+
     fn step(&mut self, list: &[Record], request: Record) -> (Vec<Record>, u64) {
         crate::steps::step(self, list, request)
     }

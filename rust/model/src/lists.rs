@@ -4,7 +4,7 @@ use std::collections::HashMap;
 
 use crate::case::Record;
 use crate::events::Event::*;
-use crate::field::{Pair, pair_add, pair_mul, pair_sub};
+use crate::field::{Field, Pair};
 use crate::judge::Paper;
 use crate::mutants::Mutant;
 
@@ -66,17 +66,17 @@ pub(crate) fn compact(paper: &mut Paper, list: &[Record], root: u64) -> (Vec<Rec
 }
 
 /// The value of every record: an input's is its key's element.
-pub fn values(list: &[Record], element: impl Fn(u64) -> Pair, u_squared: u64) -> Vec<Pair> {
+pub fn values(field: Field, list: &[Record], element: impl Fn(u64) -> Pair) -> Vec<Pair> {
     let mut values: Vec<Pair> = Vec::with_capacity(list.len());
     for &[tag, first, second] in list {
         let value = |place: u64| values[place as usize];
         values.push(match tag {
             0 => element(first),
             1 => [first, second],
-            2 => pair_add(value(first), value(second)),
-            3 => pair_sub(value(first), value(second)),
-            4 => pair_mul(value(first), value(second), u_squared),
-            _ => pair_sub([0, 0], value(first)),
+            2 => field.pair_add(value(first), value(second)),
+            3 => field.pair_sub(value(first), value(second)),
+            4 => field.pair_mul(value(first), value(second)),
+            _ => field.pair_sub([0, 0], value(first)),
         });
     }
     values
@@ -99,6 +99,5 @@ pub(crate) fn evaluate(
     if repeated {
         paper.met(RepeatedKey);
     }
-    let u_squared = if paper.is(Mutant::SixForSeven) { 6 } else { 7 };
-    values(list, |key| elements[&key], u_squared)[root as usize]
+    values(paper.field, list, |key| elements[&key])[root as usize]
 }

@@ -4,6 +4,7 @@
 //! of a, the second operand of a rotation tried first as the inner one, rotation before factor.
 
 use crate::case::Call;
+use crate::field::{Field, P};
 
 macro_rules! mutants {
     ($($name:ident = $text:literal,)*) => {
@@ -39,7 +40,6 @@ mutants! {
     DuplicatesDropped = "compaction drops duplicates",
     NoRename = "compaction keeps the old root",
     FirstEntry = "the first entry of a key counts",
-    SixForSeven = "u squared is 6",
     LeastRotation = "a rotation takes the least equal place",
     AnyRotation = "a rotation takes a later record",
     SecondFactorFirst = "a's second factor tried first",
@@ -66,7 +66,23 @@ mutants! {
     ZeroColumnBare = "a column of zeros without ZK",
     HighestFirst = "dense coefficients from the highest",
     LaterTwiddle = "twiddles of the next entry",
+    FieldLate = "the field's number tested after the list or the columns",
+    SixForSeven = "u squared is 6",
+    ModulusTaken = "the modulus taken as a coordinate",
+    SecondTaken = "a second coordinate taken in field 2",
+    OtherModulus = "arithmetic modulo p in field 2",
+    OtherGenerator = "another generator of each order",
+    HalfOrder = "generators of half their order",
+    OtherPeriod = "the other field's longest period",
 }
+
+/// The calls on a list.
+const ON_LISTS: &[Call] =
+    &[Call::Step, Call::Build, Call::Compact, Call::Normalize, Call::Evaluate, Call::Lower];
+
+/// The calls that compute in their field.
+const COMPUTING: &[Call] =
+    &[Call::Step, Call::Build, Call::Normalize, Call::Evaluate, Call::Prepare, Call::Lower];
 
 impl Mutant {
     /// The calls whose answers show the mistake.
@@ -82,14 +98,46 @@ impl Mutant {
             | Unordered
             | DoubleNegation => &[Call::Step, Call::Build],
             DuplicatesDropped | NoRename => &[Call::Compact],
-            FirstEntry | SixForSeven => &[Call::Evaluate],
+            FirstEntry => &[Call::Evaluate],
+            SixForSeven => &[Call::Step, Call::Build, Call::Evaluate],
+            FieldLate | ModulusTaken => &Call::ALL,
+            SecondTaken => ON_LISTS,
+            OtherModulus => COMPUTING,
             FirstTied | OffsetOnTie | MinusOneFirst | SquaringsSpared | ZeroColumnBare
-            | HighestFirst | LaterTwiddle => &[Call::Lower],
+            | HighestFirst | LaterTwiddle | OtherGenerator | HalfOrder | OtherPeriod => {
+                &[Call::Lower]
+            }
             SavingsAtLeast | RepeatsCount | ZeroDominant | AllGoOver | EqualHasBasis
             | SparseOnTie => &[Call::Prepare, Call::Lower],
             LeastRotation | AnyRotation | SecondFactorFirst | FactorsByB | SecondCandidateFirst
             | SwappedDifference | NotShorter | WithoutRewrite | OneRound | NoRootMention
             | ReachableFanout | CompactedReturn | UnreachableSkipped => &[Call::Normalize],
+        }
+    }
+    /// Whether answers over this field show the mistake.
+    pub fn shows_in(self, field: Field) -> bool {
+        use Mutant::*;
+        match self {
+            SixForSeven => field == Field::GOLDILOCKS,
+            SecondTaken | OtherModulus => field == Field::BABY_BEAR,
+            _ => true,
+        }
+    }
+
+    /// The field as it is with this mistake.
+    pub(crate) fn field(self, right: Field) -> Field {
+        use Mutant::*;
+        let [c0, c1] = right.bounds;
+        let other = Field::ALL.into_iter().find(|field| *field != right).unwrap_or(right);
+        match self {
+            SixForSeven => Field { u_squared: 6, ..right },
+            ModulusTaken => Field { bounds: [c0 + 1, c1], ..right },
+            SecondTaken => Field { bounds: [c0, c0], ..right },
+            OtherModulus => Field { modulus: P, ..right },
+            OtherGenerator => Field { root: right.power(right.root, 3), ..right },
+            HalfOrder => Field { root: right.power(right.root, 2), ..right },
+            OtherPeriod => Field { longest_period: other.longest_period, ..right },
+            _ => right,
         }
     }
 }

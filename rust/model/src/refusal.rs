@@ -1,7 +1,7 @@
 //! When a call says no: document 01's numbers, in its order.
 
 use crate::case::{Record, records};
-use crate::field::P;
+use crate::field::Field;
 use crate::keys::is_key;
 
 /// The most records of a list.
@@ -15,9 +15,6 @@ pub const COLUMNS: usize = 16;
 
 /// The longest column.
 pub const LONGEST: u64 = 128;
-
-/// The longest shared period.
-pub const PERIOD: u64 = 1 << 32;
 
 /// The words of the work store that Lower asks for.
 pub const LOWER_WORK: usize = 12_288;
@@ -42,10 +39,10 @@ impl Refusal {
 }
 
 /// What is wrong with a record at this place: 3, 4 or 5.
-pub fn check_record([tag, first, second]: Record, place: u64) -> Option<u64> {
+pub fn check_record(field: Field, [tag, first, second]: Record, place: u64) -> Option<u64> {
     let malformed = match tag {
         0 => !is_key(first) || second != 0,
-        1 => first >= P || second >= P,
+        1 => !field.has([first, second]),
         5 => second != 0,
         _ => false,
     };
@@ -65,14 +62,14 @@ pub fn check_record([tag, first, second]: Record, place: u64) -> Option<u64> {
     }
 }
 
-/// The records of a list that passes the check; `root` where the call takes one.
+/// The records of a list that passes the check; one without a root may be empty.
 pub fn check_list(
+    field: Field,
     store: &[u64],
     n: u64,
-    may_be_empty: bool,
     root: Option<u64>,
 ) -> Result<Vec<Record>, Refusal> {
-    if (n == 0 && !may_be_empty) || n > LIMIT {
+    if (n == 0 && root.is_some()) || n > LIMIT {
         return Err(Refusal::new(1));
     }
     if (store.len() as u64) < 3 * n {
@@ -80,7 +77,7 @@ pub fn check_list(
     }
     let list = records(&store[..3 * n as usize]);
     for (place, &record) in list.iter().enumerate() {
-        if let Some(number) = check_record(record, place as u64) {
+        if let Some(number) = check_record(field, record, place as u64) {
             return Err(Refusal::at(number, place));
         }
     }
@@ -91,7 +88,7 @@ pub fn check_list(
 }
 
 /// The entries of an assignment that passes its tests.
-pub fn check_assignment(store: &[u64], m: u64) -> Result<Vec<Record>, Refusal> {
+pub fn check_assignment(field: Field, store: &[u64], m: u64) -> Result<Vec<Record>, Refusal> {
     if m > ENTRIES {
         return Err(Refusal::new(11));
     }
@@ -99,14 +96,18 @@ pub fn check_assignment(store: &[u64], m: u64) -> Result<Vec<Record>, Refusal> {
         return Err(Refusal::new(2));
     }
     let entries = records(&store[..3 * m as usize]);
-    match entries.iter().position(|&[key, c0, c1]| !is_key(key) || c0 >= P || c1 >= P) {
+    match entries.iter().position(|&[key, c0, c1]| !is_key(key) || !field.has([c0, c1])) {
         Some(place) => Err(Refusal::at(4, place)),
         None => Ok(entries),
     }
 }
 
 /// The columns, where Prepare's tests let them pass.
-pub fn check_columns(lengths: &[u64], entries: &[u64]) -> Result<Vec<Vec<u64>>, Refusal> {
+pub fn check_columns(
+    field: Field,
+    lengths: &[u64],
+    entries: &[u64],
+) -> Result<Vec<Vec<u64>>, Refusal> {
     if lengths.len() > COLUMNS {
         return Err(Refusal::new(13));
     }
@@ -124,7 +125,7 @@ pub fn check_columns(lengths: &[u64], entries: &[u64]) -> Result<Vec<Vec<u64>>, 
         columns.push(column.to_vec());
         rest = behind;
     }
-    match columns.iter().position(|column| column.iter().any(|&entry| entry >= P)) {
+    match columns.iter().position(|column| column.iter().any(|&entry| !field.has([entry, 0]))) {
         Some(place) => Err(Refusal::at(4, place)),
         None => Ok(columns),
     }

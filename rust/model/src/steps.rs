@@ -4,7 +4,7 @@ use std::collections::HashMap;
 
 use crate::case::Record;
 use crate::events::Event::{self, *};
-use crate::field::{Pair, pair_add, pair_mul, pair_sub};
+use crate::field::Pair;
 use crate::judge::Paper;
 use crate::mutants::Mutant;
 
@@ -109,12 +109,13 @@ impl<'a> Builder<'a> {
 
     /// What one rule says of these operands, where it applies.
     fn apply(&mut self, rule: Event, a: u64, b: u64) -> Option<Verdict> {
+        let field = self.paper.field;
         let constants = self.constant_at(a).zip(self.constant_at(b));
         match rule {
-            AddFold => constants.map(|(x, y)| folded(pair_add(x, y))),
-            SubFold => constants.map(|(x, y)| folded(pair_sub(x, y))),
-            MulFold => constants.map(|(x, y)| folded(pair_mul(x, y, 7))),
-            NegFold => self.constant_at(a).map(|x| folded(pair_sub([0, 0], x))),
+            AddFold => constants.map(|(x, y)| folded(field.pair_add(x, y))),
+            SubFold => constants.map(|(x, y)| folded(field.pair_sub(x, y))),
+            MulFold => constants.map(|(x, y)| folded(field.pair_mul(x, y))),
+            NegFold => self.constant_at(a).map(|x| folded(field.pair_sub([0, 0], x))),
             AddPlain => {
                 if self.at(a)[0] == 5 && self.at(b)[0] == 5 {
                     self.paper.met(BothNeg);

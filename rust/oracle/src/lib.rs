@@ -1,4 +1,4 @@
-//! The Rust of docs/src as judge: its files, unchanged, over a stand-in field, behind plain
+//! The Rust of docs/src as judge: its files, unchanged, over either stand-in field, behind plain
 //! functions on records of three words.
 //!
 //! The build script copies the files from the folder that ACE_SRC names; none of their text stands
@@ -10,11 +10,11 @@ extern crate standin as miden_crypto;
 extern crate standin as p3_dft;
 
 pub use compiler::dag::words::{
-    Dag, Layout, Nodes, Record, build, compact, evaluate, forms, lower, normalize, normalize_whole,
-    step, step_from_nodes, step_from_snapshot,
+    Dag, Element, Layout, Nodes, Record, build, compact, evaluate, forms, lower, normalize,
+    normalize_whole, step, step_from_nodes, step_from_snapshot,
 };
 
-pub use miden_crypto::field::{Felt, Field, QuadFelt, TwoAdicField};
+pub use miden_crypto::field::{BabyBear, Felt, QuadFelt};
 
 /// The folder that the files were taken from, as it was named.
 pub const SOURCE: &str = env!("ORACLE_SOURCE");

@@ -88,27 +88,32 @@ fn butterflies<F: TwoAdicField>(values: &mut [F], level: usize, twiddles: &[F]) 
 #[cfg(test)]
 mod tests {
     use super::*;
-    use crate::field::{Felt, Field};
+    use crate::field::{BabyBear, Felt};
+
+    /// Holds a transform of this length to its sum.
+    fn hold<F: TwoAdicField>(dft: &Radix2DFTSmallBatch<F>, bits: usize, element: fn(u64) -> F) {
+        let length = 1 << bits;
+        let values: Vec<F> = (0..length).map(|i| element(i * i * i + 3)).collect();
+        let inverse = F::two_adic_generator(bits).inverse();
+        let scale = element(length).inverse();
+        let mut step = F::ONE;
+        for coefficient in dft.idft(values.clone()) {
+            let (mut sum, mut power) = (F::ZERO, F::ONE);
+            for value in &values {
+                sum += *value * power;
+                power *= step;
+            }
+            assert_eq!(coefficient, sum * scale);
+            step *= inverse;
+        }
+    }
 
     #[test]
     fn coefficients_are_the_sums_of_their_definition() {
-        let dft = Radix2DFTSmallBatch::default();
+        let (p, q) = (Radix2DFTSmallBatch::default(), Radix2DFTSmallBatch::default());
         for bits in [0, 1, 2, 3, 4, 5, 6, 7, 7, 3] {
-            let length = 1usize << bits;
-            let values: Vec<Felt> = (0..length as u64).map(|i| Felt::new(i * i * i + 3)).collect();
-            let inverse = Felt::two_adic_generator(bits).inverse();
-            let scale = Felt::new(length as u64).inverse();
-            let answer = dft.idft(values.clone());
-            let mut step = Felt::ONE;
-            for coefficient in answer {
-                let (mut sum, mut power) = (Felt::ZERO, Felt::ONE);
-                for value in &values {
-                    sum += *value * power;
-                    power *= step;
-                }
-                assert_eq!(coefficient, sum * scale);
-                step *= inverse;
-            }
+            hold(&p, bits, Felt::new);
+            hold(&q, bits, BabyBear::new);
         }
     }
 }

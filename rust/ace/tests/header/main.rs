@@ -7,8 +7,9 @@ mod stack;
 use std::path::{Path, PathBuf};
 use std::process::{Command, Output};
 
-/// The exported calls.
-const CALLS: [&str; 7] = [
+/// The exported functions.
+const EXPORTED: [&str; 8] = [
+    "ace_interface",
     "ace_step",
     "ace_build",
     "ace_compact",
@@ -52,16 +53,26 @@ fn complaint_of(compiler: (&str, &str), name: &str, source: &str, words: &[&str]
     String::from_utf8_lossy(&output.stderr).into_owned()
 }
 
-/// The parameters of the functions that begin so: name, then each parameter's type.
-fn functions(text: &str, begin: &str) -> Vec<(String, Vec<String>)> {
+/// A function's name, its parameters' types, and whether it answers a word.
+#[derive(Clone)]
+struct Function {
+    name: String,
+    types: Vec<String>,
+    answers: bool,
+}
+
+/// The functions that begin so.
+fn functions(text: &str, begin: &str) -> Vec<Function> {
     let mut found = Vec::new();
     for part in text.split(begin).skip(1) {
         let (name, rest) = part.split_once('(').expect("parameters");
-        let (parameters, _) = rest.split_once(')').expect("the end of the parameters");
+        let (parameters, behind) = rest.split_once(')').expect("the end of the parameters");
         let parameters = parameters.split(',').filter_map(|each| each.split_once(':'));
         let types = parameters.map(|(_, kind)| kind.trim().to_string()).collect();
-        found.push((format!("ace_{name}"), types));
+        let answers = behind.starts_with(" -> u64");
+        found.push(Function { name: format!("ace_{name}"), types, answers });
     }
+    found.sort_by_key(|function| EXPORTED.iter().position(|name| *name == function.name));
     found
 }
 
@@ -88,18 +99,25 @@ fn of_exported(kind: &str) -> &'static str {
 }
 
 /// A C source that compiles only where the header declares these functions with these types.
-fn assertions(functions: &[(String, Vec<String>)], types: fn(&str) -> &'static str) -> String {
+fn assertions(functions: &[Function], c_type: fn(&str) -> &'static str) -> String {
     let mut source = String::from("#include \"ace.h\"\n");
-    for (name, parameters) in functions {
-        let types: Vec<&str> = parameters.iter().map(|kind| types(kind)).collect();
-        source += &format!("extern void (*const check_{name})({});\n", types.join(", "));
-        source += &format!("void (*const check_{name})({}) = {name};\n", types.join(", "));
+    for Function { name, types, answers } in functions {
+        let types: Vec<&str> = types.iter().map(|kind| c_type(kind)).collect();
+        let types = if types.is_empty() { "void".to_string() } else { types.join(", ") };
+        let answer = if *answers { "uint64_t" } else { "void" };
+        source += &format!("extern {answer} (*const check_{name})({types});\n");
+        source += &format!("{answer} (*const check_{name})({types}) = {name};\n");
     }
     source
 }
 
+/// Whether these are the exported functions.
+fn are_exported(functions: &[Function]) -> bool {
+    functions.iter().map(|function| &function.name).eq(EXPORTED)
+}
+
 /// The functions that the Rust calls.
-fn called() -> Vec<(String, Vec<String>)> {
+fn called() -> Vec<Function> {
     functions(&text("rust/ace/src/words.rs"), "fn ace_")
 }
 
@@ -115,25 +133,31 @@ fn the_header_is_good_c_and_good_cpp() {
 #[test]
 fn the_header_declares_what_the_rust_calls() {
     let called = called();
-    assert!(called.iter().map(|(name, _)| name).eq(CALLS));
+    assert!(are_exported(&called));
     assert_eq!(complaint("rust.c", &assertions(&called, of_rust), &["-std=c99"]), "");
 }
 
 #[test]
 fn the_header_declares_what_is_exported() {
     let exported = functions(&text("crates/ace/src/lib.rt"), "pub extern \"C\" fn ace_");
-    assert!(exported.iter().map(|(name, _)| name).eq(CALLS));
+    assert!(are_exported(&exported));
     assert_eq!(complaint("exported.c", &assertions(&exported, of_exported), &["-std=c99"]), "");
 }
 
 #[test]
 fn a_wrong_signature_does_not_compile() {
-    for place in 0..CALLS.len() {
-        let mut wrong = called();
-        wrong[place].1[0] = "u64".to_string();
-        let source = assertions(&wrong, of_rust);
-        let complaint = complaint(&format!("wrong{place}.c"), &source, &["-std=c99"]);
-        assert!(complaint.contains(CALLS[place]), "{}: {complaint}", CALLS[place]);
+    for (place, name) in EXPORTED.iter().enumerate() {
+        let (mut wrong, mut other) = (called(), called());
+        // The answer's pointer becomes a number, or a number is asked for where nothing is.
+        wrong[place].types.pop();
+        wrong[place].types.push("u64".to_string());
+        other[place].answers = !other[place].answers;
+        for (which, functions) in [wrong, other].iter().enumerate() {
+            let source = assertions(functions, of_rust);
+            let file = format!("wrong{place}_{which}.c");
+            let complaint = complaint(&file, &source, &["-std=c99"]);
+            assert!(complaint.contains(name), "{name}: {complaint}");
+        }
     }
 }
 

@@ -1,5 +1,7 @@
 //! The calls run in the stack that the header names.
 
+use ace::Field;
+
 use super::numbers::defined;
 
 /// The most records of a list.
@@ -27,32 +29,43 @@ fn on_the_stack(call: impl FnOnce() -> bool + Send + 'static) -> bool {
 #[test]
 fn calls_on_a_long_chain_of_negations() {
     assert_eq!(negations().len() as u64, 3 * MOST);
-    assert!(on_the_stack(|| ace::step(&mut negations(), MOST - 1, 2, 1, MOST - 2).is_ok()));
-    assert!(on_the_stack(|| {
-        let (mut result, mut map) = (negations(), negations());
-        ace::build(&negations(), MOST, MOST - 1, &mut result, &mut map).is_ok()
-    }));
-    assert!(on_the_stack(|| {
-        let (mut result, mut work) = (negations(), vec![9; 6 * MOST as usize]);
-        ace::normalize(&negations(), MOST, MOST - 1, &mut result, &mut work).is_ok()
-    }));
-    assert!(on_the_stack(|| {
-        let mut result = negations();
-        ace::compact(&negations(), MOST, MOST - 1, &mut result).is_ok()
-    }));
+    for field in Field::ALL {
+        assert!(on_the_stack(move || {
+            ace::step(field, &mut negations(), MOST - 1, 2, 1, MOST - 2).is_ok()
+        }));
+        assert!(on_the_stack(move || {
+            let (mut result, mut map) = (negations(), negations());
+            ace::build(field, &negations(), MOST, MOST - 1, &mut result, &mut map).is_ok()
+        }));
+        assert!(on_the_stack(move || {
+            let (mut result, mut work) = (negations(), vec![9; 6 * MOST as usize]);
+            ace::normalize(field, &negations(), MOST, MOST - 1, &mut result, &mut work).is_ok()
+        }));
+        assert!(on_the_stack(move || {
+            let mut result = negations();
+            ace::compact(field, &negations(), MOST, MOST - 1, &mut result).is_ok()
+        }));
+    }
+}
+
+/// Entries of columns, none of them alike.
+fn mixed(count: u64) -> Vec<u64> {
+    (0..count).map(|i| i * i * 479 + 3).collect()
 }
 
 #[test]
 fn calls_on_many_entries_and_columns() {
-    assert!(on_the_stack(|| {
-        let entries: Vec<u64> = (0..MOST).flat_map(|key| [key, 1, 2]).collect();
-        ace::evaluate(&negations(), MOST, MOST - 1, &entries, MOST).is_ok()
-    }));
-    let mixed = |count: u64| (0..count).map(|i| i * i * 7_919 + 3).collect::<Vec<u64>>();
-    assert!(on_the_stack(move || ace::prepare(&[128; 16], &mixed(2_048)).is_ok()));
-    assert!(on_the_stack(move || {
-        let (mut result, mut work, mut places) = (vec![9; 12_288], vec![9; 12_288], [9; 10]);
-        let (lengths, entries) = ([128; 10], mixed(1_280));
-        ace::lower(&[], 0, &lengths, &entries, 128, &mut result, &mut work, &mut places).is_ok()
-    }));
+    for field in Field::ALL {
+        assert!(on_the_stack(move || {
+            let entries: Vec<u64> = (0..MOST).flat_map(|key| [key, 1, 0]).collect();
+            ace::evaluate(field, &negations(), MOST, MOST - 1, &entries, MOST).is_ok()
+        }));
+        assert!(on_the_stack(move || ace::prepare(field, &[128; 16], &mixed(2_048)).is_ok()));
+        assert!(on_the_stack(move || {
+            let (mut result, mut work, mut places) = (vec![9; 12_288], vec![9; 12_288], [9; 10]);
+            let (lengths, entries, places) = ([128; 10], mixed(1_280), &mut places);
+            let (result, work) = (&mut result, &mut work);
+            ace::lower(field, &[], 0, &lengths, &entries, 128, result, work, places).is_ok()
+        }));
+    }
 }

@@ -2,17 +2,16 @@
 
 use std::collections::HashMap;
 
-use model::field::{P, add, sub};
-use model::saving;
+use model::{Field, saving};
 
 use crate::Rng;
 
 /// A nonzero entry: often a small one.
-fn value(rng: &mut Rng) -> u64 {
+fn value(field: Field, rng: &mut Rng) -> u64 {
     match rng.below(4) {
-        0 => rng.within(1, P - 1),
+        0 => rng.within(1, field.minus_one()),
         1 => 1,
-        2 => P - 1,
+        2 => field.minus_one(),
         _ => rng.within(2, 9),
     }
 }
@@ -41,20 +40,20 @@ fn tied(rng: &mut Rng, length: usize, values: &[u64]) -> Vec<u64> {
 }
 
 /// One column of this length.
-pub(super) fn column(rng: &mut Rng, length: usize) -> Vec<u64> {
-    let (a, b) = (value(rng), value(rng));
-    let near = [a, add(a, 1), sub(a, 1), 0];
+pub(super) fn column(field: Field, rng: &mut Rng, length: usize) -> Vec<u64> {
+    let (a, b) = (value(field, rng), value(field, rng));
+    let near = [a, field.add(a, 1), field.sub(a, 1), 0];
     let few = rng.within(1, 11) as usize;
     match rng.below(13) {
         0 => vec![0; length],
         1 => vec![a; length],
         2 => scattered(rng, length, 1, &[1]),
         3 => scattered(rng, length, 1, &[a]),
-        4 => scattered(rng, length, few, &[1, P - 1, a]),
+        4 => scattered(rng, length, few, &[1, field.minus_one(), a]),
         5 => drawn(rng, length, &[a, b]),
         6 => drawn(rng, length, &near),
         7 => tied(rng, length, &near),
-        8 => (0..length).map(|_| rng.below(P)).collect(),
+        8 => (0..length).map(|_| rng.below(field.modulus)).collect(),
         9 => {
             let mut column = vec![a; length];
             column[rng.below(length as u64) as usize] = rng.pick(&near);
@@ -63,7 +62,7 @@ pub(super) fn column(rng: &mut Rng, length: usize) -> Vec<u64> {
         10 => tied(rng, length, &[a, b]),
         11 => tied(rng, length, &[0, a, b]),
         _ => {
-            let values: Vec<u64> = (0..rng.within(2, 6)).map(|_| value(rng)).collect();
+            let values: Vec<u64> = (0..rng.within(2, 6)).map(|_| value(field, rng)).collect();
             drawn(rng, length, &[&values[..], &[0, 0]].concat())
         }
     }
@@ -75,7 +74,7 @@ fn length(rng: &mut Rng) -> usize {
 }
 
 /// Up to 16 columns; often of one length, some repeated.
-pub(super) fn any(rng: &mut Rng) -> Vec<Vec<u64>> {
+pub(super) fn any(field: Field, rng: &mut Rng) -> Vec<Vec<u64>> {
     let count = match rng.below(20) {
         0 => 0,
         1..14 => rng.within(1, 5),
@@ -94,20 +93,25 @@ pub(super) fn any(rng: &mut Rng) -> Vec<Vec<u64>> {
             2 => rng.pick(&[one, other]),
             _ => length(rng),
         };
-        columns.push(column(rng, length));
+        columns.push(column(field, rng, length));
     }
     columns
 }
 
 /// Distinct columns of this length whose savings come to exactly `target`.
-pub(super) fn saving_exactly(rng: &mut Rng, length: usize, target: u64) -> Option<Vec<Vec<u64>>> {
+pub(super) fn saving_exactly(
+    field: Field,
+    rng: &mut Rng,
+    length: usize,
+    target: u64,
+) -> Option<Vec<Vec<u64>>> {
     for _ in 0..40 {
-        let mut pool: Vec<Vec<u64>> = (0..40).map(|_| column(rng, length)).collect();
+        let mut pool: Vec<Vec<u64>> = (0..40).map(|_| column(field, rng, length)).collect();
         pool.sort_unstable();
         pool.dedup();
-        pool.retain(|column| saving(column) > 0);
+        pool.retain(|column| saving(field, column) > 0);
         rng.shuffle(&mut pool);
-        if let Some(chosen) = subset(&pool, target) {
+        if let Some(chosen) = subset(field, &pool, target) {
             return Some(chosen.into_iter().map(|place| pool[place].clone()).collect());
         }
     }
@@ -115,10 +119,10 @@ pub(super) fn saving_exactly(rng: &mut Rng, length: usize, target: u64) -> Optio
 }
 
 /// At most 16 of these columns whose savings come to `target`.
-fn subset(pool: &[Vec<u64>], target: u64) -> Option<Vec<usize>> {
+fn subset(field: Field, pool: &[Vec<u64>], target: u64) -> Option<Vec<usize>> {
     let mut sums: HashMap<u64, Vec<usize>> = HashMap::from([(0, vec![])]);
     for (place, column) in pool.iter().enumerate() {
-        let saving = saving(column);
+        let saving = saving(field, column);
         for (sum, chosen) in sums.clone() {
             let sum = sum + saving;
             if sum <= target && chosen.len() < 16 {
@@ -135,10 +139,12 @@ mod tests {
 
     #[test]
     fn every_period_has_columns_at_the_edge() {
-        for bits in 1..=7 {
+        for (field, bits) in
+            Field::ALL.into_iter().flat_map(|field| (1..=7).map(move |b| (field, b)))
+        {
             for more in 0..=1 {
                 let target = model::overhead(1 << bits) + more;
-                assert!(saving_exactly(&mut Rng::new(3), 1 << bits, target).is_some());
+                assert!(saving_exactly(field, &mut Rng::new(3), 1 << bits, target).is_some());
             }
         }
     }

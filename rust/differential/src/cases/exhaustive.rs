@@ -2,16 +2,16 @@
 
 use std::ops::ControlFlow::Continue;
 
-use model::field::P;
-use model::{Call, Case, Record};
+use model::{Call, Case, Field, Record};
 
+use super::faults::COORDINATES;
 use super::lists::{expressions, small_lists, small_records};
 use super::make::{column_case, list_case, step_case};
 use super::{Flow, Sink};
 use crate::Rng;
 
-/// Words for records that are good or bad in every way.
-const WORDS: [u64; 9] = [0, 1, 2, P - 1, P, 1 << 16, 1 << 48 | 1, 22 << 48, u64::MAX];
+/// Words for records that are good or bad in every way, beside the coordinates at the edges.
+const WORDS: [u64; 5] = [0, 2, 1 << 16, 1 << 48 | 1, 22 << 48];
 
 /// Tags that are good and bad.
 const TAGS: [u64; 8] = [0, 1, 2, 3, 4, 5, 6, u64::MAX];
@@ -23,48 +23,49 @@ fn some<T>(items: Vec<T>, thorough: bool, stride: usize) -> impl Iterator<Item =
 
 /// Every record of these words.
 fn any_records() -> Vec<Record> {
+    let words = [&WORDS[..], &COORDINATES].concat();
     let mut records = Vec::new();
     for tag in TAGS {
-        for first in WORDS {
-            records.extend(WORDS.map(|second| [tag, first, second]));
+        for &first in &words {
+            records.extend(words.iter().map(|&second| [tag, first, second]));
         }
     }
     records
 }
 
 /// Every request on every short list.
-pub(super) fn step(rng: &mut Rng, thorough: bool, sink: Sink) -> Flow {
+pub(super) fn step(field: Field, rng: &mut Rng, thorough: bool, sink: Sink) -> Flow {
     for n in 0..=4 {
-        let requests = small_records(n as u64);
+        let requests = small_records(field, n as u64);
         let stride = if n < 3 { 1 } else { 41 };
-        for list in some(small_lists(n), thorough, stride) {
+        for list in some(small_lists(field, n), thorough, stride) {
             for &request in &requests {
-                sink(step_case(rng, &list, request))?;
+                sink(step_case(field, rng, &list, request))?;
             }
         }
     }
     for request in any_records() {
-        sink(step_case(rng, &[[0, 1, 0]], request))?;
-        sink(step_case(rng, &[], request))?;
+        sink(step_case(field, rng, &[[0, 1, 0]], request))?;
+        sink(step_case(field, rng, &[], request))?;
     }
     Continue(())
 }
 
 /// Every short list with every root.
-pub(super) fn rooted(call: Call, rng: &mut Rng, thorough: bool, sink: Sink) -> Flow {
+pub(super) fn rooted(call: Call, field: Field, rng: &mut Rng, thorough: bool, sink: Sink) -> Flow {
     for n in 1..=4 {
         let stride = if n < 4 { 1 } else { 29 };
-        for list in some(small_lists(n), thorough, stride) {
+        for list in some(small_lists(field, n), thorough, stride) {
             for root in 0..n as u64 {
-                sink(list_case(call, rng, &list, root))?;
+                sink(list_case(call, field, rng, &list, root))?;
             }
         }
     }
     for record in any_records() {
         for root in [0, 1, u64::MAX] {
-            sink(list_case(call, rng, &[record], root))?;
+            sink(list_case(call, field, rng, &[record], root))?;
         }
-        sink(list_case(call, rng, &[[0, 1, 0], record], 1))?;
+        sink(list_case(call, field, rng, &[[0, 1, 0], record], 1))?;
     }
     if call != Call::Normalize {
         return Continue(());
@@ -73,7 +74,7 @@ pub(super) fn rooted(call: Call, rng: &mut Rng, thorough: bool, sink: Sink) -> F
         [(2, 4, false, 7), (2, 4, true, 101), (3, 4, false, 211)]
     {
         for list in some(expressions(inputs, operations, subtract), thorough, stride) {
-            sink(list_case(call, rng, &list, list.len() as u64 - 1))?;
+            sink(list_case(call, field, rng, &list, list.len() as u64 - 1))?;
         }
     }
     Continue(())
@@ -93,17 +94,20 @@ fn columns(length: usize, values: &[u64]) -> Vec<Vec<u64>> {
 }
 
 /// The short columns, each alone, and with unit columns that bring its period to the basis.
-fn column_sets(thorough: bool) -> Vec<Vec<Vec<u64>>> {
+fn column_sets(field: Field, thorough: bool) -> Vec<Vec<Vec<u64>>> {
+    let minus_one = field.minus_one();
     let mut sets = Vec::new();
     for length in [1, 2, 4] {
-        sets.extend(columns(length, &[0, 1, P - 1, 2, 3]).into_iter().map(|column| vec![column]));
+        sets.extend(
+            columns(length, &[0, 1, minus_one, 2, 3]).into_iter().map(|column| vec![column]),
+        );
     }
-    let pairs = columns(2, &[0, 1, P - 1, 5]);
+    let pairs = columns(2, &[0, 1, minus_one, 5]);
     sets.extend(pairs.windows(4).map(<[_]>::to_vec));
     for column in some(columns(8, &[0, 1, 2]), thorough, 37) {
         sets.push([unit_columns(8, 4), vec![column]].concat());
     }
-    for column in some(columns(4, &[0, 1, P - 1, 2, 3]), thorough, 7) {
+    for column in some(columns(4, &[0, 1, minus_one, 2, 3]), thorough, 7) {
         sets.push([unit_columns(4, 4), vec![column]].concat());
     }
     sets
@@ -116,23 +120,23 @@ pub(super) fn unit_columns(length: usize, count: usize) -> Vec<Vec<u64>> {
 }
 
 /// A case of columns on an empty list, its period the longest column.
-fn plain(call: Call, rng: &mut Rng, columns: &[Vec<u64>]) -> Case {
+fn plain(call: Call, field: Field, rng: &mut Rng, columns: &[Vec<u64>]) -> Case {
     let longest = columns.iter().map(Vec::len).max().unwrap_or(1) as u64;
-    column_case(call, rng, &[], columns, longest, 1_200)
+    column_case(call, field, rng, &[], columns, longest, 1_200)
 }
 
 /// Every set of short columns.
-pub(super) fn prepare(rng: &mut Rng, thorough: bool, sink: Sink) -> Flow {
-    for columns in column_sets(thorough) {
-        sink(plain(Call::Prepare, rng, &columns))?;
+pub(super) fn prepare(field: Field, rng: &mut Rng, thorough: bool, sink: Sink) -> Flow {
+    for columns in column_sets(field, thorough) {
+        sink(plain(Call::Prepare, field, rng, &columns))?;
     }
     Continue(())
 }
 
 /// Every set of short columns.
-pub(super) fn lower(rng: &mut Rng, thorough: bool, sink: Sink) -> Flow {
-    for columns in column_sets(thorough) {
-        sink(plain(Call::Lower, rng, &columns))?;
+pub(super) fn lower(field: Field, rng: &mut Rng, thorough: bool, sink: Sink) -> Flow {
+    for columns in column_sets(field, thorough) {
+        sink(plain(Call::Lower, field, rng, &columns))?;
     }
     Continue(())
 }

@@ -1,6 +1,6 @@
 //! Faults, and the good values beside them, that are put into a case.
 
-use model::field::P;
+use model::field::{P, Q};
 use model::{Call, Case, LIMIT, LOWER_WORK, records};
 
 use crate::Rng;
@@ -8,6 +8,29 @@ use crate::Rng;
 /// Numbers of records that wrap, are too many, or are none.
 const COUNTS: [u64; 8] =
     [0, LIMIT, LIMIT + 1, 1 << 32, 1 << 63, u64::MAX, u64::MAX / 3 + 1, u64::MAX / 6 + 1];
+
+/// Numbers that no field has.
+pub(super) const NO_FIELD: [u64; 5] = [0, 3, 1 << 32 | 1, 1 << 32 | 2, u64::MAX];
+
+/// Coordinates and entries at the edges of either field.
+pub(super) const COORDINATES: [u64; 7] = [1, Q - 1, Q, u32::MAX as u64, P - 1, P, u64::MAX];
+
+/// Periods at the edges of either field, and none.
+pub(super) const PERIODS: [u64; 13] = [
+    0,
+    1,
+    3,
+    24,
+    1 << 27,
+    (1 << 27) + 1,
+    1 << 28,
+    1 << 31,
+    1 << 32,
+    (1 << 32) + 1,
+    1 << 33,
+    1 << 63,
+    u64::MAX,
+];
 
 /// Places that no short list has.
 const FAR: [u64; 3] = [1 << 32, 1 << 63, u64::MAX];
@@ -62,9 +85,14 @@ pub(super) fn faults(case: &Case, rng: &mut Rng) -> Vec<Fault> {
     faults
 }
 
+/// A number of records or entries, at most as many as there may be; 0 where the call has none.
+fn counted(case: &Case, name: &str) -> usize {
+    case.number(name).unwrap_or(0).min(LIMIT) as usize
+}
+
 /// The number of whole records within both n and the store.
 fn held(case: &Case) -> usize {
-    (case.scalars[0].min(LIMIT) as usize).min(case.stores[0].len() / 3)
+    counted(case, "n").min(case.stores[0].len() / 3)
 }
 
 /// The number of columns' entries that the lengths ask for.
@@ -74,14 +102,14 @@ fn total(lengths: &[u64]) -> usize {
 
 /// The words that a store needs.
 fn needed(case: &Case, store: &str) -> usize {
-    let n = case.scalars.first().map_or(0, |&n| n.min(LIMIT) as usize);
+    let n = counted(case, "n");
     match (store, case.call) {
         ("list", Call::Step) => 3 * (n + 1),
         ("work", Call::Lower) => LOWER_WORK,
         ("result", Call::Lower) => case.stores[3].len(),
         ("work", _) => 6 * n,
         ("map", _) => n,
-        ("assignment", _) => 3 * case.scalars[2].min(LIMIT) as usize,
+        ("assignment", _) => 3 * counted(case, "m"),
         ("lengths", _) => 16,
         ("entries", Call::Prepare) => total(&case.stores[0]),
         ("entries", _) => total(&case.stores[1]),
@@ -92,23 +120,22 @@ fn needed(case: &Case, store: &str) -> usize {
 
 /// The values to try for a number.
 fn values(case: &Case, name: &str) -> Vec<u64> {
-    let n = case.scalars[0];
+    let own = case.number(name).unwrap_or(0);
+    let n = case.number("n").unwrap_or(0);
     match name {
+        "field" => NO_FIELD.to_vec(),
         "n" => [&COUNTS[..], &[n.wrapping_add(1), n.wrapping_sub(1), n | 1 << 32]].concat(),
         "root" => [&FAR[..], &[n, n.wrapping_add(1), n.wrapping_sub(1), 0]].concat(),
-        "m" => {
-            let m = case.scalars[2];
-            [&COUNTS[..], &[m.wrapping_add(1), m.wrapping_sub(1)]].concat()
-        }
+        "m" => [&COUNTS[..], &[own.wrapping_add(1), own.wrapping_sub(1)]].concat(),
         "tag" => vec![0, 1, 2, 3, 4, 5, 6, 1 << 32 | 2, u64::MAX],
         "first" | "second" => {
-            let keys = [22 << 48, 1 << 48 | 1, 1 << 16, P - 1, P, u64::MAX];
-            [&keys[..], &[0, 1, n, n.wrapping_add(1), n.wrapping_sub(1), n | 1 << 32]].concat()
+            let keys = [22 << 48, 1 << 48 | 1, 1 << 16];
+            let places = [0, n, n.wrapping_add(1), n.wrapping_sub(1), n | 1 << 32];
+            [&keys[..], &COORDINATES, &places].concat()
         }
         "period" => {
             let longest = case.stores[1].iter().copied().max().unwrap_or(1);
-            let edges = [0, 1, 3, 6, 1 << 31, 1 << 32, (1 << 32) + 1, 1 << 33, 1 << 63, u64::MAX];
-            [&edges[..], &[longest, longest / 2, longest.wrapping_add(1)]].concat()
+            [&PERIODS[..], &[longest, longest / 2, longest.wrapping_add(1)]].concat()
         }
         _ => unreachable!("no such number"),
     }
@@ -137,8 +164,8 @@ fn list_words(case: &Case, store: usize, rng: &mut Rng) -> Vec<Fault> {
                 set(2, &[1, u64::MAX]);
             }
             1 => {
-                set(1, &[P - 1, P, u64::MAX]);
-                set(2, &[P - 1, P, u64::MAX]);
+                set(1, &COORDINATES);
+                set(2, &COORDINATES);
             }
             5 => {
                 set(1, &[own, own + 1, own.saturating_sub(1), 1 << 32, u64::MAX]);
@@ -155,7 +182,7 @@ fn list_words(case: &Case, store: usize, rng: &mut Rng) -> Vec<Fault> {
 
 /// Changes of the first, the last and another entry.
 fn assignment_words(case: &Case, store: usize, rng: &mut Rng) -> Vec<Fault> {
-    let entries = (case.scalars[2].min(LIMIT) as usize).min(case.stores[store].len() / 3);
+    let entries = counted(case, "m").min(case.stores[store].len() / 3);
     if entries == 0 {
         return vec![];
     }
@@ -164,7 +191,7 @@ fn assignment_words(case: &Case, store: usize, rng: &mut Rng) -> Vec<Fault> {
         for key in [22 << 48, 1 << 48 | 1, u64::MAX, 9] {
             faults.push(Fault::Word(store, 3 * place, key));
         }
-        for coordinate in [P - 1, P, u64::MAX] {
+        for coordinate in COORDINATES {
             faults.push(Fault::Word(store, 3 * place + 1, coordinate));
             faults.push(Fault::Word(store, 3 * place + 2, coordinate));
         }
@@ -186,13 +213,13 @@ fn length_words(case: &Case, store: usize, rng: &mut Rng) -> Vec<Fault> {
     faults
 }
 
-/// Entries at, above and just below p; also behind the last column.
+/// Entries at, above and just below each modulus; also behind the last column.
 fn entry_words(case: &Case, store: usize, rng: &mut Rng) -> Vec<Fault> {
     let total = total(&case.stores[store - 1]);
     let mut faults = Vec::new();
     let any = rng.below(total as u64 + 1) as usize;
     for place in [0, total.saturating_sub(1), total, any] {
-        for entry in [P - 1, P, P + 1, u64::MAX] {
+        for entry in COORDINATES {
             faults.push(Fault::Word(store, place, entry));
         }
     }

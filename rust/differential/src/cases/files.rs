@@ -1,19 +1,19 @@
 //! House files: good, damaged, short and long ones, and one at every boundary.
 
 use model::field::P;
-use model::{Call, Case, FIELDS, FILE_LIMIT, HEAD, RECORD, Record, house_file, records};
+use model::{Call, Case, FIELDS, FILE_LIMIT, Field, HEAD, RECORD, Record, house_file, records};
 
 use super::faults::{Fault, faults};
 use super::fixed::{examples, rewriting};
-use super::lists::{chain, growing, inputs, negations, of_size, unchanged};
+use super::lists::{chain, every_kind, growing, inputs, negations, of_size, unchanged};
 use super::make::list_case;
 use crate::Rng;
 
 /// The bytes of the longest good file.
 pub const LONGEST_FILE: usize = HEAD + RECORD * FILE_LIMIT as usize;
 
-/// A list with a record of every kind.
-const EVERY_KIND: [Record; 6] = [[0, 1, 0], [1, 2, 3], [2, 0, 1], [3, 2, 0], [4, 3, 3], [5, 4, 0]];
+/// The field of house files.
+const FIELD: Field = Field::GOLDILOCKS;
 
 /// Counts at the limits, and ones that only a part of the four bytes would mistake for 6.
 const COUNTS: [u32; 16] = [
@@ -63,7 +63,7 @@ fn sized(file: &[u8], length: usize, filling: u8) -> Vec<u8> {
 
 /// The file of a case, its numbers cut to four bytes; records that the store lacks are left out.
 fn of_case(case: &Case) -> Vec<u8> {
-    let [n, root] = case.scalars[..] else { panic!("two numbers") };
+    let [_, n, root] = case.scalars[..] else { panic!("three numbers") };
     let held = (case.stores[0].len() / 3).min(n as usize);
     let file = house_file(&records(&case.stores[0][..3 * held]), root as u32);
     counted(&file, n as u32)
@@ -72,7 +72,7 @@ fn of_case(case: &Case) -> Vec<u8> {
 /// The lists whose listings matter, with their roots.
 fn good(rng: &mut Rng) -> Vec<Vec<u8>> {
     let mut lists: Vec<(Vec<Record>, u64)> = examples();
-    lists.push((EVERY_KIND.to_vec(), 5));
+    lists.push((every_kind(FIELD).to_vec(), 5));
     for list in rewriting() {
         lists.extend((0..list.len() as u64).map(|root| (list.clone(), root)));
     }
@@ -94,7 +94,7 @@ fn good(rng: &mut Rng) -> Vec<Vec<u8>> {
     }
     lists.extend([2, 60, 341].map(|terms| rooted_last(chain(terms))));
     for n in [most, most, most - 1, 300, 40] {
-        lists.push(rooted_last(of_size(rng, n)));
+        lists.push(rooted_last(of_size(FIELD, rng, n)));
     }
     lists.iter().map(|(list, root)| house_file(list, *root as u32)).collect()
 }
@@ -144,11 +144,11 @@ fn lengths() -> Vec<Vec<u8>> {
 
 /// Each fault of a record, and of the counts and roots that four bytes hold.
 fn faulty(list: &[Record], rng: &mut Rng) -> Vec<Vec<u8>> {
-    let base = list_case(Call::Normalize, rng, list, list.len() as u64 - 1);
+    let base = list_case(Call::Normalize, FIELD, rng, list, list.len() as u64 - 1);
     let mut files = Vec::new();
     for fault in faults(&base, rng) {
         let fits = match fault {
-            Fault::Scalar(_, value) => value <= u32::MAX.into(),
+            Fault::Scalar(place, value) => place > 0 && value <= u32::MAX.into(),
             Fault::Word(0, word, value) => word < 3 * list.len() && (word % 3 > 0 || value < 256),
             _ => false,
         };
@@ -164,7 +164,7 @@ fn faulty(list: &[Record], rng: &mut Rng) -> Vec<Vec<u8>> {
 /// Tags that are bad as a whole byte and may be good as a part of one.
 fn tags() -> Vec<Vec<u8>> {
     let tag = |tag: u64| {
-        let mut list = EVERY_KIND;
+        let mut list = every_kind(FIELD);
         list[2][0] = tag;
         house_file(&list, 5)
     };
@@ -177,7 +177,7 @@ fn together() -> Vec<Vec<u8>> {
     for record in [[6, 0, 0], [1, P, 0], [2, 3, 0]] {
         for faults in 0..32u32 {
             let has = |fault: u32| faults >> fault & 1 == 1;
-            let mut list = EVERY_KIND;
+            let mut list = every_kind(FIELD);
             if has(0) {
                 list[3] = record;
             }
@@ -202,7 +202,7 @@ pub fn fixed_files(rng: &mut Rng) -> Vec<Vec<u8>> {
         short(&example),
         heads(&example),
         lengths(),
-        faulty(&EVERY_KIND, rng),
+        faulty(&every_kind(FIELD), rng),
         faulty(&inputs(FILE_LIMIT), rng),
         tags(),
         together(),
@@ -233,9 +233,9 @@ fn damage(file: &mut Vec<u8>, rng: &mut Rng) {
 pub fn random_file(rng: &mut Rng) -> Vec<u8> {
     let mut file = if rng.once_in(60) {
         let n = rng.within(FILE_LIMIT - 3, FILE_LIMIT + 1);
-        house_file(&of_size(rng, n as usize), n as u32 - 1)
+        house_file(&of_size(FIELD, rng, n as usize), n as u32 - 1)
     } else {
-        of_case(&super::random(Call::Normalize, rng))
+        of_case(&super::random(Call::Normalize, FIELD, rng))
     };
     for _ in 0..rng.pick(&[0, 0, 0, 1, 1, 2]) {
         damage(&mut file, rng);

@@ -1,12 +1,8 @@
 //! Lists of records.
 
-use model::field::P;
-use model::{FIELDS, LIMIT, Record, ZK};
+use model::{FIELDS, Field, Judge, LIMIT, Record, ZK};
 
-use crate::Rng;
-
-/// The first words of leaves that are met most.
-const CONSTANTS: [u64; 5] = [0, 1, P - 1, 2, P - 2];
+use crate::{Rng, Rust};
 
 /// Any key's number.
 fn any_key(rng: &mut Rng) -> u64 {
@@ -29,13 +25,15 @@ fn input(rng: &mut Rng, keys: u64) -> Record {
 }
 
 /// A constant: a small one, seldom any.
-fn constant(rng: &mut Rng) -> Record {
+fn constant(field: Field, rng: &mut Rng) -> Record {
+    let small = [0, 1, field.modulus - 1, 2, field.modulus - 2];
     let coordinate = |rng: &mut Rng| match rng.below(12) {
-        0 => rng.below(P),
-        _ => rng.pick(&CONSTANTS),
+        0 => rng.word(),
+        _ => rng.pick(&small),
     };
     let c0 = coordinate(rng);
     let c1 = if rng.once_in(8) { coordinate(rng) } else { 0 };
+    let [c0, c1] = field.reduced([c0, c1]);
     [1, c0, c1]
 }
 
@@ -102,9 +100,15 @@ fn operand(rng: &mut Rng, style: Style, length: usize, unused: &mut Vec<u64>) ->
 }
 
 /// A record for the end of this list.
-fn next(rng: &mut Rng, style: Style, list: &[Record], unused: &mut Vec<u64>) -> Record {
+fn next(
+    field: Field,
+    rng: &mut Rng,
+    style: Style,
+    list: &[Record],
+    unused: &mut Vec<u64>,
+) -> Record {
     if list.is_empty() {
-        return if rng.once_in(6) { constant(rng) } else { input(rng, style.keys) };
+        return if rng.once_in(6) { constant(field, rng) } else { input(rng, style.keys) };
     }
     if rng.once_in(style.repeats) {
         return rng.pick(list);
@@ -113,18 +117,18 @@ fn next(rng: &mut Rng, style: Style, list: &[Record], unused: &mut Vec<u64>) -> 
     let (first, second) = (place(), place());
     match rng.weighted(&style.weights) as u64 {
         0 => input(rng, style.keys),
-        1 => constant(rng),
+        1 => constant(field, rng),
         5 => [5, first, 0],
         tag => [tag, first, second],
     }
 }
 
 /// A list of n records in one style.
-fn styled(rng: &mut Rng, n: usize) -> Vec<Record> {
+fn styled(field: Field, rng: &mut Rng, n: usize) -> Vec<Record> {
     let style = style(rng);
     let (mut list, mut unused) = (Vec::with_capacity(n), Vec::new());
     for place in 0..n {
-        let record = next(rng, style, &list, &mut unused);
+        let record = next(field, rng, style, &list, &mut unused);
         list.push(record);
         unused.push(place as u64);
     }
@@ -165,34 +169,34 @@ fn size(rng: &mut Rng) -> usize {
 }
 
 /// A list of n records.
-pub(super) fn of_size(rng: &mut Rng, n: usize) -> Vec<Record> {
+pub(super) fn of_size(field: Field, rng: &mut Rng, n: usize) -> Vec<Record> {
     match rng.below(8) {
         0 => {
-            let mut list = oracle::build(&styled(rng, n)).0;
+            let mut list = Rust(field).build(&styled(field, rng, n)).0;
             list.truncate(n);
             list
         }
         1..4 => sums_of_products(rng, n),
-        _ => styled(rng, n),
+        _ => styled(field, rng, n),
     }
 }
 
 /// A list of one record or more.
-pub(super) fn any_nonempty(rng: &mut Rng) -> Vec<Record> {
+pub(super) fn any_nonempty(field: Field, rng: &mut Rng) -> Vec<Record> {
     let n = size(rng);
-    of_size(rng, n)
+    of_size(field, rng, n)
 }
 
 /// A list, seldom empty.
-pub(super) fn any(rng: &mut Rng) -> Vec<Record> {
-    if rng.once_in(40) { Vec::new() } else { any_nonempty(rng) }
+pub(super) fn any(field: Field, rng: &mut Rng) -> Vec<Record> {
+    if rng.once_in(40) { Vec::new() } else { any_nonempty(field, rng) }
 }
 
 /// A request on a list.
-pub(super) fn request(rng: &mut Rng, list: &[Record]) -> Record {
+pub(super) fn request(field: Field, rng: &mut Rng, list: &[Record]) -> Record {
     let style = style(rng);
     let mut unused = (0..list.len() as u64).collect();
-    next(rng, style, list, &mut unused)
+    next(field, rng, style, list, &mut unused)
 }
 
 /// A root: often the last record.
@@ -200,9 +204,10 @@ pub(super) fn root(rng: &mut Rng, list: &[Record]) -> u64 {
     if rng.once_in(2) { list.len() as u64 - 1 } else { rng.below(list.len() as u64) }
 }
 
-/// The records that can stand at a place, over keys 0 and 1 and constants 0, 1 and p − 1.
-pub(super) fn small_records(place: u64) -> Vec<Record> {
-    let mut records = vec![[0, 0, 0], [0, 1, 0], [1, 0, 0], [1, 1, 0], [1, P - 1, 0]];
+/// The records that can stand at a place, over keys 0 and 1 and constants 0, 1 and −1.
+pub(super) fn small_records(field: Field, place: u64) -> Vec<Record> {
+    let minus_one = field.minus_one();
+    let mut records = vec![[0, 0, 0], [0, 1, 0], [1, 0, 0], [1, 1, 0], [1, minus_one, 0]];
     for tag in 2..=4 {
         for first in 0..place {
             records.extend((0..place).map(|second| [tag, first, second]));
@@ -213,10 +218,10 @@ pub(super) fn small_records(place: u64) -> Vec<Record> {
 }
 
 /// Every list of n such records, in the order of their words.
-pub fn small_lists(n: usize) -> Vec<Vec<Record>> {
+pub fn small_lists(field: Field, n: usize) -> Vec<Vec<Record>> {
     let mut lists = vec![vec![]];
     for place in 0..n {
-        let records = small_records(place as u64);
+        let records = small_records(field, place as u64);
         let longer = |list: &Vec<Record>| {
             let list = list.clone();
             records.iter().map(move |&record| [&list[..], &[record]].concat()).collect::<Vec<_>>()
@@ -261,7 +266,7 @@ pub fn chain(terms: u64) -> Vec<Record> {
 }
 
 /// An expression of n records: inputs, then operations mostly on what is not yet used.
-pub fn expression(rng: &mut Rng, n: usize) -> Vec<Record> {
+pub fn expression(field: Field, rng: &mut Rng, n: usize) -> Vec<Record> {
     let leaves = (n as u64 / 4).max(2);
     let mut list = inputs(leaves);
     let mut unused: Vec<u64> = (0..leaves).collect();
@@ -273,7 +278,7 @@ pub fn expression(rng: &mut Rng, n: usize) -> Vec<Record> {
     };
     while list.len() < n {
         let place = list.len() as u64;
-        let record = next(rng, style, &list, &mut unused);
+        let record = next(field, rng, style, &list, &mut unused);
         list.push(record);
         unused.push(place);
     }
@@ -311,6 +316,12 @@ pub(super) fn negations(depth: u64) -> Vec<Record> {
     let mut list: Vec<Record> = vec![[0, 0, 0], [0, 1, 0], [5, 0, 0]];
     list.extend((2..depth + 1).map(|place| [5, place, 0]));
     list
+}
+
+/// A list with a record of every kind.
+pub(super) fn every_kind(field: Field) -> [Record; 6] {
+    let [c0, c1] = field.reduced([2, 3]);
+    [[0, 1, 0], [1, c0, c1], [2, 0, 1], [3, 2, 0], [4, 3, 3], [5, 4, 0]]
 }
 
 /// n inputs of keys 0 to n − 1.

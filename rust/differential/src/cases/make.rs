@@ -1,10 +1,9 @@
 //! Cases from lists and columns: the stores lent, with garbage in and behind them.
 
-use model::field::P;
-use model::{Call, Case, LIMIT, LOWER_WORK, Record, ZK, words};
+use model::{Call, Case, Field, Judge, LIMIT, LOWER_WORK, Record, ZK, words};
 
 use super::{columns, lists};
-use crate::Rng;
+use crate::{Rng, Rust};
 
 /// Words that a store may hold before a call.
 fn garbage(rng: &mut Rng, length: usize) -> Vec<u64> {
@@ -40,27 +39,37 @@ pub(super) fn store(rng: &mut Rng, needed: usize) -> Vec<u64> {
 }
 
 /// A request on a list, with room for one record in most.
-pub(super) fn step_case(rng: &mut Rng, list: &[Record], request: Record) -> Case {
+pub(super) fn step_case(field: Field, rng: &mut Rng, list: &[Record], request: Record) -> Case {
     let room = rng.pick(&[0, 1, 2, 3, 3, 3, 3, 4, 6, 9]) as usize;
-    let behind = garbage(rng, room);
+    roomy(field, rng, list, request, room)
+}
+
+/// A request on a list with exactly this many words of room.
+pub(super) fn roomy(
+    field: Field,
+    rng: &mut Rng,
+    list: &[Record],
+    request: Record,
+    room: usize,
+) -> Case {
     Case {
         call: Call::Step,
-        scalars: [&[list.len() as u64], &request[..]].concat(),
-        stores: vec![[words(list), behind].concat()],
+        scalars: [&[field.number, list.len() as u64], &request[..]].concat(),
+        stores: vec![[words(list), garbage(rng, room)].concat()],
     }
 }
 
 /// A call on a list with a root, its stores long enough.
-pub fn list_case(call: Call, rng: &mut Rng, list: &[Record], root: u64) -> Case {
+pub fn list_case(call: Call, field: Field, rng: &mut Rng, list: &[Record], root: u64) -> Case {
     let n = list.len();
-    let mut scalars = vec![n as u64, root];
+    let mut scalars = vec![field.number, n as u64, root];
     let mut stores = vec![source(rng, words(list))];
     match call {
         Call::Build => stores.extend([store(rng, 3 * n), store(rng, n)]),
         Call::Compact => stores.push(store(rng, 3 * n)),
         Call::Normalize => stores.extend([store(rng, 3 * n), store(rng, 6 * n)]),
         Call::Evaluate => {
-            let entries = assignment(rng, list);
+            let entries = assignment(field, rng, list);
             scalars.push(entries.len() as u64);
             stores.push(source(rng, words(&entries)));
         }
@@ -70,7 +79,7 @@ pub fn list_case(call: Call, rng: &mut Rng, list: &[Record], root: u64) -> Case 
 }
 
 /// Entries for the keys of a list: shuffled, some repeated, seldom one left out.
-fn assignment(rng: &mut Rng, list: &[Record]) -> Vec<Record> {
+fn assignment(field: Field, rng: &mut Rng, list: &[Record]) -> Vec<Record> {
     let mut keys: Vec<u64> =
         list.iter().filter(|record| record[0] == 0).map(|record| record[1]).collect();
     keys.sort_unstable();
@@ -84,13 +93,18 @@ fn assignment(rng: &mut Rng, list: &[Record]) -> Vec<Record> {
     }
     keys.truncate(LIMIT as usize);
     rng.shuffle(&mut keys);
-    let coordinate = |rng: &mut Rng| if rng.once_in(3) { rng.below(3) } else { rng.below(P) };
-    keys.iter().map(|&key| [key, coordinate(rng), coordinate(rng)]).collect()
+    let mut coordinate = || if rng.once_in(3) { rng.below(3) } else { rng.word() };
+    let entry = |key: u64| {
+        let [c0, c1] = field.reduced([coordinate(), coordinate()]);
+        [key, c0, c1]
+    };
+    keys.into_iter().map(entry).collect()
 }
 
 /// A call on columns, its stores long enough; the list and the period are Lower's.
 pub fn column_case(
     call: Call,
+    field: Field,
     rng: &mut Rng,
     list: &[Record],
     columns: &[Vec<u64>],
@@ -100,7 +114,7 @@ pub fn column_case(
     let lengths: Vec<u64> = columns.iter().map(|column| column.len() as u64).collect();
     let entries = source(rng, columns.concat());
     if call == Call::Prepare {
-        return Case { call, scalars: vec![], stores: vec![lengths, entries] };
+        return Case { call, scalars: vec![field.number], stores: vec![lengths, entries] };
     }
     let work = LOWER_WORK + extra(rng);
     let stores = vec![
@@ -111,54 +125,54 @@ pub fn column_case(
         garbage(rng, work),
         store(rng, columns.len()),
     ];
-    Case { call, scalars: vec![list.len() as u64, period], stores }
+    Case { call, scalars: vec![field.number, list.len() as u64, period], stores }
 }
 
 /// A shared period for these columns, seldom the longest.
-pub(super) fn period(rng: &mut Rng, columns: &[Vec<u64>]) -> u64 {
+pub(super) fn period(field: Field, rng: &mut Rng, columns: &[Vec<u64>]) -> u64 {
     let longest = columns.iter().map(Vec::len).max().unwrap_or(1) as u64;
     match rng.below(24) {
-        0 => 1 << 32,
-        1 => 1 << rng.within(longest.ilog2() as u64, 32),
+        0 => field.longest_period,
+        1 => 1 << rng.within(longest.ilog2().into(), field.longest_period.ilog2().into()),
         2 if columns.is_empty() => rng.word(),
         _ => longest << rng.below(4),
     }
 }
 
 /// A list to lower columns on: few records, seldom the columns' own nodes or a full list.
-fn under(rng: &mut Rng, columns: &[Vec<u64>], period: u64) -> Vec<Record> {
+fn under(field: Field, rng: &mut Rng, columns: &[Vec<u64>], period: u64) -> Vec<Record> {
     let few = rng.below(9) as usize;
     match rng.below(300) {
         0..40 => Vec::new(),
         40..80 => vec![[0, ZK, 0], [1, 1, 0], [0, ZK, 0], [4, 0, 0], [4, 2, 2], [1, 1, 0]],
         80..110 if !columns.is_empty() && period.is_power_of_two() => {
-            let mut nodes = oracle::lower(&[], columns, period).0;
+            let mut nodes = Rust(field).lower(&[], columns, period).0;
             nodes.truncate(rng.below(1_000) as usize);
             nodes
         }
         110 => {
-            let appended = oracle::lower(&[], columns, 1 << 20).0.len() as u64;
+            let appended = Rust(field).lower(&[], columns, 1 << 20).0.len() as u64;
             lists::inputs((LIMIT + 1).saturating_sub(appended + rng.below(3)))
         }
         _ if few == 0 => Vec::new(),
-        _ => lists::of_size(rng, few),
+        _ => lists::of_size(field, rng, few),
     }
 }
 
 /// A call on columns at random; a result store exactly enough, or a word short, in some.
-pub(super) fn random_columns(call: Call, rng: &mut Rng) -> Case {
-    let columns = columns::any(rng);
+pub(super) fn random_columns(call: Call, field: Field, rng: &mut Rng) -> Case {
+    let columns = columns::any(field, rng);
     if call == Call::Prepare {
-        return column_case(call, rng, &[], &columns, 0, 0);
+        return column_case(call, field, rng, &[], &columns, 0, 0);
     }
-    let period = period(rng, &columns);
-    let list = under(rng, &columns, period);
+    let period = period(field, rng, &columns);
+    let list = under(field, rng, &columns, period);
     let result = match rng.below(3) {
         0 if period.is_power_of_two() => {
-            let count = oracle::lower(&list, &columns, period).0.len();
+            let count = Rust(field).lower(&list, &columns, period).0.len();
             (3 * count + rng.below(4) as usize).saturating_sub(1)
         }
         _ => 3 * LIMIT as usize + extra(rng),
     };
-    column_case(call, rng, &list, &columns, period, result)
+    column_case(call, field, rng, &list, &columns, period, result)
 }

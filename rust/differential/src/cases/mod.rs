@@ -10,7 +10,7 @@ mod make;
 
 use std::ops::ControlFlow;
 
-use model::{Call, Case};
+use model::{Call, Case, Field};
 
 use crate::Rng;
 
@@ -25,43 +25,51 @@ pub type Flow = ControlFlow<()>;
 pub type Sink<'a> = &'a mut dyn FnMut(Case) -> Flow;
 
 /// Each fault of a call, and pairs of them: every pair where `thorough`.
-pub fn faulty(call: Call, rng: &mut Rng, thorough: bool, sink: Sink) -> Flow {
-    fixed::faulty(call, rng, thorough, sink)
+pub fn faulty(call: Call, field: Field, rng: &mut Rng, thorough: bool, sink: Sink) -> Flow {
+    fixed::faulty(call, field, rng, thorough, sink)
 }
 
 /// The corners of a call made by hand, and long lists: more of them where `thorough`.
-pub fn fixed(call: Call, rng: &mut Rng, thorough: bool, sink: Sink) -> Flow {
+pub fn fixed(call: Call, field: Field, rng: &mut Rng, thorough: bool, sink: Sink) -> Flow {
     match call {
-        Call::Step => fixed::step(rng, thorough, sink),
-        Call::Prepare => fixed::prepare(rng, thorough, sink),
-        Call::Lower => fixed::lower(rng, thorough, sink),
-        _ => fixed::rooted(call, rng, thorough, sink),
+        Call::Step => fixed::step(field, rng, thorough, sink),
+        Call::Prepare => fixed::prepare(field, rng, thorough, sink),
+        Call::Lower => fixed::lower(field, rng, thorough, sink),
+        _ => fixed::rooted(call, field, rng, thorough, sink),
     }
 }
 
 /// The short lists of a call, all of them where `thorough`.
-pub fn exhaustive(call: Call, rng: &mut Rng, thorough: bool, sink: Sink) -> Flow {
+pub fn exhaustive(call: Call, field: Field, rng: &mut Rng, thorough: bool, sink: Sink) -> Flow {
     match call {
-        Call::Step => exhaustive::step(rng, thorough, sink),
-        Call::Prepare => exhaustive::prepare(rng, thorough, sink),
-        Call::Lower => exhaustive::lower(rng, thorough, sink),
-        _ => exhaustive::rooted(call, rng, thorough, sink),
+        Call::Step => exhaustive::step(field, rng, thorough, sink),
+        Call::Prepare => exhaustive::prepare(field, rng, thorough, sink),
+        Call::Lower => exhaustive::lower(field, rng, thorough, sink),
+        _ => exhaustive::rooted(call, field, rng, thorough, sink),
     }
 }
 
+/// The cases that tell a wrong definition: few short lists, faults, random cases and corners.
+pub fn telling(call: Call, field: Field, rng: &mut Rng, sink: Sink) -> Flow {
+    exhaustive(call, field, rng, false, sink)?;
+    faulty(call, field, rng, false, sink)?;
+    (0..20_000).try_for_each(|_| sink(random(call, field, rng)))?;
+    fixed(call, field, rng, false, sink)
+}
+
 /// A case at random, with faults in some.
-pub fn random(call: Call, rng: &mut Rng) -> Case {
+pub fn random(call: Call, field: Field, rng: &mut Rng) -> Case {
     let mut case = match call {
         Call::Step => {
-            let list = lists::any(rng);
-            let request = lists::request(rng, &list);
-            make::step_case(rng, &list, request)
+            let list = lists::any(field, rng);
+            let request = lists::request(field, rng, &list);
+            make::step_case(field, rng, &list, request)
         }
-        Call::Prepare | Call::Lower => make::random_columns(call, rng),
+        Call::Prepare | Call::Lower => make::random_columns(call, field, rng),
         _ => {
-            let list = lists::any_nonempty(rng);
+            let list = lists::any_nonempty(field, rng);
             let root = lists::root(rng, &list);
-            make::list_case(call, rng, &list, root)
+            make::list_case(call, field, rng, &list, root)
         }
     };
     let count = [0, 1, 2, 3][rng.weighted(&[12, 4, 3, 1])];

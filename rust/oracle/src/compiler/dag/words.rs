@@ -1,6 +1,6 @@
 //! The calls of the Rust on records of three words.
 
-use miden_crypto::field::{Felt, QuadFelt};
+use miden_crypto::field::{BabyBear, Felt, Field, QuadFelt, TwoAdicField};
 
 use super::builder::DagBuilder;
 use super::ir::{AceDag, DagId, NodeId, NodeKind, PeriodicColumn, PeriodicColumnData};
@@ -72,17 +72,60 @@ fn number(key: InputKey) -> u64 {
     (variant << 48) + first + (second << 16) + (third << 32)
 }
 
-/// c0 + c1·u.
-fn element(c0: u64, c1: u64) -> QuadFelt {
-    QuadFelt::new(Felt::new(c0), Felt::new(c1))
+/// An element of a field of the calls, by the words of its coordinates.
+pub trait Element: Field + From<Self::Entry> {
+    /// An entry of a column.
+    type Entry: TwoAdicField;
+
+    /// The element of these coordinates.
+    fn of(coordinates: [u64; 2]) -> Self;
+
+    /// The coordinates of this element.
+    fn words(self) -> [u64; 2];
+
+    /// The entry of this word.
+    fn entry(word: u64) -> Self::Entry;
+}
+
+impl Element for QuadFelt {
+    type Entry = Felt;
+
+    fn of([c0, c1]: [u64; 2]) -> Self {
+        Self::new(Felt::new(c0), Felt::new(c1))
+    }
+
+    fn words(self) -> [u64; 2] {
+        [self.c0.word(), self.c1.word()]
+    }
+
+    fn entry(word: u64) -> Felt {
+        Felt::new(word)
+    }
+}
+
+impl Element for BabyBear {
+    type Entry = Self;
+
+    fn of([c0, c1]: [u64; 2]) -> Self {
+        assert_eq!(c1, 0, "a residue has no second coordinate");
+        Self::new(c0)
+    }
+
+    fn words(self) -> [u64; 2] {
+        [self.word(), 0]
+    }
+
+    fn entry(word: u64) -> Self {
+        Self::new(word)
+    }
 }
 
 /// The node of a record in a list with this id.
-fn node([tag, first, second]: Record, dag: DagId) -> NodeKind<QuadFelt> {
+fn node<E: Element>([tag, first, second]: Record, dag: DagId) -> NodeKind<E> {
     let place = |word: u64| NodeId::in_dag(word as usize, dag);
     match tag {
         0 => NodeKind::Input(key(first)),
-        1 => NodeKind::Constant(element(first, second)),
+        1 => NodeKind::Constant(E::of([first, second])),
         2 => NodeKind::Add(place(first), place(second)),
         3 => NodeKind::Sub(place(first), place(second)),
         4 => NodeKind::Mul(place(first), place(second)),
@@ -92,11 +135,14 @@ fn node([tag, first, second]: Record, dag: DagId) -> NodeKind<QuadFelt> {
 }
 
 /// The record of a node.
-fn record(node: &NodeKind<QuadFelt>) -> Record {
+fn record<E: Element>(node: &NodeKind<E>) -> Record {
     let word = |place: &NodeId| place.index() as u64;
     match node {
         NodeKind::Input(key) => [0, number(*key), 0],
-        NodeKind::Constant(value) => [1, value.c0.word(), value.c1.word()],
+        NodeKind::Constant(value) => {
+            let [c0, c1] = value.words();
+            [1, c0, c1]
+        }
         NodeKind::Add(a, b) => [2, word(a), word(b)],
         NodeKind::Sub(a, b) => [3, word(a), word(b)],
         NodeKind::Mul(a, b) => [4, word(a), word(b)],
@@ -105,19 +151,19 @@ fn record(node: &NodeKind<QuadFelt>) -> Record {
 }
 
 /// The records of a list of nodes.
-fn records(nodes: &[NodeKind<QuadFelt>]) -> Vec<Record> {
+fn records<E: Element>(nodes: &[NodeKind<E>]) -> Vec<Record> {
     nodes.iter().map(record).collect()
 }
 
 /// The list as a DAG of its own.
-fn dag(list: &[Record], root: u64) -> AceDag<QuadFelt> {
+fn dag<E: Element>(list: &[Record], root: u64) -> AceDag<E> {
     let id = DagId::fresh();
     let nodes = list.iter().map(|&words| node(words, id)).collect();
     AceDag::from_parts(id, nodes, NodeId::in_dag(root as usize, id))
 }
 
 /// One request to a builder.
-fn request(builder: &mut DagBuilder<QuadFelt>, node: NodeKind<QuadFelt>) -> NodeId {
+fn request<E: Element>(builder: &mut DagBuilder<E>, node: NodeKind<E>) -> NodeId {
     match node {
         NodeKind::Input(key) => builder.input(key),
         NodeKind::Constant(value) => builder.constant(value),
@@ -129,8 +175,8 @@ fn request(builder: &mut DagBuilder<QuadFelt>, node: NodeKind<QuadFelt>) -> Node
 }
 
 /// The list after one request on it, and the result's place.
-pub fn step(list: &[Record], words: Record) -> (Vec<Record>, u64) {
-    let dag = dag(list, 0);
+pub fn step<E: Element>(list: &[Record], words: Record) -> (Vec<Record>, u64) {
+    let dag = dag::<E>(list, 0);
     let wanted = node(words, dag.dag_id());
     let mut builder = DagBuilder::from_dag(dag);
     let place = request(&mut builder, wanted);
@@ -138,8 +184,8 @@ pub fn step(list: &[Record], words: Record) -> (Vec<Record>, u64) {
 }
 
 /// `step`, with the list handed over by `from_snapshot`.
-pub fn step_from_snapshot(list: &[Record], words: Record) -> (Vec<Record>, u64) {
-    let dag = dag(list, 0);
+pub fn step_from_snapshot<E: Element>(list: &[Record], words: Record) -> (Vec<Record>, u64) {
+    let dag = dag::<E>(list, 0);
     let wanted = node(words, dag.dag_id());
     let mut builder = DagBuilder::from_snapshot(dag.into_snapshot());
     let place = request(&mut builder, wanted);
@@ -147,8 +193,8 @@ pub fn step_from_snapshot(list: &[Record], words: Record) -> (Vec<Record>, u64) 
 }
 
 /// `step`, with the list handed over by `from_nodes`; a list of leaves alone takes a leaf only.
-pub fn step_from_nodes(list: &[Record], words: Record) -> (Vec<Record>, u64) {
-    let dag = dag(list, 0);
+pub fn step_from_nodes<E: Element>(list: &[Record], words: Record) -> (Vec<Record>, u64) {
+    let dag = dag::<E>(list, 0);
     let wanted = node(words, dag.dag_id());
     let mut builder = DagBuilder::from_nodes(dag.into_nodes());
     let place = request(&mut builder, wanted);
@@ -156,7 +202,7 @@ pub fn step_from_nodes(list: &[Record], words: Record) -> (Vec<Record>, u64) {
 }
 
 /// The requests of a list, one by one, into an empty builder.
-fn replay(nodes: &[NodeKind<QuadFelt>]) -> (DagBuilder<QuadFelt>, Vec<NodeId>) {
+fn replay<E: Element>(nodes: &[NodeKind<E>]) -> (DagBuilder<E>, Vec<NodeId>) {
     let mut builder = DagBuilder::new();
     let mut mapped: Vec<NodeId> = Vec::with_capacity(nodes.len());
     for node in nodes {
@@ -175,22 +221,22 @@ fn replay(nodes: &[NodeKind<QuadFelt>]) -> (DagBuilder<QuadFelt>, Vec<NodeId>) {
 }
 
 /// The list built from these requests, and each request's place.
-pub fn build(requests: &[Record]) -> (Vec<Record>, Vec<u64>) {
-    let (builder, mapped) = replay(dag(requests, 0).nodes());
+pub fn build<E: Element>(requests: &[Record]) -> (Vec<Record>, Vec<u64>) {
+    let (builder, mapped) = replay(dag::<E>(requests, 0).nodes());
     let places = mapped.iter().map(|id| id.index() as u64).collect();
     (records(&builder.into_nodes()), places)
 }
 
 /// The compacted list and its root.
-pub fn compact(list: &[Record], root: u64) -> (Vec<Record>, u64) {
-    let mut dag = dag(list, root);
+pub fn compact<E: Element>(list: &[Record], root: u64) -> (Vec<Record>, u64) {
+    let mut dag = dag::<E>(list, root);
     dag.compact();
     (records(dag.nodes()), dag.root().index() as u64)
 }
 
 /// The normalised list, its root and the rounds kept, round by round.
-pub fn normalize(list: &[Record], root: u64) -> (Vec<Record>, u64, u64) {
-    let mut dag = dag(list, root);
+pub fn normalize<E: Element>(list: &[Record], root: u64) -> (Vec<Record>, u64, u64) {
+    let mut dag = dag::<E>(list, root);
     let mut rounds = 0;
     loop {
         let (next, kept) = one_round(dag);
@@ -203,27 +249,26 @@ pub fn normalize(list: &[Record], root: u64) -> (Vec<Record>, u64, u64) {
 }
 
 /// The normalised list and its root, by `normalize_dag` itself.
-pub fn normalize_whole(list: &[Record], root: u64) -> (Vec<Record>, u64) {
-    let dag = normalize_dag(dag(list, root));
+pub fn normalize_whole<E: Element>(list: &[Record], root: u64) -> (Vec<Record>, u64) {
+    let dag = normalize_dag(dag::<E>(list, root));
     (records(dag.nodes()), dag.root().index() as u64)
 }
 
 /// The root's value where every input has an entry; an entry is key number, c0, c1.
-pub fn evaluate(list: &[Record], root: u64, assignment: &[Record]) -> Option<(u64, u64)> {
+pub fn evaluate<E: Element>(list: &[Record], root: u64, assignment: &[Record]) -> Option<[u64; 2]> {
     let layout = Layout::new(assignment);
-    let value = Dag::new(list, root).evaluate(&layout)?;
-    Some((value.c0.word(), value.c1.word()))
+    Dag::<E>::new(list, root).evaluate(&layout).map(E::words)
 }
 
 /// The columns in their chosen forms.
-fn periodic(columns: &[Vec<u64>]) -> PeriodicColumnData<QuadFelt> {
-    let entries = |column: &Vec<u64>| column.iter().map(|&word| Felt::new(word)).collect();
-    PeriodicColumnData::from_periodic_columns::<Felt>(columns.iter().map(entries).collect())
+fn periodic<E: Element>(columns: &[Vec<u64>]) -> PeriodicColumnData<E> {
+    let entries = |column: &Vec<u64>| column.iter().map(|&word| E::entry(word)).collect();
+    PeriodicColumnData::from_periodic_columns(columns.iter().map(entries).collect())
 }
 
 /// Each column's form: 0 sparse, 1 dense, 2 basis.
-pub fn forms(columns: &[Vec<u64>]) -> Vec<u64> {
-    let form = |column: &PeriodicColumn<QuadFelt>| match column {
+pub fn forms<E: Element>(columns: &[Vec<u64>]) -> Vec<u64> {
+    let form = |column: &PeriodicColumn<E>| match column {
         PeriodicColumn::Sparse { .. } => 0,
         PeriodicColumn::Dense(_) => 1,
         PeriodicColumn::Basis { .. } => 2,
@@ -232,19 +277,23 @@ pub fn forms(columns: &[Vec<u64>]) -> Vec<u64> {
 }
 
 /// The list with the columns' nodes appended, and the place of each column's node.
-pub fn lower(list: &[Record], columns: &[Vec<u64>], period: u64) -> (Vec<Record>, Vec<u64>) {
-    let (nodes, places) = Nodes::new(list).lower(columns, period);
+pub fn lower<E: Element>(
+    list: &[Record],
+    columns: &[Vec<u64>],
+    period: u64,
+) -> (Vec<Record>, Vec<u64>) {
+    let (nodes, places) = Nodes::<E>::new(list).lower(columns, period);
     (records(&nodes), places)
 }
 
 /// The nodes of a list, for measuring without the words.
 #[derive(Clone)]
-pub struct Nodes {
+pub struct Nodes<E> {
     id: DagId,
-    nodes: Vec<NodeKind<QuadFelt>>,
+    nodes: Vec<NodeKind<E>>,
 }
 
-impl Nodes {
+impl<E: Element> Nodes<E> {
     /// The nodes of these records.
     pub fn new(list: &[Record]) -> Self {
         let id = DagId::fresh();
@@ -252,7 +301,7 @@ impl Nodes {
     }
 
     /// A DAG over these nodes.
-    pub fn dag(&self, root: u64) -> Dag {
+    pub fn dag(&self, root: u64) -> Dag<E> {
         let root = NodeId::in_dag(root as usize, self.id);
         Dag(AceDag::from_parts(self.id, self.nodes.clone(), root))
     }
@@ -263,7 +312,7 @@ impl Nodes {
     }
 
     /// These nodes with the columns' nodes appended, and the columns' places.
-    fn lower(self, columns: &[Vec<u64>], period: u64) -> (Vec<NodeKind<QuadFelt>>, Vec<u64>) {
+    fn lower(self, columns: &[Vec<u64>], period: u64) -> (Vec<NodeKind<E>>, Vec<u64>) {
         let layout = InputLayout::of([InputKey::ZK].into_iter());
         let root = NodeId::in_dag(0, self.id);
         let mut builder = DagBuilder::from_dag(AceDag::from_parts(self.id, self.nodes, root));
@@ -280,9 +329,9 @@ impl Nodes {
 }
 
 /// A list with its root, for measuring without the words.
-pub struct Dag(AceDag<QuadFelt>);
+pub struct Dag<E>(AceDag<E>);
 
-impl Dag {
+impl<E: Element> Dag<E> {
     /// The DAG of these records.
     pub fn new(list: &[Record], root: u64) -> Self {
         Self(dag(list, root))
@@ -299,7 +348,7 @@ impl Dag {
     }
 
     /// The root's value, where every input has an entry.
-    pub fn evaluate(&self, layout: &Layout) -> Option<QuadFelt> {
+    pub fn evaluate(&self, layout: &Layout<E>) -> Option<E> {
         eval_dag(&self.0, &layout.values, &layout.keys).ok()
     }
 
@@ -310,17 +359,17 @@ impl Dag {
 }
 
 /// An assignment: a layout of its keys, and their values.
-pub struct Layout {
+pub struct Layout<E> {
     keys: InputLayout,
-    values: Vec<QuadFelt>,
+    values: Vec<E>,
 }
 
-impl Layout {
+impl<E: Element> Layout<E> {
     /// The layout and the values of these entries.
     pub fn new(assignment: &[Record]) -> Self {
         Self {
             keys: InputLayout::of(assignment.iter().map(|entry| key(entry[0]))),
-            values: assignment.iter().map(|entry| element(entry[1], entry[2])).collect(),
+            values: assignment.iter().map(|&[_, c0, c1]| E::of([c0, c1])).collect(),
         }
     }
 }
