@@ -20,12 +20,15 @@ use Rattle.dag.specs.declared.Checked.{Checked}
 use Rattle.dag.specs.declared.Checked.the-variants.{Good}
 use Rattle.meaning.specs.Values.{value}
 use Rattle.builder.specs.Calls.{stepWholeCheck, buildCheck}
+use Rattle.builder.specs.Calls as Builder
 use Rattle.compact.specs.Calls.{compactCheck}
+use Rattle.compact.specs.Calls as Compaction
 use Rattle.evaluate.specs.Calls.{given, evaluateCheck, evaluateAnswer}
-use Rattle.normalize.specs.Calls.{normalizeCheck, normalizeAnswer, normalizeResult}
-use Rattle.columns.specs.Prepare.{prepareCheck}
+use Rattle.normalize.specs.Calls.{normalizeCheck, normalizeAnswer, normalizeResult, normalizeWork}
+use Rattle.columns.specs.Prepare.{prepareCheck, prepare}
 use Rattle.lower.specs.Lower.{wholeCheck}
-use Rattle.ace.specs.Answers.{evaluateWords, normalizeWords}
+use Rattle.lower.specs.Lower as Lowering
+use Rattle.ace.specs.Answers.{stepWords, buildWords, compactWords, normalizeWords, evaluateWords, prepareWords, lowerWords}
 use Rattle.ace.specs.Calls as Calls
 use Rattle.demands.specs.Accepted.{outcome, step-accepts, build-accepts, compact-accepts, normalize-accepts, evaluate-accepts, prepare-accepts, lower-accepts}
 use Rattle.demands.specs.Normalising.{Done, countOf, rootOf, roundsOf, answer-done}
@@ -77,6 +80,61 @@ module _ (number : ℕ) (none : numbered number ≡ Unknown) where
       × (Calls.lowerPlaces number list n lengths entries period result work places ≡ places)
   unfolding Calls.lowerResult Calls.lowerWork Calls.lowerPlaces Calls.lowerAnswer
   lower-unknown list n lengths entries period result work places = (unknown _ _, unknown _ _, unknown _ _, unknown _ _)
+
+-- For a number that names a field each call is that field's, so that what is shown of every field holds of it.
+module _ (number : ℕ) (prime : Prime) (known : numbered number ≡ Known prime) where
+  in-its-field : {A : Type 0} (u : A) (k : Prime → A) → inField number u k ≡ k prime
+  in-its-field u k = ap (λ (j : FieldNumber). named j u k) known
+
+  pub step-known : (list : List ℕ) (n t a b : ℕ)
+      → (Calls.stepAnswer number list n t a b ≡ stepWords (Builder.stepAnswer (fieldOf prime) (interleaved list) n t a b))
+      × (Calls.stepList number list n t a b ≡ Builder.stepStore (fieldOf prime) list n t a b)
+  unfolding Calls.stepAnswer Calls.stepList
+  step-known list n t a b = (in-its-field _ _, in-its-field _ _)
+
+  module _ (list : List ℕ) (n root : ℕ) (result : List ℕ) where
+    pub build-known : (map : List ℕ)
+        → (Calls.buildAnswer number list n root result map ≡ buildWords (Builder.buildAnswer (fieldOf prime) (interleaved list) n root (interleaved result .room) (length map)))
+        × (Calls.buildResult number list n root result map ≡ Builder.buildResult (fieldOf prime) (interleaved list) n root result (length map))
+        × (Calls.buildMap number list n root result map ≡ Builder.buildMap (fieldOf prime) (interleaved list) n root (interleaved result .room) map)
+    unfolding Calls.buildAnswer Calls.buildResult Calls.buildMap
+    build-known map = (in-its-field _ _, in-its-field _ _, in-its-field _ _)
+
+    pub compact-known :
+        (Calls.compactAnswer number list n root result ≡ compactWords (Compaction.compactAnswer (fieldOf prime) (interleaved list) n root (interleaved result .room)))
+        × (Calls.compactResult number list n root result ≡ Compaction.compactResult (fieldOf prime) (interleaved list) n root result)
+    unfolding Calls.compactAnswer Calls.compactResult
+    compact-known = (in-its-field _ _, in-its-field _ _)
+
+    pub normalize-known : (work : List ℕ)
+        → (Calls.normalizeAnswer number list n root result work
+        ≡ normalizeWords (normalizeAnswer (fieldOf prime) (interleaved list) n root (interleaved result .room) (interleaved work .room)))
+        × (Calls.normalizeResult number list n root result work ≡ normalizeResult (fieldOf prime) (interleaved list) n root result (interleaved work .room))
+        × (Calls.normalizeWork number list n root result work ≡ normalizeWork (fieldOf prime) (interleaved list) n root (interleaved result .room) work)
+    unfolding Calls.normalizeAnswer Calls.normalizeResult Calls.normalizeWork
+    normalize-known work = (in-its-field _ _, in-its-field _ _, in-its-field _ _)
+
+  pub evaluate-known : (list : List ℕ) (n root : ℕ) (assignment : List ℕ) (m : ℕ)
+      → Calls.evaluateAnswer number list n root assignment m ≡ evaluateWords (evaluateAnswer (fieldOf prime) (interleaved list) n root assignment m)
+  unfolding Calls.evaluateAnswer
+  evaluate-known list n root assignment m = in-its-field _ _
+
+  pub prepare-known : (lengths entries : List ℕ) → Calls.prepareAnswer number lengths entries ≡ prepareWords (prepare (modulus (fieldOf prime)) lengths entries)
+  unfolding Calls.prepareAnswer
+  prepare-known lengths entries = in-its-field _ _
+
+  module _ (list : List ℕ) (n : ℕ) (lengths entries : List ℕ) (period : ℕ) (result work places : List ℕ) where
+    pub lower-known :
+        (Calls.lowerAnswer number list n lengths entries period result work places
+        ≡ lowerWords (Lowering.lowerAnswer (fieldOf prime) (interleaved list) n lengths entries period result work places))
+        × (Calls.lowerResult number list n lengths entries period result work places
+        ≡ Lowering.lowerResult (fieldOf prime) (interleaved list) n lengths entries period result work places)
+        × (Calls.lowerWork number list n lengths entries period result work places
+        ≡ Lowering.lowerWork (fieldOf prime) (interleaved list) n lengths entries period result work places)
+        × (Calls.lowerPlaces number list n lengths entries period result work places
+        ≡ Lowering.lowerPlaces (fieldOf prime) (interleaved list) n lengths entries period result work places)
+    unfolding Calls.lowerAnswer Calls.lowerResult Calls.lowerWork Calls.lowerPlaces
+    lower-known = (in-its-field _ _, in-its-field _ _, in-its-field _ _, in-its-field _ _)
 
 -- the number names a field, and there the tests pass
 abbrev pub Accepted : ℕ → (Prime → Checked) → Type 0
