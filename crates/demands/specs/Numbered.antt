@@ -7,6 +7,7 @@ use mathlib.Core.Path.{_≡_, refl, sym, _∙_, ap, ap₂}
 use native.Mathlib.Omega.{arith}
 use lib.ListN.{getD, length}
 use Rattle.field.specs.Fields.{Field, fieldOf, modulus}
+use Rattle.field.specs.NumberLaws.{by-known, by-unknown}
 use Rattle.field.specs.Numbers.{numbered, named, inField}
 use Rattle.field.specs.declared.FieldNumber.{FieldNumber}
 use Rattle.field.specs.declared.FieldNumber.the-variants.{Known, Unknown}
@@ -39,12 +40,9 @@ pub forty-nine : Calls.unknownWords ≡ 49 ∷ 0 ∷ 0 ∷ 0 ∷ []
 forty-nine = refl
 
 module _ (number : ℕ) (none : numbered number ≡ Unknown) where
-  unknown : {A : Type 0} (u : A) (k : Prime → A) → inField number u k ≡ u
-  unknown u k = ap (λ (j : FieldNumber). named j u k) none
-
   pub step-unknown : (list : List ℕ) (n t a b : ℕ) → (Calls.stepAnswer number list n t a b ≡ Calls.unknownWords) × (Calls.stepList number list n t a b ≡ list)
   unfolding Calls.stepList Calls.stepAnswer
-  step-unknown list n t a b = (unknown _ _, unknown _ _)
+  step-unknown list n t a b = (by-unknown number _ _ none, by-unknown number _ _ none)
 
   module _ (list : List ℕ) (n root : ℕ) (result : List ℕ) where
     pub build-unknown : (map : List ℕ)
@@ -52,26 +50,26 @@ module _ (number : ℕ) (none : numbered number ≡ Unknown) where
         × (Calls.buildResult number list n root result map ≡ result)
         × (Calls.buildMap number list n root result map ≡ map)
     unfolding Calls.buildResult Calls.buildMap Calls.buildAnswer
-    build-unknown map = (unknown _ _, unknown _ _, unknown _ _)
+    build-unknown map = (by-unknown number _ _ none, by-unknown number _ _ none, by-unknown number _ _ none)
 
     pub compact-unknown : (Calls.compactAnswer number list n root result ≡ Calls.unknownWords) × (Calls.compactResult number list n root result ≡ result)
     unfolding Calls.compactResult Calls.compactAnswer
-    compact-unknown = (unknown _ _, unknown _ _)
+    compact-unknown = (by-unknown number _ _ none, by-unknown number _ _ none)
 
     pub normalize-unknown : (work : List ℕ)
         → (Calls.normalizeAnswer number list n root result work ≡ Calls.unknownWords)
         × (Calls.normalizeResult number list n root result work ≡ result)
         × (Calls.normalizeWork number list n root result work ≡ work)
     unfolding Calls.normalizeResult Calls.normalizeWork Calls.normalizeAnswer
-    normalize-unknown work = (unknown _ _, unknown _ _, unknown _ _)
+    normalize-unknown work = (by-unknown number _ _ none, by-unknown number _ _ none, by-unknown number _ _ none)
 
   pub evaluate-unknown : (list : List ℕ) (n root : ℕ) (assignment : List ℕ) (m : ℕ) → Calls.evaluateAnswer number list n root assignment m ≡ Calls.unknownWords
   unfolding Calls.evaluateAnswer
-  evaluate-unknown list n root assignment m = unknown _ _
+  evaluate-unknown list n root assignment m = by-unknown number _ _ none
 
   pub prepare-unknown : (lengths entries : List ℕ) → Calls.prepareAnswer number lengths entries ≡ Calls.unknownForms
   unfolding Calls.prepareAnswer
-  prepare-unknown lengths entries = unknown _ _
+  prepare-unknown lengths entries = by-unknown number _ _ none
 
   pub lower-unknown : (list : List ℕ) (n : ℕ) (lengths entries : List ℕ) (period : ℕ) (result work places : List ℕ)
       → (Calls.lowerAnswer number list n lengths entries period result work places ≡ Calls.unknownWords)
@@ -79,18 +77,15 @@ module _ (number : ℕ) (none : numbered number ≡ Unknown) where
       × (Calls.lowerWork number list n lengths entries period result work places ≡ work)
       × (Calls.lowerPlaces number list n lengths entries period result work places ≡ places)
   unfolding Calls.lowerResult Calls.lowerWork Calls.lowerPlaces Calls.lowerAnswer
-  lower-unknown list n lengths entries period result work places = (unknown _ _, unknown _ _, unknown _ _, unknown _ _)
+  lower-unknown list n lengths entries period result work places = (by-unknown number _ _ none, by-unknown number _ _ none, by-unknown number _ _ none, by-unknown number _ _ none)
 
 -- For a number that names a field each call is that field's, so that what is shown of every field holds of it.
 module _ (number : ℕ) (prime : Prime) (known : numbered number ≡ Known prime) where
-  in-its-field : {A : Type 0} (u : A) (k : Prime → A) → inField number u k ≡ k prime
-  in-its-field u k = ap (λ (j : FieldNumber). named j u k) known
-
   pub step-known : (list : List ℕ) (n t a b : ℕ)
       → (Calls.stepAnswer number list n t a b ≡ stepWords (Builder.stepAnswer (fieldOf prime) (interleaved list) n t a b))
       × (Calls.stepList number list n t a b ≡ Builder.stepStore (fieldOf prime) list n t a b)
   unfolding Calls.stepAnswer Calls.stepList
-  step-known list n t a b = (in-its-field _ _, in-its-field _ _)
+  step-known list n t a b = (by-known number _ _ known, by-known number _ _ known)
 
   module _ (list : List ℕ) (n root : ℕ) (result : List ℕ) where
     pub build-known : (map : List ℕ)
@@ -98,13 +93,13 @@ module _ (number : ℕ) (prime : Prime) (known : numbered number ≡ Known prime
         × (Calls.buildResult number list n root result map ≡ Builder.buildResult (fieldOf prime) (interleaved list) n root result (length map))
         × (Calls.buildMap number list n root result map ≡ Builder.buildMap (fieldOf prime) (interleaved list) n root (interleaved result .room) map)
     unfolding Calls.buildAnswer Calls.buildResult Calls.buildMap
-    build-known map = (in-its-field _ _, in-its-field _ _, in-its-field _ _)
+    build-known map = (by-known number _ _ known, by-known number _ _ known, by-known number _ _ known)
 
     pub compact-known :
         (Calls.compactAnswer number list n root result ≡ compactWords (Compaction.compactAnswer (fieldOf prime) (interleaved list) n root (interleaved result .room)))
         × (Calls.compactResult number list n root result ≡ Compaction.compactResult (fieldOf prime) (interleaved list) n root result)
     unfolding Calls.compactAnswer Calls.compactResult
-    compact-known = (in-its-field _ _, in-its-field _ _)
+    compact-known = (by-known number _ _ known, by-known number _ _ known)
 
     pub normalize-known : (work : List ℕ)
         → (Calls.normalizeAnswer number list n root result work
@@ -112,16 +107,16 @@ module _ (number : ℕ) (prime : Prime) (known : numbered number ≡ Known prime
         × (Calls.normalizeResult number list n root result work ≡ normalizeResult (fieldOf prime) (interleaved list) n root result (interleaved work .room))
         × (Calls.normalizeWork number list n root result work ≡ normalizeWork (fieldOf prime) (interleaved list) n root (interleaved result .room) work)
     unfolding Calls.normalizeAnswer Calls.normalizeResult Calls.normalizeWork
-    normalize-known work = (in-its-field _ _, in-its-field _ _, in-its-field _ _)
+    normalize-known work = (by-known number _ _ known, by-known number _ _ known, by-known number _ _ known)
 
   pub evaluate-known : (list : List ℕ) (n root : ℕ) (assignment : List ℕ) (m : ℕ)
       → Calls.evaluateAnswer number list n root assignment m ≡ evaluateWords (evaluateAnswer (fieldOf prime) (interleaved list) n root assignment m)
   unfolding Calls.evaluateAnswer
-  evaluate-known list n root assignment m = in-its-field _ _
+  evaluate-known list n root assignment m = by-known number _ _ known
 
   pub prepare-known : (lengths entries : List ℕ) → Calls.prepareAnswer number lengths entries ≡ prepareWords (prepare (modulus (fieldOf prime)) lengths entries)
   unfolding Calls.prepareAnswer
-  prepare-known lengths entries = in-its-field _ _
+  prepare-known lengths entries = by-known number _ _ known
 
   module _ (list : List ℕ) (n : ℕ) (lengths entries : List ℕ) (period : ℕ) (result work places : List ℕ) where
     pub lower-known :
@@ -134,7 +129,7 @@ module _ (number : ℕ) (prime : Prime) (known : numbered number ≡ Known prime
         × (Calls.lowerPlaces number list n lengths entries period result work places
         ≡ Lowering.lowerPlaces (fieldOf prime) (interleaved list) n lengths entries period result work places)
     unfolding Calls.lowerAnswer Calls.lowerResult Calls.lowerWork Calls.lowerPlaces
-    lower-known = (in-its-field _ _, in-its-field _ _, in-its-field _ _, in-its-field _ _)
+    lower-known = (by-known number _ _ known, by-known number _ _ known, by-known number _ _ known, by-known number _ _ known)
 
 -- the number names a field, and there the tests pass
 abbrev pub Accepted : ℕ → (Prime → Checked) → Type 0
@@ -150,7 +145,7 @@ module _ (number : ℕ) (unknown : List ℕ) (refuses : outcome unknown ≡ 49) 
   pub accepted-in : (outcome (inField number unknown words) ≡ 0) ↔ Accepted number check
   accepted-in = (
     λ z. heard (numbered number) refl z,
-    λ a. ap (λ (k : FieldNumber). outcome (named k unknown words)) (a .1) ∙ accepts (a .0) .1 (a .2),
+    λ a. ap outcome (by-known number unknown words (a .1)) ∙ accepts (a .0) .1 (a .2),
   )
 
 module _ (number : ℕ) (list : List ℕ) (n : ℕ) where

@@ -167,9 +167,13 @@ unfolding elements felt
 top-squared = refl
 
 -- whatever comes in, an answer of field 2 has no second part
-pub no-second : elements BabyBear .mul u u ≡ new 0 0
+pub no-second : (x y : QuadFelt)
+    → (elements BabyBear .add x y .c1 ≡ 0)
+    × (elements BabyBear .sub x y .c1 ≡ 0)
+    × (elements BabyBear .mul x y .c1 ≡ 0)
+    × (elements BabyBear .neg x .c1 ≡ 0)
 unfolding elements felt
-no-second = refl
+no-second x y = (refl, refl, refl, refl)
 
 -- (J) (m − 1) + (m − 1) = m − 2
 pub top-doubled : (prime : Prime) → felt prime .add (modulusOf prime - 1) (modulusOf prime - 1) ≡ modulusOf prime - 2

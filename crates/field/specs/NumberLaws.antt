@@ -21,13 +21,17 @@ pub number-other : (n : ℕ) → ¬ (n ≡ 1) → ¬ (n ≡ 2) → numbered n �
 unfolding numbered
 number-other n h k = rw (ne-eqb n 1 h, ne-eqb n 2 k)
 
--- k is what the number names
-module _ {A : Type 0} (number : ℕ) (unknown : A) (known : Prime → A) {k : FieldNumber} (e : k ≡ numbered number) where
-  named-as : {j : FieldNumber} → k ≡ j → named j unknown known ≡ inField number unknown known
-  named-as h = ap (λ (i : FieldNumber). named i unknown known) (sym h ∙ e)
+module _ {A : Type 0} (number : ℕ) (unknown : A) (known : Prime → A) where
+  pub by-known : {prime : Prime} → numbered number ≡ Known prime → inField number unknown known ≡ known prime
+  by-known e = ap (λ (i : FieldNumber). named i unknown known) e
 
-  pub in-known : {prime : Prime} {x : A} → k ≡ Known prime → x ≡ known prime → x ≡ inField number unknown known
-  in-known h g = g ∙ named-as h
+  pub by-unknown : numbered number ≡ Unknown → inField number unknown known ≡ unknown
+  by-unknown e = ap (λ (i : FieldNumber). named i unknown known) e
 
-  pub in-unknown : {x : A} → k ≡ Unknown → x ≡ unknown → x ≡ inField number unknown known
-  in-unknown h g = g ∙ named-as h
+  -- k is what the number names
+  module _ {k : FieldNumber} (e : k ≡ numbered number) where
+    pub in-known : {prime : Prime} {x : A} → k ≡ Known prime → x ≡ known prime → x ≡ inField number unknown known
+    in-known h g = g ∙ sym (by-known (sym e ∙ h))
+
+    pub in-unknown : {x : A} → k ≡ Unknown → x ≡ unknown → x ≡ inField number unknown known
+    in-unknown h g = g ∙ sym (by-unknown (sym e ∙ h))
