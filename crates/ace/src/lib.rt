@@ -1,5 +1,6 @@
 // The exported calls, for C and Rust (include/ace.h): each takes a field number, lends its stores to the library and writes the
 // answer's words.
+#![tactic(auto)]
 ghost use Rattle.std.specs.Prelude.{◌≡◌, ◌∷◌};
 ghost use Rattle.ace.specs.Answers as Answers;
 ghost use Rattle.ace.specs.Calls as Calls;

@@ -1,4 +1,5 @@
 // builder.rs: what a request comes to, interning, Step and Build.
+#![tactic(auto)]
 ghost use Rattle.std.specs.Prelude.{◌≡◌, ◌&&◌, not, ◌<◌, ◌≤◌, eqb, length};
 ghost use Rattle.field.specs.Fields.{field_of};
 ghost use Rattle.field.specs.Field.{elements};
@@ -26,7 +27,7 @@ const SUB: u64 = 3;
 const NEG: u64 = 5;
 
 // What a rule of a step says: a place, a record to intern, or operands handed to the other of add and sub.
-#[derive(Drop)]
+#[derive(Clone, Copy)]
 pub enum Rule {
     Use(usize),
     Make(NodeKind),
@@ -34,28 +35,28 @@ pub enum Rule {
 }
 
 // What a request comes to: a place that is there, or a record to intern.
-#[derive(Drop)]
+#[derive(Clone, Copy)]
 pub enum Outcome {
     Place(usize),
     Node(NodeKind),
 }
 
 // A result's place, and the number of records then.
-#[derive(Drop)]
+#[derive(Clone, Copy)]
 pub struct Entered {
     pub place: usize,
     pub count: usize,
 }
 
 // Step's answer.
-#[derive(Drop)]
+#[derive(Clone, Copy)]
 pub enum StepAnswer {
     Done { place: usize, count: usize },
     Refused(Refusal),
 }
 
 // Build's answer.
-#[derive(Drop)]
+#[derive(Clone, Copy)]
 pub struct BuildAnswer {
     pub checked: Checked,
     pub count: usize,

@@ -1,4 +1,5 @@
 // The periodic types of ir.rs: a column's costs and forms, and Prepare.
+#![tactic(auto)]
 ghost use Rattle.field.specs.Field.{modulus_of};
 ghost use Rattle.std.specs.Prelude.{◌≡◌, true, cond, leb, ℕ, ◌+◌, ◌*◌, ◌-◌, ◌^◌, ◌<◌, ◌≤◌, length, take};
 ghost use Rattle.dag.specs.Refusals as Refusals;
@@ -16,7 +17,7 @@ const MOST_COLUMNS: usize = 16;
 const MOST_LOG: usize = 7;
 
 // How a column is evaluated in the circuit.
-#[derive(Drop)]
+#[derive(Clone, Copy)]
 pub enum Form {
     Sparse,
     Dense,
@@ -24,7 +25,7 @@ pub enum Form {
 }
 
 // Prepare's answer: what the tests said, the number of columns, and each column's form as a number, 0 past the last.
-#[derive(Drop)]
+#[derive(Clone, Copy)]
 pub struct PrepareAnswer {
     pub checked: Checked,
     pub count: usize,
@@ -32,7 +33,7 @@ pub struct PrepareAnswer {
 }
 
 // 2^log.
-#[derive(Drop)]
+#[derive(Clone, Copy)]
 pub struct Power {
     pub log: usize,
     pub value: u64,
@@ -175,7 +176,7 @@ fn weight(col: &[u64], v: u64) -> usize
 }
 
 // A value of a column and its weight.
-#[derive(Drop)]
+#[derive(Clone, Copy)]
 struct Heavy {
     value: u64,
     weight: usize,

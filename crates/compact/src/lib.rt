@@ -1,4 +1,5 @@
 // `AceDag::compact`: reachability marks, new places, Compact.
+#![tactic(auto)]
 ghost use Rattle.std.specs.Prelude.{◌≡◌, ◌++◌, ◌≤◌, length, drop};
 ghost use Rattle.field.specs.Fields.{field_of};
 ghost use Rattle.dag.specs.View.{interleaved};
@@ -17,14 +18,14 @@ use field::Prime;
 pub const MOST_MARKS: usize = 8192;
 
 // How many records are kept, and the roots' new places.
-#[derive(Drop)]
+#[derive(Clone, Copy)]
 pub struct Kept {
     pub count: usize,
     pub roots: Roots,
 }
 
 // Compact's answer: no records and no roots where it is refused.
-#[derive(Drop)]
+#[derive(Clone, Copy)]
 pub struct CompactAnswer {
     pub checked: Checked,
     pub count: usize,

@@ -1,4 +1,5 @@
 // The constraint DAG's records: key numbers, `NodeKind` and its three words, refusals, the list check and the lookup.
+#![tactic(auto)]
 ghost use Rattle.std.specs.Prelude.{◌≡◌, ℕ, ◌+◌, ◌*◌, ◌-◌, ◌^◌, ◌<◌, ◌≤◌, ltb, [], ◌∷◌, ◌++◌, length, get_or, take, replicate};
 ghost use mathlib.Core.List as Lists;
 ghost use Rattle.field.specs.Fields.{field_of};
@@ -30,7 +31,7 @@ pub const FEW_RECORDS: usize = 256;
 pub const MOST_ROOTS: usize = 8;
 
 // One record of a list. An input holds its key number; operands are places.
-#[derive(Drop)]
+#[derive(Clone, Copy)]
 pub enum NodeKind {
     Input(u64),
     Constant(QuadFelt),
@@ -41,14 +42,14 @@ pub enum NodeKind {
 }
 
 // A list's roots: the first `count` of these places.
-#[derive(Drop)]
+#[derive(Clone, Copy)]
 pub struct Roots {
     pub places: [u64; MOST_ROOTS],
     pub count: usize,
 }
 
 // Why a call says no, with the record, entry or column at fault where there is one.
-#[derive(Drop)]
+#[derive(Clone, Copy)]
 pub enum Refusal {
     CountOutOfRange,
     StoreTooShort,
@@ -70,14 +71,14 @@ pub enum Refusal {
 }
 
 // What a test of the input says.
-#[derive(Drop)]
+#[derive(Clone, Copy)]
 pub enum Checked {
     Good,
     Refused(Refusal),
 }
 
 // Where a search found its record.
-#[derive(Drop)]
+#[derive(Clone, Copy)]
 pub enum Found {
     At(usize),
     Missing,

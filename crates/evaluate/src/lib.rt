@@ -1,4 +1,5 @@
 // `eval_dag`: assignments and Evaluate.
+#![tactic(auto)]
 ghost use Rattle.std.specs.Prelude.{◌≡◌, ◌+◌, ◌*◌, ◌^◌, ◌<◌, ◌≤◌, length, set};
 ghost use Rattle.dag.specs.View.{interleaved};
 ghost use Rattle.dag.specs.Refusals as Refusals;
@@ -23,7 +24,7 @@ const MOST_ENTRIES: usize = 4096;
 const ENTRY_WORDS: usize = 3;
 
 // Evaluate's answer.
-#[derive(Drop)]
+#[derive(Clone, Copy)]
 pub struct EvaluateAnswer {
     pub checked: Checked,
     pub value: QuadFelt,
@@ -36,7 +37,7 @@ const FEW: usize = 64;
 const MANY: usize = 512;
 
 // A record's value; none for an input whose key has no entry.
-#[derive(Drop)]
+#[derive(Clone, Copy)]
 pub enum Assigned {
     Element(QuadFelt),
     Absent,

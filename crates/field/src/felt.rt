@@ -74,7 +74,7 @@ fn fold(a: u64, b: u64) -> u64
 }
 
 // A number of two words, high · 2^64 + low.
-#[derive(Drop)]
+#[derive(Clone, Copy)]
 struct Wide {
     high: u64,
     low: u64,

@@ -1,5 +1,6 @@
 // The two fields of the constraint lists: coordinates modulo p = 2^64 − 2^32 + 1, with elements c0 + c1·u where u² = 7; and
 // residues modulo q = 2^31 − 2^27 + 1, whose c1 is always 0.
+#![tactic(auto)]
 ghost use Rattle.std.specs.Prelude.{◌≡◌};
 ghost use Rattle.field.specs.Field.{elements, Below};
 ghost use Rattle.field.specs.Field as spec;
@@ -8,14 +9,14 @@ ghost use Rattle.field.specs.Numbers as Numbers;
 pub mod felt;
 
 // A field, by its prime.
-#[derive(Drop)]
+#[derive(Clone, Copy)]
 pub enum Prime {
     Goldilocks,
     BabyBear,
 }
 
 // What a field number names: a field, or none.
-#[derive(Drop)]
+#[derive(Clone, Copy)]
 pub enum FieldNumber {
     Known(Prime),
     Unknown,
@@ -35,7 +36,7 @@ pub fn numbered(number: u64) -> FieldNumber
 }
 
 // The element c0 + c1·u.
-#[derive(Drop)]
+#[derive(Clone, Copy)]
 pub struct QuadFelt {
     pub c0: u64,
     pub c1: u64,

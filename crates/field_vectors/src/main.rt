@@ -1,4 +1,5 @@
 // Holds the fields to vectors of ordinary whole-number arithmetic, made by tools/field_vectors.py and read from standard input.
+#![tactic(auto)]
 ghost use Rattle.std.specs.Prelude.{◌≡◌, ◌+◌, ◌/◌, ◌≤◌, ◌<◌, length};
 ghost use Rattle.field.specs.Field.{Below};
 ghost use Rattle.field.specs.Generators as Generators;
@@ -11,7 +12,7 @@ use libc::STDOUT_FILENO;
 const LINE: usize = 106;
 
 // How many vectors there are, and how many the field agrees with.
-#[derive(Drop)]
+#[derive(Clone, Copy)]
 struct Tally {
     vectors: u64,
     matched: u64,

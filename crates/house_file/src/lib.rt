@@ -1,4 +1,5 @@
 // The house file: bytes to the words of a list, or why not.
+#![tactic(auto)]
 ghost use Rattle.std.specs.Prelude.{◌≡◌, ◌+◌, ◌<◌, ◌≤◌, length};
 ghost use Rattle.dag.specs.View.{interleaved, Agree};
 ghost use Rattle.house_file.specs.File as File;
@@ -14,7 +15,7 @@ const MOST_FILED: u64 = 1024;
 pub const FILED_WORDS: usize = dag::RECORD_WORDS * MOST_FILED as usize;
 
 // The three words of a record.
-#[derive(Drop)]
+#[derive(Clone, Copy)]
 pub struct Words {
     pub tag: u64,
     pub first: u64,
@@ -22,7 +23,7 @@ pub struct Words {
 }
 
 // What reading a file answers.
-#[derive(Drop)]
+#[derive(Clone, Copy)]
 pub enum FileAnswer {
     Read { count: usize, root: usize },
     Refused(Refusal),

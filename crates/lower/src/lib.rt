@@ -1,4 +1,5 @@
 // Lower: the nodes of periodic columns on a list.
+#![tactic(auto)]
 ghost use Rattle.std.specs.Prelude.{◌≡◌, cond, leb, ◌+◌, ◌-◌, ◌<◌, ◌≤◌, length, take, replicate};
 ghost use Rattle.field.specs.Fields.{field_of};
 ghost use Rattle.field.specs.Field.{modulus_of};
@@ -18,7 +19,7 @@ use dag::{Checked, Refusal};
 use field::{Prime, felt};
 
 // Lower's answer.
-#[derive(Drop)]
+#[derive(Clone, Copy)]
 pub enum LowerAnswer {
     Done { count: usize },
     Refused(Refusal),

@@ -1,4 +1,5 @@
 // normalize.rs: a round, the rounds, Normalise.
+#![tactic(auto)]
 ghost use Rattle.std.specs.Prelude.{◌≡◌, cond, true, ℕ, ◌*◌, ◌≤◌, length};
 ghost use Rattle.field.specs.Fields.{field_of};
 ghost use Rattle.field.specs.Field.{elements};
@@ -93,7 +94,7 @@ fn enter_planned(
 }
 
 // A round's list before compaction: its count, and whether a rewrite fired.
-#[derive(Drop)]
+#[derive(Clone, Copy)]
 pub struct RoundEnd {
     pub count: usize,
     pub fired: bool,
@@ -137,7 +138,7 @@ fn round(
 }
 
 // Whether a round was kept, and then its count and roots.
-#[derive(Drop)]
+#[derive(Clone, Copy)]
 pub struct RoundKept {
     pub kept: bool,
     pub count: usize,
@@ -185,7 +186,7 @@ fn normalize_once(
 }
 
 // The list after the rounds: its count, its roots and how many rounds were kept.
-#[derive(Drop)]
+#[derive(Clone, Copy)]
 pub struct NormalEnd {
     pub count: usize,
     pub roots: Roots,
@@ -193,7 +194,7 @@ pub struct NormalEnd {
 }
 
 // Normalise's answer: no records, roots or rounds where it is refused.
-#[derive(Drop)]
+#[derive(Clone, Copy)]
 pub struct NormalizeAnswer {
     pub checked: Checked,
     pub count: usize,

@@ -1,4 +1,5 @@
 // Lists the house file on standard input: what Normalise answers to it, or the refused line.
+#![tactic(auto)]
 use libc::{STDIN_FILENO, STDOUT_FILENO};
 
 fn main() {

@@ -1,4 +1,5 @@
 // normalize.rs: what a round does with one record, by fanout, common_factor and existing_rotation.
+#![tactic(auto)]
 ghost use Rattle.std.specs.Prelude.{◌≡◌, ◌&&◌, [], ◌∷◌, ◌<◌, eqb, length, get_or};
 ghost use Rattle.dag.specs.View.{interleaved};
 ghost use Rattle.dag.specs.Nodes as Nodes;
@@ -15,14 +16,14 @@ ghost use Rattle.plan.specs.Promises as Promises;
 use dag::{Found, NodeKind, Roots};
 
 // The operations whose operands may rotate.
-#[derive(Drop)]
+#[derive(Clone, Copy)]
 pub enum AssociativeOp {
     Add,
     Mul,
 }
 
 // What a round does with one record: two products that share a factor, with what is left of each; or a record that is there already in place of an inner one, with the operand that remains; or nothing.
-#[derive(Drop)]
+#[derive(Clone, Copy)]
 pub enum Plan {
     Factored {
         factor: usize,

@@ -2,6 +2,7 @@
 // A case is its numbers, its stores as lent, the answer, and the written stores after the call.
 // A store is a filling word, the number of words given and those words, with the store's length before it where it is lent.
 // Past the stream's end every word is 0.
+#![tactic(auto)]
 ghost use Rattle.std.specs.Prelude.{◌≡◌, ◌&&◌, ◌+◌, ◌<◌, ◌≤◌, length, take};
 ghost use Rattle.io.specs.Counts.{IsPrefixLen};
 ghost use Rattle.recorded.specs.Stream as Stream;
@@ -85,7 +86,7 @@ pub fn number(s: &[u8], at: usize, k: u64) -> u64
 }
 
 // Three places.
-#[derive(Drop)]
+#[derive(Clone, Copy)]
 pub struct Trio {
     pub a: usize,
     pub b: usize,

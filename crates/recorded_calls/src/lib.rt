@@ -1,4 +1,5 @@
 // The exported calls, each on the numbers and stores of a recorded case.
+#![tactic(auto)]
 ghost use Rattle.std.specs.Prelude.{[], ◌≡◌};
 ghost use Rattle.recorded.specs.Stream as Stream;
 ghost use Rattle.recorded_calls.specs.Calls.{shape, shape_of, stores};
@@ -7,7 +8,7 @@ ghost use Rattle.recorded_calls.specs.Promises.{Asked};
 use recorded::{follow, number};
 
 // A call.
-#[derive(Drop)]
+#[derive(Clone, Copy)]
 pub enum Call {
     Step,
     Build,
@@ -19,7 +20,7 @@ pub enum Call {
 }
 
 // How many numbers a call takes, stores it reads and stores it writes, and words it answers.
-#[derive(Drop)]
+#[derive(Clone, Copy)]
 pub struct Shape {
     pub numbers: u64,
     pub read: u64,

@@ -1,5 +1,6 @@
 // Replays recorded answers of the Rust (crates/recorded), made by: ./differential record --out crates/replay/stdin
 // A section for each call: the call's number, the number of cases, the number of their words, and those words.
+#![tactic(auto)]
 ghost use Rattle.std.specs.Prelude.{cond, true, ◌≡◌, ◌≤◌};
 ghost use Rattle.recorded.specs.Promises.{Laid, Long};
 ghost use Rattle.replay.specs.Cases as Cases;
@@ -10,7 +11,7 @@ use recorded_calls::{Call, ask, shape_of};
 
 // Where the parts of a case are: the stores that its call reads, those that it writes, the answer, the written stores
 // after the call, and the next case.
-#[derive(Drop)]
+#[derive(Clone, Copy)]
 struct Parts {
     read: Trio,
     written: Trio,
@@ -20,14 +21,14 @@ struct Parts {
 }
 
 // Whether a case is answered as recorded, and the place behind it.
-#[derive(Drop)]
+#[derive(Clone, Copy)]
 struct Case {
     same: bool,
     next: usize,
 }
 
 // The call of a section, or none.
-#[derive(Drop)]
+#[derive(Clone, Copy)]
 enum Named {
     Call(Call),
     Nothing,
