@@ -164,6 +164,7 @@ fn earlier(t: u64, a: u64, b: u64, i: usize) -> bool
 }
 
 // The tests of one record at place i: 3, 4, 5.
+#[tactic(auto, unfolding(crate::specs::Check::record_check))]
 pub fn record_check(prime: Prime, t: u64, a: u64, b: u64, i: usize) -> Checked
     ensures { result ≡ Check.record_check (field_of prime).bounds t a b i }
 {
@@ -190,6 +191,7 @@ pub fn is_refused(c: Checked) -> bool
 }
 
 // How many records a store has room for.
+#[tactic(auto, unfolding(crate::specs::View::interleaved))]
 pub fn room(list: &[u64]) -> usize
     ensures { result ≡ (interleaved list.now).room }
 {
@@ -197,6 +199,7 @@ pub fn room(list: &[u64]) -> usize
 }
 
 // The first word of the record at place i: its tag.
+#[tactic(auto, unfolding(crate::specs::View::interleaved))]
 pub fn tag_at(list: &[u64], i: usize) -> u64
     requires { i < (interleaved list.now).room }
     ensures { result ≡ (interleaved list.now).tag_word i }
@@ -205,6 +208,7 @@ pub fn tag_at(list: &[u64], i: usize) -> u64
 }
 
 // Its second word.
+#[tactic(auto, unfolding(crate::specs::View::interleaved))]
 pub fn first_at(list: &[u64], i: usize) -> u64
     requires { i < (interleaved list.now).room }
     ensures { result ≡ (interleaved list.now).first_word i }
@@ -213,6 +217,7 @@ pub fn first_at(list: &[u64], i: usize) -> u64
 }
 
 // Its third word.
+#[tactic(auto, unfolding(crate::specs::View::interleaved))]
 pub fn second_at(list: &[u64], i: usize) -> u64
     requires { i < (interleaved list.now).room }
     ensures { result ≡ (interleaved list.now).second_word i }
@@ -251,6 +256,7 @@ fn records_check(prime: Prime, list: &[u64], n: usize) -> Checked
 }
 
 // The test of a store's room: 2.
+#[tactic(auto, unfolding(crate::specs::Check::room_check))]
 pub fn room_check(needed: usize, room: usize) -> Checked
     ensures { result ≡ Check.room_check needed room }
 {
@@ -364,6 +370,7 @@ pub fn second_of(x: NodeKind) -> u64
 }
 
 // Writes three words at place i.
+#[tactic(auto, unfolding(crate::specs::View::interleaved))]
 pub fn put_words(list: &mut [u64], i: usize, t: u64, a: u64, b: u64)
     requires { i < (interleaved list.old).room }
     ensures { list.new ≡ Store.put_words list.old i t a b }
