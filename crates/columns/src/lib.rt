@@ -1,5 +1,6 @@
 // The periodic types of ir.rs: a column's costs and forms, and Prepare.
 #![tactic(auto)]
+
 ghost use Rattle.field.specs.Field.{modulus_of};
 ghost use Rattle.std.specs.Prelude.{◌≡◌, true, cond, leb, ℕ, ◌+◌, ◌*◌, ◌-◌, ◌^◌, ◌<◌, ◌≤◌, length, take};
 ghost use Rattle.dag.specs.Refusals as Refusals;

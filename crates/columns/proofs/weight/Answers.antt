@@ -1,0 +1,11 @@
+use borrow.Author.Tests.{eq-eqb, ne_eqb}
+use Rattle.columns.specs.Columns as Columns
+use Rattle.columns.proofs.weight.Goals as goal
+
+pub returns-then-v-eq0 : goal.returns-then-v-eq0
+unfolding Columns.weight
+returns-then-v-eq0 c = rw (eq-eqb _ _ c.if-v-eq0.true)
+
+pub returns-else-v-eq0 : goal.returns-else-v-eq0
+unfolding Columns.weight
+returns-else-v-eq0 c = rw (ne_eqb _ _ c.if-v-eq0.false) c.count.ensures
