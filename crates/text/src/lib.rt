@@ -1,5 +1,6 @@
 // Text in a lent store of bytes: words and numbers, each with the byte that ends it, and 0 bytes behind.
 #![tactic(auto)]
+
 ghost use Rattle.std.specs.Prelude.{◌≡◌, [], ◌∷◌, ◌++◌, ◌+◌, ◌-◌, ◌<◌, ◌≤◌, length, take, replicate};
 ghost use Rattle.text.specs.Text.{decimal, end_byte, ended};
 ghost use Rattle.text.specs.Promises.{Wrote};
