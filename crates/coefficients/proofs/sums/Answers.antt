@@ -1,0 +1,20 @@
+use native.Mathlib.Omega.{arith}
+use Rattle.field.specs.Fields.{field_of}
+use Rattle.coefficients.specs.SplitLaws.{reached_start, reached_next, reached_fits, low_powers}
+use Rattle.coefficients.proofs.sums.Goals as goal
+
+pub loop-s-init : goal.loop-s-init
+loop-s-init c = rw c.copied-table.ensures (reached_start (field_of c.args.prime) _ c.requires)
+
+pub halved-table-requires : goal.halved-table-requires
+halved-table-requires c = (
+  c.loop-s.invariant.low,
+  low_powers (field_of c.args.prime) _ c.requires _ _ c.powers-factors.ensures,
+  omega (arith, c.loop-s-test.true),
+  reached_fits (field_of c.args.prime) _ c.requires _ _ _ c.loop-s.invariant,
+)
+
+pub loop-s-preserved : goal.loop-s-preserved
+loop-s-preserved c =
+    reached_next (field_of c.args.prime) _ c.requires _ _ _ _ _ _ c.loop-s-test.true c.root_inverse.ensures.0 c.powers-factors.ensures
+    c.loop-s.invariant c.halved-table.ensures
