@@ -1,5 +1,6 @@
 // The house file: bytes to the words of a list, or why not.
 #![tactic(auto)]
+
 ghost use Rattle.std.specs.Prelude.{◌≡◌, ◌+◌, ◌<◌, ◌≤◌, length};
 ghost use Rattle.dag.specs.View.{interleaved, Agree};
 ghost use Rattle.house_file.specs.File as File;
