@@ -1,5 +1,6 @@
 // `AceDag::compact`: reachability marks, new places, Compact.
 #![tactic(auto)]
+
 ghost use Rattle.std.specs.Prelude.{◌≡◌, ◌++◌, ◌≤◌, length, drop};
 ghost use Rattle.field.specs.Fields.{field_of};
 ghost use Rattle.dag.specs.View.{interleaved};
