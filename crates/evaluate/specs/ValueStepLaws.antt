@@ -11,7 +11,7 @@ use Rattle.field.specs.declared.QuadFelt.{QuadFelt}
 use Rattle.dag.specs.View.{View}
 use Rattle.dag.specs.Check.{lowest}
 use Rattle.dag.specs.Keys.{is_key}
-use Rattle.dag.specs.Nodes.{nodes, at, record_at}
+use Rattle.dag.specs.Nodes.{nodes, record_at}
 use Rattle.dag.specs.NodeLaws.{length_nodes, at_nodes}
 use Rattle.dag.specs.CaseLaws.{and_true, below_suc_elim}
 use Rattle.dag.specs.CheckLaws.{first_good, need_good}

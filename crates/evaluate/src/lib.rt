@@ -1,5 +1,6 @@
 // `eval_dag`: assignments and Evaluate.
 #![tactic(auto)]
+
 ghost use Rattle.std.specs.Prelude.{◌≡◌, ◌+◌, ◌*◌, ◌^◌, ◌<◌, ◌≤◌, length, set};
 ghost use Rattle.dag.specs.View.{interleaved};
 ghost use Rattle.dag.specs.Refusals as Refusals;

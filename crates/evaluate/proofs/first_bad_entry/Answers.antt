@@ -1,0 +1,22 @@
+use Rattle.dag.specs.Refusals.{first_refused}
+use Rattle.dag.specs.CheckLaws.{first_next, first_bad, good_told, bad_told}
+use Rattle.evaluate.specs.Entries as Entries
+use native.Mathlib.Omega.{arith}
+use mathlib.Core.Path.{refl, ◌∙◌}
+use Rattle.evaluate.proofs.first_bad_entry.Goals as goal
+
+pub loop-i-init : goal.loop-i-init
+unfolding first_refused
+loop-i-init c = (omega arith, refl)
+
+pub returns-then-is_refused : goal.returns-then-is_refused
+returns-then-is_refused c =
+    c.entry_check-checked.ensures ∙ first_bad (Entries.entry_check _ _ _) _ _ c.loop-i.invariant.1
+    (bad_told c.entry_check-checked.ensures c.is_refused.ensures c.if-is_refused.true) (omega arith)
+
+pub loop-i-preserved : goal.loop-i-preserved
+loop-i-preserved c = (
+  omega arith,
+  first_next (Entries.entry_check _ _ _) _ c.loop-i.invariant.1
+      (good_told c.entry_check-checked.ensures c.is_refused.ensures c.if-is_refused.false),
+)
