@@ -1,5 +1,6 @@
 // normalize.rs: what a round does with one record, by fanout, common_factor and existing_rotation.
 #![tactic(auto)]
+
 ghost use Rattle.std.specs.Prelude.{◌≡◌, ◌&&◌, [], ◌∷◌, ◌<◌, eqb, length, get_or};
 ghost use Rattle.dag.specs.View.{interleaved};
 ghost use Rattle.dag.specs.Nodes as Nodes;
