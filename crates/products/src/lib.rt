@@ -1,5 +1,6 @@
 // Loops of the fields' products, exported so that ./bench times them without a call for each.
 #![tactic(auto)]
+
 ghost use Rattle.std.specs.Prelude.{◌≡◌, ◌-◌, ◌<◌, length};
 ghost use Rattle.ring.specs.Power.{pow};
 ghost use Rattle.field.specs.Field.{felt, modulus_of};
