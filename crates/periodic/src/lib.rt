@@ -1,6 +1,7 @@
 // periodic.rs: the nodes of periodic columns, built in a store with room for 4,097 records, with their index behind them. A count above 4,096 says
 // that the list is too long.
 #![tactic(auto)]
+
 ghost use Rattle.std.specs.Prelude.{◌≡◌, true, [], ◌+◌, ◌-◌, ◌<◌, ◌≤◌, length, get_or};
 ghost use Rattle.field.specs.Fields.{field_of};
 ghost use Rattle.field.specs.Field.{modulus_of, elements, Below};
