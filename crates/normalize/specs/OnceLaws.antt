@@ -1,5 +1,5 @@
 -- One round on a store: whether it is kept, and what it leaves.
-use Rattle.std.specs.Prelude.{ℕ, ◌+◌, ◌*◌, ◌-◌, ◌<◌, ◌≤◌, Bool, true, false, List, ◌++◌, map, ◌≡◌, refl, length, take, replicate}
+use Rattle.std.specs.Prelude.{ℕ, ◌*◌, ◌-◌, ◌<◌, ◌≤◌, Bool, true, false, List, ◌++◌, map, ◌≡◌, refl, length, take, replicate}
 use Rattle.std.proofs.Common.{true≢false, inl, inr, sym, ◌∙◌, lt-ltb, length-take-le}
 use Rattle.std.proofs.Math.Path.{ap, ap₂}
 use Rattle.std.proofs.Math.Nat.{sub-zero}

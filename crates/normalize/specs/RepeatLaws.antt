@@ -1,5 +1,4 @@
 -- The rounds, from the first to the one that isn't kept.
-use Rattle.field.specs.Fields.{Low}
 use Prim.Native.Nat.{ℕ, zero, suc, ◌+◌, ◌<◌, ◌≤◌}
 use Rattle.std.specs.Prelude.{Bool, List, map, ◌≡◌, ◌⊎◌, ◌↔◌, ltb}
 use Rattle.std.proofs.Math.Bool.{true, false}

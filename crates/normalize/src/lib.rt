@@ -1,5 +1,6 @@
 // normalize.rs: a round, the rounds, Normalise.
 #![tactic(auto)]
+
 ghost use Rattle.std.specs.Prelude.{◌≡◌, cond, true, ℕ, ◌*◌, ◌≤◌, length};
 ghost use Rattle.field.specs.Fields.{field_of};
 ghost use Rattle.field.specs.Field.{elements};
