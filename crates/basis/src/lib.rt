@@ -1,5 +1,6 @@
 // The value of a column in basis: the Lagrange basis of its rows, and the classes of its entries over it.
 #![tactic(auto)]
+
 ghost use Rattle.std.specs.Prelude.{◌≡◌, ◌+◌, ◌-◌, ◌<◌, ◌≤◌, length};
 ghost use Rattle.field.specs.Fields.{field_of};
 ghost use Rattle.field.specs.Field.{modulus_of, elements};
