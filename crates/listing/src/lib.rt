@@ -1,5 +1,6 @@
 // The installers' listing: the text of what Normalise answers to a house file.
 #![tactic(auto)]
+
 use dag::{Checked, NodeKind, Refusal};
 use field::Prime;
 use house_file::FileAnswer;
