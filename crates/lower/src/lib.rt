@@ -1,5 +1,6 @@
 // Lower: the nodes of periodic columns on a list.
 #![tactic(auto)]
+
 ghost use Rattle.std.specs.Prelude.{◌≡◌, cond, leb, ◌+◌, ◌-◌, ◌<◌, ◌≤◌, length, take, replicate};
 ghost use Rattle.field.specs.Fields.{field_of};
 ghost use Rattle.field.specs.Field.{modulus_of};
