@@ -9,7 +9,7 @@ use Rattle.dag.specs.Nodes.{nodes}
 use Rattle.dag.specs.StoreLaws.{sound_well_formed}
 use Rattle.dag.specs.WellFormed.{WellFormed}
 use Rattle.dag.specs.declared.Checked.TheVariants.{Good}
-use Rattle.columns.specs.Columns.{log_within, column}
+use Rattle.columns.specs.Columns.{log_within}
 use Rattle.columns.specs.Prepare.{columns}
 use Rattle.columns.specs.ColumnLaws.{length_columns}
 use Rattle.meaning.specs.Values.{value}
