@@ -221,7 +221,7 @@ fn normalize_rounds(
     let mut count = n;
     let mut places = roots;
     let mut rounds = 0;
-    loop {
+    'until_dropped: loop {
         let once = normalize_once(
             prime,
             res,

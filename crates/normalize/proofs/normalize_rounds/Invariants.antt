@@ -4,8 +4,8 @@ use Rattle.field.specs.Fields.{field_of}
 use Rattle.normalize.specs.Promises.{Running}
 use Rattle.normalize.proofs.normalize_rounds.Given as goal
 
-abbrev pub invariant-loop-prime : goal.invariant-loop-prime
-invariant-loop-prime l = Running (field_of l.prime) l.initial.res l.n l.initial.places l.res l.count l.places l.rounds
+abbrev pub invariant-until_dropped : goal.invariant-until_dropped
+invariant-until_dropped l = Running (field_of l.prime) l.initial.res l.n l.initial.places l.res l.count l.places l.rounds
     × (length l.res ≡ length l.initial.res)
     × (length l.work ≡ length l.initial.work)
     × (length l.fan ≡ length l.initial.fan)
@@ -13,5 +13,5 @@ invariant-loop-prime l = Running (field_of l.prime) l.initial.res l.n l.initial.
     × (length l.own ≡ length l.initial.own)
     × (length l.links ≡ length l.initial.links)
 
-abbrev pub decreases-loop-prime : goal.decreases-loop-prime
-decreases-loop-prime l = l.count
+abbrev pub decreases-until_dropped : goal.decreases-until_dropped
+decreases-until_dropped l = l.count
