@@ -2,9 +2,11 @@
 // A section for each call: the call's number, the number of cases, the number of their words, and those words.
 #![tactic(auto)]
 
-ghost use Rattle.std.specs.Prelude.{cond, true, ◌≡◌, ◌≤◌};
+ghost use Rattle.std.specs.Prelude.{cond, true, ◌≡◌, ◌≤◌, OnOk};
+ghost use Rattle.std.specs.Io.KnownBytes.{Appends};
 ghost use Rattle.recorded.specs.Promises.{Laid, Long};
 ghost use Rattle.replay.specs.Cases as Cases;
+ghost use Rattle.replay.specs.Report as Report;
 
 use recorded::{Trio, both, fit, hold_all, lay_all, length_of, past, places, skip, word};
 use recorded_calls::{Call, ask, shape_of};
@@ -197,7 +199,9 @@ fn call_of(number: u64) -> Named {
 }
 
 // A call's name.
-fn name_of(call: Call) -> &'static str {
+fn name_of(call: Call) -> &'static str
+    ensures { result.now ≡ Report.name call }
+{
     match call {
         Call::Step => "step",
         Call::Build => "build",
@@ -210,7 +214,9 @@ fn name_of(call: Call) -> &'static str {
 }
 
 // Names the cases that are not answered as recorded.
-fn tell<W: Write>(output: &mut W, call: Call, s: &[u8], cases: u64) -> io::Result<()> {
+fn tell<W: Write>(output: &mut W, call: Call, s: &[u8], cases: u64) -> io::Result<()>
+    ensures { OnOk result (Appends (W.contents output.old) (W.contents output.new) (Report.differing call s.now cases)) }
+{
     let mut at = 0;
     for i in 0..cases {
         let case = case_at(call, s, at);
@@ -231,6 +237,7 @@ fn report<W: Write>(
     cases: u64,
 ) -> io::Result<()>
     requires { matched ≡ Cases.matched call s.now cases }
+    ensures { OnOk result (Appends (W.contents output.old) (W.contents output.new) (Report.matching call s.now cases)) }
 {
     let name = name_of(call);
     writeln!(
@@ -240,7 +247,9 @@ fn report<W: Write>(
 }
 
 // Replays a call's cases.
-fn replay_cases<W: Write>(output: &mut W, call: Call, s: &[u8], cases: u64) -> io::Result<()> {
+fn replay_cases<W: Write>(output: &mut W, call: Call, s: &[u8], cases: u64) -> io::Result<()>
+    ensures { OnOk result (Appends (W.contents output.old) (W.contents output.new) (Report.report_of call s.now cases)) }
+{
     let matched = compare(call, s, cases);
     if matched < cases {
         tell(output, call, s, cases)?;
