@@ -1,5 +1,6 @@
 // Lists the house file on standard input: what Normalise answers to it, or the refused line.
 #![tactic(auto)]
+
 ghost use Rattle.std.specs.Prelude.{IfSome, OnOk};
 ghost use Rattle.std.specs.Io.KnownBytes.{Appends};
 ghost use Rattle.listing.specs.Listing.{listing};

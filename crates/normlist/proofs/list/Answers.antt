@@ -1,5 +1,5 @@
 -- the buffer holds what the reader gives, or as much of it as decides the listing; what is written of the text is the listing
-use Rattle.std.proofs.Common.{rules, arith, ℕ, ◌≤◌, ◌≡◌, List, length, take, sym, ◌∙◌, subst, IfSome}
+use Rattle.std.proofs.Common.{rules, ℕ, ◌≡◌, List, take, subst, IfSome}
 use Rattle.std.proofs.Math.Nat.{le_trans}
 use Rattle.std.proofs.Math.Seq.{take-append_seam}
 use Rattle.std.specs.declared.option.Option.{Option}
