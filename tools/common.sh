@@ -54,33 +54,64 @@ need_rust() {
   if why=$(rust_is_absent); then fail "$why"; fi
 }
 
-# Proves and builds a program (fresh check NAME) or an archive (fresh staticlib NAME), a line a crate,
-# where it is missing or older than its sources.
-fresh() {
-  local verb=$1 crate=$2 file log
-  case $verb in
-    check) file=$root/target/bin/$crate ;;
-    staticlib) file=${ACE_LIB:-$root/target/staticlib}/lib$crate.a ;;
-  esac
-  "$root"/tools/stale "$file" "$crate" || return 0
-  if [ "$verb" = staticlib ] && [ -n "${ACE_LIB:-}" ]; then
-    fail "$file is missing or older than its sources; ACE_LIB names its folder"
-  fi
+# Names a crate, then those below it.
+crates_below() {
+  awk -v crate="$1" '
+    !/^#/ && sub(/( +staticlib)? *:/, " ") { for (i = 2; i <= NF; i++) needs[$1] = needs[$1] " " $i }
+    END {
+      queue[last = 1] = crate
+      seen[crate]
+      for (next_one = 1; next_one <= last; next_one++) {
+        print queue[next_one]
+        count = split(needs[queue[next_one]], more, " ")
+        for (i = 1; i <= count; i++)
+          if (!(more[i] in seen)) { seen[more[i]]; queue[++last] = more[i] }
+      }
+    }' "$root/crates.txt"
+}
+
+# Runs rt in a crate's folder (built VERB CRATE), a line for each crate that it proves; all that it said where it fails.
+built() {
+  local verb=$1 crate=$2 log
   command -v rt > /dev/null ||
-    fail "$file is missing or older than its sources, and rt, the Rattle kit that builds it, is not on the PATH"
-  echo "proving and building $crate, about five minutes the first time; a line for each crate:" >&2
+    fail "$crate is not built or older than its sources, and rt, the Rattle kit that builds it, is not on the PATH"
+  echo "proving and building $crate, about half an hour the first time; a line for each crate:" >&2
   log=$(mktemp)
-  rm -f "$file"
-  # Without its stamp a program is linked anew, even if no source has changed.
-  [ "$verb" = staticlib ] || rm -f "$root/target/stamp/$crate"
-  if ! (cd "$root" && rt "$verb" "$crate" < /dev/null 2>&1 | tee "$log" | awk '/^rt:/ && !/unchanged/ { print; fflush() }' >&2); then
+  # What a program writes, which runs on no input, is of no use here.
+  if ! (cd "$root/crates/$crate" && rt "$verb" < /dev/null 2>&1 | tee "$log" |
+    awk '/^crate [^ ]+: / { name = substr($2, 1, length($2) - 1) } /^logic=proved / { print name " is proved"; fflush() }' >&2); then
     cat "$log" >&2
     rm -f "$log"
-    fail "rt $verb $crate failed; the lines above say where"
+    fail "rt $verb failed in crates/$crate; the lines above say where"
   fi
   rm -f "$log"
-  [ -e "$file" ] || fail "rt $verb $crate wrote no $file"
-  touch "$file"
+}
+
+# Sees that a program (fresh program NAME: target/bin/NAME) or an archive (fresh archive NAME: target/staticlib/libNAME.a, or
+# that of the folder ACE_LIB) is there and not older than its sources: has rt make it in the crate's out/ and copies it.
+fresh() {
+  local kind=$1 name=$2 crate=$2 verb file made
+  case $kind in
+    program) verb=run file=$root/target/bin/$name made=$name ;;
+    archive)
+      # Crate ace is the library of the calls, and ace_c exports them.
+      [ "$name" != ace ] || crate=ace_c
+      verb=lib file=${ACE_LIB:-$root/target/staticlib}/lib$name.a made=lib$crate.a
+      ;;
+  esac
+  made=$root/crates/$crate/out/$made
+  "$root"/tools/stale "$file" "$crate" || return 0
+  if [ "$kind" = archive ] && [ -n "${ACE_LIB:-}" ]; then
+    fail "$file is missing or older than its sources; ACE_LIB names its folder"
+  fi
+  if "$root"/tools/stale "$made" "$crate"; then
+    built "$verb" "$crate"
+    [ -e "$made" ] || fail "rt $verb wrote no $made"
+    touch "$made"
+  fi
+  mkdir -p "$(dirname "$file")"
+  cp "$made" "$file.new"
+  mv "$file.new" "$file"
 }
 
 # Builds a Rust program of the repository: its name, how long that takes, and more words of cargo.

@@ -24,8 +24,8 @@ fi
 [ $# -gt 0 ] || set -- step build compact normalize evaluate prepare lower normlist
 command -v valgrind > /dev/null || fail "valgrind is not on the PATH"
 need_rust
-fresh staticlib ace
-fresh check normlist
+fresh archive ace
+fresh program normlist
 rust_program differential "about half a minute"
 
 differential=rust/target/release/differential

@@ -1,4 +1,4 @@
-//! Links libace.a, which `rt staticlib ace` writes to target/staticlib; ACE_LIB names another
+//! Links libace.a, which `tools/archive ace` writes to target/staticlib; ACE_LIB names another
 //! folder, a relative one against the repository's root.
 
 use std::path::{Path, PathBuf};
@@ -17,7 +17,7 @@ fn main() {
     let (place, out) = (folder.join("libace.a"), PathBuf::from(env::var("OUT_DIR").unwrap()));
     if let Err(error) = fs::copy(&place, out.join("libace.a")) {
         println!(
-            "cargo::error={}: {error}. `rt staticlib ace`, run at the repository's root, writes \
+            "cargo::error={}: {error}. `tools/archive ace`, run at the repository's root, writes \
              target/staticlib/libace.a; ACE_LIB names the folder of another",
             place.display()
         );

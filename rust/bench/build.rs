@@ -10,7 +10,7 @@ fn main() {
     let place = folder.join("libproducts.a");
     if !place.exists() {
         let place = place.display();
-        println!("cargo::error={place} is missing: `rt staticlib products` writes it");
+        println!("cargo::error={place} is missing: `tools/archive products` writes it");
         return;
     }
     println!("cargo::rustc-link-search=native={}", folder.display());

@@ -1,6 +1,7 @@
-// The exported calls, for C and Rust (include/ace.h): each takes a field number, lends its stores to the library and writes the
+// The calls that crate ace_c exports for C and Rust (include/ace.h): each takes a field number, is lent its stores and writes the
 // answer's words.
 #![tactic(auto)]
+
 ghost use Rattle.std.specs.Prelude.{◌≡◌, ◌∷◌};
 ghost use Rattle.ace.specs.Answers as Answers;
 ghost use Rattle.ace.specs.Calls as Calls;
@@ -132,8 +133,7 @@ fn lower_words(a: LowerAnswer) -> [u64; 4]
 }
 
 // Step. Accepted: place, new n.
-#[unsafe(no_mangle)]
-pub extern "C" fn ace_step(
+pub fn ace_step(
     field: u64,
     list: &mut [u64],
     n: usize,
@@ -157,8 +157,7 @@ pub extern "C" fn ace_step(
 }
 
 // Build. Accepted: count, root's place.
-#[unsafe(no_mangle)]
-pub extern "C" fn ace_build(
+pub fn ace_build(
     field: u64,
     list: &[u64],
     n: usize,
@@ -183,8 +182,7 @@ pub extern "C" fn ace_build(
 }
 
 // Compact. Accepted: count, root.
-#[unsafe(no_mangle)]
-pub extern "C" fn ace_compact(
+pub fn ace_compact(
     field: u64,
     list: &[u64],
     n: usize,
@@ -207,8 +205,7 @@ pub extern "C" fn ace_compact(
 }
 
 // Normalise. Accepted: count, root, rounds kept.
-#[unsafe(no_mangle)]
-pub extern "C" fn ace_normalize(
+pub fn ace_normalize(
     field: u64,
     list: &[u64],
     n: usize,
@@ -233,8 +230,7 @@ pub extern "C" fn ace_normalize(
 }
 
 // Evaluate. Accepted: c0, c1.
-#[unsafe(no_mangle)]
-pub extern "C" fn ace_evaluate(
+pub fn ace_evaluate(
     field: u64,
     list: &[u64],
     n: usize,
@@ -257,8 +253,7 @@ pub extern "C" fn ace_evaluate(
 }
 
 // Prepare. Accepted: columns, then a form each.
-#[unsafe(no_mangle)]
-pub extern "C" fn ace_prepare(field: u64, lengths: &[u64], entries: &[u64], answer: &mut [u64; 18])
+pub fn ace_prepare(field: u64, lengths: &[u64], entries: &[u64], answer: &mut [u64; 18])
     ensures answer { answer.new ≡ Calls.prepare_answer field lengths.now entries.now }
 {
     let known = field::numbered(field);
@@ -273,8 +268,7 @@ pub extern "C" fn ace_prepare(field: u64, lengths: &[u64], entries: &[u64], answ
 }
 
 // Lower. Accepted: count.
-#[unsafe(no_mangle)]
-pub extern "C" fn ace_lower(
+pub fn ace_lower(
     field: u64,
     list: &[u64],
     n: usize,
@@ -305,8 +299,7 @@ pub extern "C" fn ace_lower(
 }
 
 // The interface's number.
-#[unsafe(no_mangle)]
-pub extern "C" fn ace_interface() -> u64
+pub fn ace_interface() -> u64
     ensures { result ≡ 2 }
 {
     INTERFACE

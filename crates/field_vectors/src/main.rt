@@ -1,12 +1,16 @@
 // Holds the fields to vectors of ordinary whole-number arithmetic, made by tools/field_vectors.py and read from standard input.
 #![tactic(auto)]
-ghost use Rattle.std.specs.Prelude.{◌≡◌, ◌+◌, ◌/◌, ◌≤◌, ◌<◌, length};
+
+ghost use Rattle.std.specs.Prelude.{◌≡◌, ◌+◌, ◌/◌, ◌≤◌, ◌<◌, IfSome, OnOk, length, take};
+ghost use Rattle.std.specs.Io.KnownBytes.{Appends};
 ghost use Rattle.field.specs.Field.{Below};
 ghost use Rattle.field.specs.Generators as Generators;
 ghost use Rattle.field_vectors.specs.Vectors as Vectors;
+ghost use Rattle.field_vectors.specs.Report.{report_of};
 
 use field::{FieldNumber, Prime, QuadFelt, felt};
-use libc::STDOUT_FILENO;
+use std::io;
+use std::io::{Read, Write};
 
 // The bytes of a line: a field number, a sign, and six words of 16 hexadecimal digits.
 const LINE: usize = 106;
@@ -130,23 +134,31 @@ fn compare(s: &[u8]) -> Tally
     Tally { vectors, matched }
 }
 
-// Prints how many vectors match.
-fn report(s: &[u8], t: Tally)
+// Writes how many vectors match.
+fn report<W: Write>(output: &mut W, s: &[u8], t: Tally) -> io::Result<()>
     requires { (t.vectors ≡ length s.now / 106) × (t.matched ≡ Vectors.matched s.now (length s.now / 106)) }
+    ensures { OnOk result (Appends (W.contents output.old) (W.contents output.new) (report_of s.now)) }
 {
-    io::print_decimal(STDOUT_FILENO, t.matched);
-    io::write_all(STDOUT_FILENO, b" of ");
-    io::print_decimal(STDOUT_FILENO, t.vectors);
-    io::write_all(STDOUT_FILENO, b" vectors match\n");
+    let Tally { vectors, matched } = t;
+    writeln!(output, "{matched} of {vectors} vectors match")
 }
 
 // Compares the vectors of a text.
-fn run(s: &[u8]) {
-    report(s, compare(s));
+fn run<W: Write>(output: &mut W, s: &[u8]) -> io::Result<()>
+    ensures { OnOk result (Appends (W.contents output.old) (W.contents output.new) (report_of s.now)) }
+{
+    report(output, s, compare(s))
 }
 
-fn main() {
+// Compares the vectors that a reader gives, in its first 65,536 bytes.
+fn compare_read<R: Read, W: Write>(input: &mut R, output: &mut W) -> io::Result<()>
+    ensures { OnOk result (IfSome (R.remaining input.old) (λ s. Appends (W.contents output.old) (W.contents output.new) (report_of (take 65536 s)))) }
+{
     let mut buffer = [0u8; 65536];
-    let n = io::read_full(0, &mut buffer);
-    run(&buffer[..n]);
+    let n = streams::read_full(input, &mut buffer)?;
+    run(output, &buffer[..n])
+}
+
+fn main(rt: HostRuntime) -> io::Result<()> {
+    compare_read(&mut rt.stdin(), &mut rt.stdout())
 }

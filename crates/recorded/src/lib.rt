@@ -4,8 +4,8 @@
 // Past the stream's end every word is 0.
 #![tactic(auto)]
 ghost use Rattle.std.specs.Prelude.{◌≡◌, ◌&&◌, ◌+◌, ◌<◌, ◌≤◌, length, take};
-ghost use Rattle.io.specs.Counts.{IsPrefixLen};
 ghost use Rattle.recorded.specs.Stream as Stream;
+ghost use Rattle.recorded.specs.Promises.{IsPrefixLen};
 ghost use Rattle.recorded.specs.Promises as Promises;
 
 // The number of a byte.

@@ -1,2 +1,4 @@
 pub mod Cases
 pub mod CaseLaws
+pub mod Report
+pub mod ReportLaws

@@ -1,13 +1,17 @@
 // Replays recorded answers of the Rust (crates/recorded), made by: ./differential record --out crates/replay/stdin
 // A section for each call: the call's number, the number of cases, the number of their words, and those words.
 #![tactic(auto)]
-ghost use Rattle.std.specs.Prelude.{cond, true, ◌≡◌, ◌≤◌};
+
+ghost use Rattle.std.specs.Prelude.{cond, true, ◌≡◌, ◌≤◌, OnOk};
+ghost use Rattle.std.specs.Io.KnownBytes.{Appends};
 ghost use Rattle.recorded.specs.Promises.{Laid, Long};
 ghost use Rattle.replay.specs.Cases as Cases;
+ghost use Rattle.replay.specs.Report as Report;
 
-use libc::STDOUT_FILENO;
 use recorded::{Trio, both, fit, hold_all, lay_all, length_of, past, places, skip, word};
 use recorded_calls::{Call, ask, shape_of};
+use std::io;
+use std::io::{Read, Write};
 
 // Where the parts of a case are: the stores that its call reads, those that it writes, the answer, the written stores
 // after the call, and the next case.
@@ -157,22 +161,11 @@ fn case_at(call: Call, s: &[u8], at: usize) -> Case
     }
 }
 
-// Says that case i is not answered as recorded.
-fn tell(i: u64) {
-    io::write_all(STDOUT_FILENO, b"case ");
-    io::print_decimal(STDOUT_FILENO, i);
-    io::write_all(STDOUT_FILENO, b" differs\n");
-}
-
-// 1 where case i is answered as recorded, and else 0, with a line that says so.
-fn score(same: bool, i: u64) -> u64
+// 1 where a case is answered as recorded, and else 0.
+fn score(same: bool) -> u64
     ensures { (result ≡ cond same 1 0) × (result ≤ 1) }
 {
-    if same {
-        return 1;
-    }
-    tell(i);
-    0
+    if same { 1 } else { 0 }
 }
 
 // How many of a call's first cases are answered as recorded.
@@ -184,7 +177,7 @@ fn compare(call: Call, s: &[u8], cases: u64) -> u64
     let mut i: u64 = 0;
     while i < cases {
         let case = case_at(call, s, at);
-        matched += score(case.same, i);
+        matched += score(case.same);
         at = case.next;
         i += 1;
     }
@@ -205,70 +198,109 @@ fn call_of(number: u64) -> Named {
     }
 }
 
-// Prints a call's name.
-fn print_name(call: Call) {
+// A call's name.
+fn name_of(call: Call) -> &'static str
+    ensures { result.now ≡ Report.name call }
+{
     match call {
-        Call::Step => io::write_all(STDOUT_FILENO, b"step"),
-        Call::Build => io::write_all(STDOUT_FILENO, b"build"),
-        Call::Compact => io::write_all(STDOUT_FILENO, b"compact"),
-        Call::Normalize => io::write_all(STDOUT_FILENO, b"normalize"),
-        Call::Evaluate => io::write_all(STDOUT_FILENO, b"evaluate"),
-        Call::Prepare => io::write_all(STDOUT_FILENO, b"prepare"),
-        Call::Lower => io::write_all(STDOUT_FILENO, b"lower"),
-    };
+        Call::Step => "step",
+        Call::Build => "build",
+        Call::Compact => "compact",
+        Call::Normalize => "normalize",
+        Call::Evaluate => "evaluate",
+        Call::Prepare => "prepare",
+        Call::Lower => "lower",
+    }
 }
 
-// Prints how many answers match.
-fn report(call: Call, s: &[u8], matched: u64, cases: u64)
-    requires { matched ≡ Cases.matched call s.now cases }
+// Names the cases that are not answered as recorded.
+fn tell<W: Write>(output: &mut W, call: Call, s: &[u8], cases: u64) -> io::Result<()>
+    ensures { OnOk result (Appends (W.contents output.old) (W.contents output.new) (Report.differing call s.now cases)) }
 {
-    print_name(call);
-    io::write_all(STDOUT_FILENO, b": ");
-    io::print_decimal(STDOUT_FILENO, matched);
-    io::write_all(STDOUT_FILENO, b" of ");
-    io::print_decimal(STDOUT_FILENO, cases);
-    io::write_all(STDOUT_FILENO, b" recorded answers match\n");
+    let mut at = 0;
+    for i in 0..cases {
+        let case = case_at(call, s, at);
+        if !case.same {
+            writeln!(output, "case {i} differs")?;
+        }
+        at = case.next;
+    }
+    Ok(())
+}
+
+// Writes how many answers match.
+fn report<W: Write>(
+    output: &mut W,
+    call: Call,
+    s: &[u8],
+    matched: u64,
+    cases: u64,
+) -> io::Result<()>
+    requires { matched ≡ Cases.matched call s.now cases }
+    ensures { OnOk result (Appends (W.contents output.old) (W.contents output.new) (Report.matching call s.now cases)) }
+{
+    let name = name_of(call);
+    writeln!(
+        output,
+        "{name}: {matched} of {cases} recorded answers match"
+    )
 }
 
 // Replays a call's cases.
-fn replay_cases(call: Call, s: &[u8], cases: u64) {
-    report(call, s, compare(call, s, cases), cases);
+fn replay_cases<W: Write>(output: &mut W, call: Call, s: &[u8], cases: u64) -> io::Result<()>
+    ensures { OnOk result (Appends (W.contents output.old) (W.contents output.new) (Report.report_of call s.now cases)) }
+{
+    let matched = compare(call, s, cases);
+    if matched < cases {
+        tell(output, call, s, cases)?;
+    }
+    report(output, call, s, matched, cases)
 }
 
 // Reads a section's cases into a store of their length, and replays them.
-fn read_cases(call: Call, cases: u64, store: &mut [u8]) {
-    let n = io::read_full(0, store);
-    replay_cases(call, &store[..n], cases);
+fn read_cases<R: Read, W: Write>(
+    input: &mut R,
+    output: &mut W,
+    call: Call,
+    cases: u64,
+    store: &mut [u8],
+) -> io::Result<()> {
+    let n = streams::read_full(input, store)?;
+    replay_cases(output, call, &store[..n], cases)
 }
 
-// Replays the section that standard input is at: whether there is one that the buffer holds.
-fn section(buffer: &mut [u8]) -> bool {
+// Replays the section that the input is at: whether there is one that the buffer holds.
+fn section<R: Read, W: Write>(
+    input: &mut R,
+    output: &mut W,
+    buffer: &mut [u8],
+) -> io::Result<bool> {
     let mut head = [0u8; 24];
-    io::read_full(0, &mut head);
+    streams::read_full(input, &mut head)?;
     let found = call_of(word(&head, 0));
     let Named::Call(call) = found else {
-        return false;
+        return Ok(false);
     };
     let words = word(&head, 2);
     if words > buffer.len() as u64 / 8 {
-        return false;
+        return Ok(false);
     }
-    read_cases(call, word(&head, 1), &mut buffer[..8 * words as usize]);
-    true
+    let store = &mut buffer[..8 * words as usize];
+    read_cases(input, output, call, word(&head, 1), store)?;
+    Ok(true)
 }
 
-// Replays every section on standard input, at most 16.
-fn run(buffer: &mut [u8]) {
-    let mut k: u64 = 0;
-    while k < 16 {
-        if !section(buffer) {
-            return;
+// Replays every section of an input, at most 16.
+fn run<R: Read, W: Write>(input: &mut R, output: &mut W, buffer: &mut [u8]) -> io::Result<()> {
+    for _ in 0..16 {
+        if !section(input, output, buffer)? {
+            return Ok(());
         }
-        k += 1;
     }
+    Ok(())
 }
 
-fn main() {
+fn main(rt: HostRuntime) -> io::Result<()> {
     let mut buffer = [0u8; 262144];
-    run(&mut buffer);
+    run(&mut rt.stdin(), &mut rt.stdout(), &mut buffer)
 }

@@ -25,7 +25,7 @@
 //! ace = { path = "../reefquince/rust/ace" }
 //! ```
 //!
-//! It links `target/staticlib/libace.a` of that clone, which `rt staticlib ace` writes, or the
+//! It links `target/staticlib/libace.a` of that clone, which `tools/archive ace` writes, or the
 //! `libace.a` in the folder that the variable `ACE_LIB` names; without one the build ends in an
 //! error. The archive is for x86-64 Linux.
 //!

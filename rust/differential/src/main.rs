@@ -197,7 +197,7 @@ fn calls_absent() -> Option<String> {
 
 #[cfg(not(feature = "ours"))]
 fn calls_absent() -> Option<String> {
-    Some("this program was built without libace.a (`rt staticlib ace` writes it)".to_string())
+    Some("this program was built without libace.a (`tools/archive ace` writes it)".to_string())
 }
 
 /// Why a part can't be compared, if it can't.
@@ -207,7 +207,7 @@ fn absent(part: Part, options: &Options) -> Option<String> {
         _ if options.without_ours => None,
         Part::Call(..) => calls_absent(),
         Part::Normlist if options.program.exists() => None,
-        Part::Normlist => Some(format!("{program} is not there (`rt check normlist` builds it)")),
+        Part::Normlist => Some(format!("{program} is not there (`./normlist` builds it)")),
     }
 }
 

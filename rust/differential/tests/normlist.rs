@@ -232,10 +232,7 @@ fn the_samples_are_listed_as_their_listings_say() {
     assert_eq!(named, listings, "each sample has a listing");
     assert!(!houses.is_empty());
     let program = Program::new(&path("target/bin/normlist"), &[]);
-    assert!(
-        program.path().exists(),
-        "target/bin/normlist is missing: `rt check normlist` builds it"
-    );
+    assert!(program.path().exists(), "target/bin/normlist is missing: `./normlist` builds it");
     for house in houses {
         let listed = std::fs::read_to_string(house.with_extension("txt")).expect("a listing");
         let file = std::fs::read(&house).expect("a sample");

@@ -7,6 +7,9 @@ use std::process::{Command, Output};
 
 use differential::listings::REFUSALS;
 
+/// What the kit says behind a crate that it has proved.
+const PROVED: &str = "logic=proved functions=1 sum=0";
+
 /// Takes a file's text as a refusal's number, or lists it; an empty one is 21.
 const STAND_IN: &str = r#"#!/bin/sh
 text=$(cat)
@@ -17,15 +20,21 @@ case "$text" in
 esac
 "#;
 
-/// A folder with the scripts and the stand-in, and how it is called.
+/// A folder with the scripts and the stand-in, and how it is called. It lies outside of the
+/// repository, in which rt takes no second crates.txt.
 struct Sandbox(PathBuf);
+
+impl Drop for Sandbox {
+    fn drop(&mut self) {
+        let _ = fs::remove_dir_all(&self.0);
+    }
+}
 
 impl Sandbox {
     /// The scripts, and the files one and two, which are good, and bad, which is refused.
     fn new(name: &str) -> Self {
-        let folder = Path::new(env!("CARGO_TARGET_TMPDIR")).join(name);
-        let _ = fs::remove_dir_all(&folder);
-        let sandbox = Self(folder);
+        let own = format!("ace-scripts-{}-{name}", std::process::id());
+        let sandbox = Self(std::env::temp_dir().join(own));
         let root = Path::new(env!("CARGO_MANIFEST_DIR")).join("../..");
         let files = ["normlist", "tools/launch", "tools/common.sh", "tools/stale"];
         for file in files.into_iter().chain(["tools/refusals.txt", "samples/shared_factor.house"]) {
@@ -104,24 +113,28 @@ fn an_empty_input_and_a_closed_one_say_what_was_expected() {
     assert_eq!(sandbox.shell("./normlist one <&-").0, "nodes one\n");
 }
 
-/// A kit that says a line a crate, and more, and then does this.
+/// A kit that says two lines a crate, and more, and then does this in the program's folder.
 fn kit(commands: &str) -> Vec<u8> {
-    let said = ["library: modules", "rt: ring proved (1 s)", "rt: field proved (unchanged)"];
+    let said = ["fn ring::sum: proved", "crate ring: modules loaded=0 checked=3", PROVED];
     let said = said.map(|line| format!("echo '{line}'\n")).concat();
-    format!("#!/bin/sh\n{said}{commands}\n").into_bytes()
+    format!("#!/bin/sh\n[ \"$1\" = run ] || exit 9\n{said}{commands}\n").into_bytes()
 }
 
 #[test]
 fn a_program_that_is_missing_is_built_with_a_line_a_crate() {
     let sandbox = Sandbox::new("built");
     sandbox.write("kept", STAND_IN.as_bytes());
-    sandbox.write("kit/rt", &kit("mkdir -p target/bin && cp kept target/bin/normlist"));
+    sandbox.write("kit/rt", &kit("mkdir -p out && cp ../../kept out/normlist"));
     fs::remove_file(sandbox.0.join("target/bin/normlist")).expect("a program");
     let (printed, said, status) = sandbox.shell("./normlist one");
     assert_eq!((&*printed, status), ("nodes one\n", 0));
     assert!(said.starts_with("proving and building normlist, about "), "{said}");
-    assert!(said.ends_with(":\nrt: ring proved (1 s)\n"), "{said}");
+    assert!(said.ends_with(":\nring is proved\n"), "{said}");
     assert_eq!(sandbox.shell("./normlist one").1, "", "it is built once");
+    sandbox.write("kit/rt", &kit("exit 1"));
+    fs::remove_file(sandbox.0.join("target/bin/normlist")).expect("a program");
+    let again = sandbox.shell("./normlist one");
+    assert_eq!(again, ("nodes one\n".into(), String::new(), 0), "what rt has built is taken");
 }
 
 #[test]
@@ -132,7 +145,7 @@ fn an_old_program_is_built_again_or_not_run() {
     let (printed, said, status) = sandbox.shell("./normlist one");
     assert_eq!((&*printed, status), ("", 2));
     assert!(
-        said.contains("wrong in line 7") && said.contains("rt check normlist failed"),
+        said.contains("wrong in line 7") && said.contains("rt run failed in crates/normlist"),
         "{said}"
     );
     sandbox.write("kit/rt", &kit(""));

@@ -1,0 +1,130 @@
+// The calls of crate ace under the names and the calling convention that C and Rust link by (include/ace.h): libace.a.
+#![tactic(auto)]
+
+ghost use Rattle.std.specs.Prelude.{◌≡◌};
+ghost use Rattle.ace.specs.Calls as Calls;
+
+// Step. Accepted: place, new n.
+#[unsafe(no_mangle)]
+pub extern "C" fn ace_step(
+    field: u64,
+    list: &mut [u64],
+    n: usize,
+    tag: u64,
+    first: u64,
+    second: u64,
+    answer: &mut [u64; 4],
+)
+    ensures store { list.new ≡ Calls.step_list field list.old n tag first second }
+    ensures answer { answer.new ≡ Calls.step_answer field list.old n tag first second }
+{
+    ace::ace_step(field, list, n, tag, first, second, answer);
+}
+
+// Build. Accepted: count, root's place.
+#[unsafe(no_mangle)]
+pub extern "C" fn ace_build(
+    field: u64,
+    list: &[u64],
+    n: usize,
+    root: usize,
+    res: &mut [u64],
+    map: &mut [u64],
+    answer: &mut [u64; 4],
+)
+    ensures res { res.new ≡ Calls.build_result field list.now n root res.old map.old }
+    ensures map { map.new ≡ Calls.build_map field list.now n root res.old map.old }
+    ensures answer { answer.new ≡ Calls.build_answer field list.now n root res.old map.old }
+{
+    ace::ace_build(field, list, n, root, res, map, answer);
+}
+
+// Compact. Accepted: count, root.
+#[unsafe(no_mangle)]
+pub extern "C" fn ace_compact(
+    field: u64,
+    list: &[u64],
+    n: usize,
+    root: usize,
+    res: &mut [u64],
+    answer: &mut [u64; 4],
+)
+    ensures res { res.new ≡ Calls.compact_result field list.now n root res.old }
+    ensures answer { answer.new ≡ Calls.compact_answer field list.now n root res.old }
+{
+    ace::ace_compact(field, list, n, root, res, answer);
+}
+
+// Normalise. Accepted: count, root, rounds kept.
+#[unsafe(no_mangle)]
+pub extern "C" fn ace_normalize(
+    field: u64,
+    list: &[u64],
+    n: usize,
+    root: usize,
+    res: &mut [u64],
+    work: &mut [u64],
+    answer: &mut [u64; 4],
+)
+    ensures res { res.new ≡ Calls.normalize_result field list.now n root res.old work.old }
+    ensures work { work.new ≡ Calls.normalize_work field list.now n root res.old work.old }
+    ensures answer { answer.new ≡ Calls.normalize_answer field list.now n root res.old work.old }
+{
+    ace::ace_normalize(field, list, n, root, res, work, answer);
+}
+
+// Evaluate. Accepted: c0, c1.
+#[unsafe(no_mangle)]
+pub extern "C" fn ace_evaluate(
+    field: u64,
+    list: &[u64],
+    n: usize,
+    root: usize,
+    assignment: &[u64],
+    m: usize,
+    answer: &mut [u64; 4],
+)
+    ensures answer { answer.new ≡ Calls.evaluate_answer field list.now n root assignment.now m }
+{
+    ace::ace_evaluate(field, list, n, root, assignment, m, answer);
+}
+
+// Prepare. Accepted: columns, then a form each.
+#[unsafe(no_mangle)]
+pub extern "C" fn ace_prepare(field: u64, lengths: &[u64], entries: &[u64], answer: &mut [u64; 18])
+    ensures answer { answer.new ≡ Calls.prepare_answer field lengths.now entries.now }
+{
+    ace::ace_prepare(field, lengths, entries, answer);
+}
+
+// Lower. Accepted: count.
+#[unsafe(no_mangle)]
+pub extern "C" fn ace_lower(
+    field: u64,
+    list: &[u64],
+    n: usize,
+    lengths: &[u64],
+    entries: &[u64],
+    period: u64,
+    res: &mut [u64],
+    work: &mut [u64],
+    places: &mut [u64],
+    answer: &mut [u64; 4],
+)
+    ensures res { res.new ≡ Calls.lower_result field list.now n lengths.now entries.now period res.old work.old places.old }
+    ensures work { work.new ≡ Calls.lower_work field list.now n lengths.now entries.now period res.old work.old places.old }
+    ensures places { places.new ≡ Calls.lower_places field list.now n lengths.now entries.now period res.old work.old places.old }
+    ensures answer { answer.new ≡ Calls.lower_answer field list.now n lengths.now entries.now period res.old work.old places.old }
+{
+    ace::ace_lower(
+        field, list, n, lengths, entries, period, res, work, places, answer,
+    );
+}
+
+// The interface's number.
+#[unsafe(no_mangle)]
+pub extern "C" fn ace_interface() -> u64
+    ensures { result ≡ 2 }
+{
+    ace::ace_interface()
+}
