@@ -152,8 +152,10 @@ def main():
     crates = set(os.listdir("crates"))
     for path in files(".antt"):
         write(path, respell_antt(read(path), put, crates))
+    # a function of src/ may have the name of a lemma that gave way to a definition
+    put_in_source = replacer({old: new for old, new in names.items() if not re.fullmatch(r"[a-z0-9_]+", old)})
     for path in files(".rt"):
-        write(path, respell_rt(read(path), put))
+        write(path, respell_rt(read(path), lambda text: contracts.sub("Promises", put_in_source(text))))
     pages = ["README.md"] + [os.path.join("docs", n) for n in sorted(os.listdir("docs")) if n.endswith(".md")]
     for path in pages:
         write(path, respell_page(read(path), put, declared))

@@ -6,7 +6,7 @@ use Rattle.std.proofs.Math.Path.{refl, ap}
 use Rattle.field.specs.Fields.{Bounds, Within}
 use Rattle.dag.specs.View.{View}
 use Rattle.dag.specs.Keys.{is_key}
-use Rattle.dag.specs.Nodes.{tag, first, second, decode, record_at, nodes, at}
+use Rattle.dag.specs.Nodes.{tag, first, second, decode, record_at, nodes}
 use Rattle.dag.specs.NodeLaws.{length_nodes, at_nodes}
 use Rattle.dag.specs.CaseLaws.{and_true, below_suc, below_suc_elim}
 use Rattle.dag.specs.Refusals.{need, ◌then◌, is_refused, unless_refused, first_refused}

@@ -1,5 +1,6 @@
 // The constraint DAG's records: key numbers, `NodeKind` and its three words, refusals, the list check and the lookup.
 #![tactic(auto)]
+
 ghost use Rattle.std.specs.Prelude.{◌≡◌, ℕ, ◌+◌, ◌*◌, ◌-◌, ◌^◌, ◌<◌, ◌≤◌, ltb, [], ◌∷◌, ◌++◌, length, get_or, take, replicate};
 ghost use mathlib.Core.List as Lists;
 ghost use Rattle.field.specs.Fields.{field_of};
@@ -122,7 +123,7 @@ pub fn lowest(prime: Prime, c0: u64, c1: u64) -> bool
     ensures { result ≡ Check.lowest (field_of prime).bounds c0 c1 }
 {
     if c0 < felt::modulus(prime) {
-        return c1 < felt::second_below_lem(prime);
+        return c1 < felt::second_below(prime);
     }
     false
 }

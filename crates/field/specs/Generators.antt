@@ -6,7 +6,7 @@ use Rattle.std.proofs.Math.Dec.{eqb→eq, ltb→lt}
 use Rattle.std.proofs.Math.Facts.{and_yes}
 use Rattle.std.proofs.lemmas.Bool.{lt-leb}
 use Rattle.ring.specs.Power.{pow, pow_add, pow_one, square_pow, pow_inverse}
-use Rattle.field.specs.Field.{p, q, modulus_of, felt, felt_laws}
+use Rattle.field.specs.Field.{p, modulus_of, felt, felt_laws}
 use Rattle.field.specs.Table.{every, at}
 use Rattle.field.specs.declared.Prime.{Prime}
 use Rattle.field.specs.declared.Prime.TheVariants.{Goldilocks, BabyBear}

@@ -24,7 +24,7 @@ pub fn modulus(prime: Prime) -> u64
 }
 
 // What second coordinates are below.
-pub fn second_below_lem(prime: Prime) -> u64
+pub fn second_below(prime: Prime) -> u64
     ensures { result ≡ second_below prime }
 {
     match prime {

@@ -1,6 +1,7 @@
 // The two fields of the constraint lists: coordinates modulo p = 2^64 − 2^32 + 1, with elements c0 + c1·u where u² = 7; and
 // residues modulo q = 2^31 − 2^27 + 1, whose c1 is always 0.
 #![tactic(auto)]
+
 ghost use Rattle.std.specs.Prelude.{◌≡◌};
 ghost use Rattle.field.specs.Field.{elements, Below};
 ghost use Rattle.field.specs.Field as spec;

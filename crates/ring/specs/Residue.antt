@@ -1,5 +1,5 @@
 -- The residues of a modulus, on all natural numbers: every operation answers the least residue.
-use Rattle.std.specs.Prelude.{◌≡◌, refl, ℕ, zero, ◌+◌, ◌*◌, ◌-◌, ◌%◌, ◌/◌, ◌<◌}
+use Rattle.std.specs.Prelude.{◌≡◌, refl, ℕ, ◌+◌, ◌*◌, ◌-◌, ◌%◌, ◌/◌, ◌<◌}
 use Rattle.std.proofs.Common.{sym, ◌∙◌, ap, add_comm, add_assoc, mul_comm, mul_assoc, mul-add, mul_left_comm, zero-add, add-zero, one-mul, zero-mul, mul-zero, mod-lt, mod-eq_of_lt, add-sub_of_le, le_of_lt}
 use Rattle.std.proofs.Math.Nat.{zero-mod, mod_self, mod-add-mod, add-mod-mod, mod-add-div, add-mul-mod_self_left}
 use Rattle.ring.specs.Ring.{Ops, Laws}

@@ -2,7 +2,6 @@ use Rattle.dag.specs.BlankLaws.{blank_none, blank_more, blank_all}
 use lib.ListN.{length-set}
 use native.Mathlib.Omega.{arith}
 use mathlib.Core.Path.{refl, ◌∙◌}
-use Prim.Native.Nat.{◌-◌}
 use Rattle.dag.proofs.fill.Goals as goal
 
 pub loop-i-init : goal.loop-i-init

@@ -13,11 +13,10 @@ returns-then-words_are c =
     c.second_of-b.result c.requires.1 c.tag_of-t.ensures c.first_of-a.ensures c.second_of-b.ensures
 
 pub loop-i-preserved : goal.loop-i-preserved
-loop-i-preserved c =
-    (
-      omega arith,
-      c.loop-i.invariant.1 ∙ greatest_miss _ c.loop-i.i c.loop-i-test.true (told c.words_are.ensures c.if-words_are.false),
-    )
+loop-i-preserved c = (
+  omega arith,
+  c.loop-i.invariant.1 ∙ greatest_miss _ c.loop-i.i c.loop-i-test.true (told c.words_are.ensures c.if-words_are.false),
+)
 
 pub returns : goal.returns
 returns c =

@@ -1,6 +1,5 @@
 use Rattle.dag.specs.Refusals.{first_refused}
 use Rattle.dag.specs.CheckLaws.{good_told, bad_told}
-use Prim.Native.Nat.{◌-◌}
 use native.Mathlib.Omega.{arith}
 use mathlib.Core.Path.{refl, ◌∙◌}
 use Rattle.dag.specs.Check as Check
@@ -17,9 +16,8 @@ returns-then-is_refused c =
     (bad_told c.check_at-checked.ensures c.is_refused.ensures c.if-is_refused.true) (omega arith)
 
 pub loop-i-preserved : goal.loop-i-preserved
-loop-i-preserved c =
-    (
-      omega arith,
-      first_next (Check.check_at _ _) _ c.loop-i.invariant.1 (good_told c.check_at-checked.ensures c.is_refused.ensures
-          c.if-is_refused.false),
-    )
+loop-i-preserved c = (
+  omega arith,
+  first_next (Check.check_at _ _) _ c.loop-i.invariant.1 (good_told c.check_at-checked.ensures c.is_refused.ensures
+      c.if-is_refused.false),
+)

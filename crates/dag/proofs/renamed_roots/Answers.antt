@@ -1,4 +1,3 @@
-use Prim.Native.Nat.{◌-◌}
 use mathlib.Core.Path.{refl, ◌∙◌, ap}
 use native.Mathlib.Omega.{arith}
 use native.Mathlib.Nat.{le_antisymm}
@@ -12,15 +11,14 @@ unfolding padded
 loop-j-init c = (omega arith, refl)
 
 pub loop-j-preserved : goal.loop-j-preserved
-loop-j-preserved c =
-    (
-      omega (arith, c.loop-j-test.true),
-      map_turn (λ i. get_or c.args.map.now i 0) c.loop-j.places c.args.roots.places c.loop-j.j _
-          (omega (arith, c.requires.few, c.loop-j-test.true))
-          (omega (arith, c.requires.long, c.requires.few, c.loop-j-test.true))
-          c.loop-j.invariant.1
-          (c.mapped.ensures ∙ ap (λ i. get_or c.args.map.now i 0) c.root_at.ensures),
-    )
+loop-j-preserved c = (
+  omega (arith, c.loop-j-test.true),
+  map_turn (λ i. get_or c.args.map.now i 0) c.loop-j.places c.args.roots.places c.loop-j.j _
+      (omega (arith, c.requires.few, c.loop-j-test.true))
+      (omega (arith, c.requires.long, c.requires.few, c.loop-j-test.true))
+      c.loop-j.invariant.1
+      (c.mapped.ensures ∙ ap (λ i. get_or c.args.map.now i 0) c.root_at.ensures),
+)
 
 pub returns : goal.returns
 returns c =
