@@ -3,6 +3,7 @@
 // A store is a filling word, the number of words given and those words, with the store's length before it where it is lent.
 // Past the stream's end every word is 0.
 #![tactic(auto)]
+
 ghost use Rattle.std.specs.Prelude.{◌≡◌, ◌&&◌, ◌+◌, ◌<◌, ◌≤◌, length, take};
 ghost use Rattle.recorded.specs.Stream as Stream;
 ghost use Rattle.recorded.specs.Promises.{IsPrefixLen};

@@ -1,5 +1,6 @@
 // The exported calls, each on the numbers and stores of a recorded case.
 #![tactic(auto)]
+
 ghost use Rattle.std.specs.Prelude.{[], ◌≡◌};
 ghost use Rattle.recorded.specs.Stream as Stream;
 ghost use Rattle.recorded_calls.specs.Calls.{shape, shape_of, stores};
