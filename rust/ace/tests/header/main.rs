@@ -139,7 +139,7 @@ fn the_header_declares_what_the_rust_calls() {
 
 #[test]
 fn the_header_declares_what_is_exported() {
-    let exported = functions(&text("crates/ace/src/lib.rt"), "pub extern \"C\" fn ace_");
+    let exported = functions(&text("crates/ace_c/src/lib.rt"), "pub extern \"C\" fn ace_");
     assert!(are_exported(&exported));
     assert_eq!(complaint("exported.c", &assertions(&exported, of_exported), &["-std=c99"]), "");
 }
