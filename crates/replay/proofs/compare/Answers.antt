@@ -1,4 +1,4 @@
-use Rattle.std.proofs.Common.{rules, ◌≡◌, arith, add-one, ap, ◌∙◌}
+use Rattle.std.proofs.Common.{rules, ◌≡◌, arith}
 use Rattle.replay.specs.Cases.{place_of, matched}
 use Rattle.replay.specs.CaseLaws.{place_next, matched_next}
 use Rattle.replay.proofs.compare.Goals as goal

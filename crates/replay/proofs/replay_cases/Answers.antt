@@ -1,10 +1,6 @@
 -- the line of how many match stands behind those of the cases that differ, of which there is none where all match
-use Rattle.std.proofs.Common.{rules, ◌≡◌, ◌≤◌, ℕ, List, [], ◌++◌, arith, sym, subst}
 use Rattle.std.proofs.lemmas.Result.{on_ok_weaker}
-use Rattle.std.specs.Io.KnownBytes.{Appends}
 use Rattle.std.proofs.KnownBytes.{Appends-trans}
-use Rattle.replay.specs.Cases.{matched}
-use Rattle.replay.specs.Report.{differing, matching, report_of}
 use Rattle.replay.specs.ReportLaws.{none_differ}
 use Rattle.replay.proofs.replay_cases.Goals as goal
 use Rattle.replay.proofs.replay_cases.Goals.{then-matched-cases+in_ok-tell, else-matched-cases}

@@ -1,8 +1,6 @@
 -- a case that differs has its line behind the others
-use Rattle.std.proofs.Common.{rules, ◌≡◌, ℕ, List, [], ◌++◌, Bool, true, false, cond, sym, ap, subst}
-use Rattle.std.proofs.lemmas.List.{append-nil}
-use Rattle.std.specs.Io.KnownBytes.{Appends}
-use Rattle.std.proofs.KnownBytes.{Appends-nil, Appends-trans}
+use Rattle.std.proofs.Common.{rules}
+use Rattle.std.proofs.KnownBytes.{Appends-nil}
 use Rattle.replay.specs.Cases.{place_of}
 use Rattle.replay.specs.Report.{differing}
 use Rattle.replay.specs.CaseLaws.{place_next}
