@@ -18,7 +18,7 @@ EDGE = r"[A-Za-z0-9_'\-◌₀-₉]"
 SEPARATORS = r"\s(){}\[\],;.=→λ×⊎|\"@⟨⟩⌜⌝«»"
 TOKEN = re.compile(f"[^{SEPARATORS}]+")
 DECLARED = re.compile(
-    rf"\s*(?:(?:pub|abbrev|unfoldable|private|mutual)\s+)*([^{SEPARATORS}:]+)(?:\s+\{{[^}}]*\}})?\s+:\s"
+    rf"\s*(?:(?:pub|abbrev|unfoldable|private|mutual)\s+)*([^{SEPARATORS}:]+)(?:\s+\{{[^}}]*\}})?\s+:(?:\s|$)"
 )
 # names of arguments and of what a let names, in camel case
 LOCAL = ["mapWords", "placeWords", "resultRoom", "workAgain", "workRoom", "workWords"]
@@ -109,6 +109,11 @@ def from_libraries(text, crates):
     return taken, spans
 
 
+def respell_comment(text, put):
+    """Names in camelCase; what has a dash may be plain words."""
+    return re.sub(r"(?<![\w'-])[a-z]+[A-Z]\w*", lambda m: put(m.group(0)), text)
+
+
 def respell_antt(text, put, crates):
     taken, spans = from_libraries(text, crates)
     pieces, at = [], 0
@@ -116,16 +121,16 @@ def respell_antt(text, put, crates):
         for i, line in enumerate(text[at:start].split("\n")):
             code, dashes, comment = line.partition("--") if re.search(r"(^|\s)--", line) else (line, "", "")
             kept = () if line.startswith("use ") else taken
-            pieces.append(("\n" if i else "") + put(code, kept) + dashes + comment)
+            pieces.append(("\n" if i else "") + put(code, kept) + dashes + respell_comment(comment, put))
         pieces.append(text[start:end])
         at = end
     return "".join(pieces)
 
 
 def respell_rt(text, put):
-    """Everything but comments, strings and byte strings."""
+    """Everything but comments, strings and byte strings, and of comments what is in camelCase."""
     parts = re.split(r'(//[^\n]*|b?"(?:\\.|[^"\\])*")', text)
-    return "".join(p if i % 2 else put(p) for i, p in enumerate(parts))
+    return "".join(put(p) if i % 2 == 0 else respell_comment(p, put) if p.startswith("//") else p for i, p in enumerate(parts))
 
 
 def respell_page(text, put, declared):
@@ -147,15 +152,15 @@ def main():
     declared = declared_names()
     names = new_names(declared)
     put_names = replacer(names)
-    contracts = re.compile(rf"(?<!{EDGE})Contracts(?!{EDGE})")
-    put = lambda text, of_library=(): contracts.sub("Promises", put_names(text, of_library))
+    contracts = re.compile(rf"(?<!{EDGE})(Periodic|Column|)Contracts(?!{EDGE})")
+    put = lambda text, of_library=(): contracts.sub(r"\1Promises", put_names(text, of_library))
     crates = set(os.listdir("crates"))
     for path in files(".antt"):
         write(path, respell_antt(read(path), put, crates))
     # a function of src/ may have the name of a lemma that gave way to a definition
     put_in_source = replacer({old: new for old, new in names.items() if not re.fullmatch(r"[a-z0-9_]+", old)})
     for path in files(".rt"):
-        write(path, respell_rt(read(path), lambda text: contracts.sub("Promises", put_in_source(text))))
+        write(path, respell_rt(read(path), lambda text: contracts.sub(r"\1Promises", put_in_source(text))))
     pages = ["README.md"] + [os.path.join("docs", n) for n in sorted(os.listdir("docs")) if n.endswith(".md")]
     for path in pages:
         write(path, respell_page(read(path), put, declared))

@@ -5,9 +5,9 @@ ghost use Rattle.std.specs.Prelude.{◌≡◌, ◌+◌, ◌-◌, ◌<◌, ◌≤
 ghost use Rattle.field.specs.Fields.{field_of};
 ghost use Rattle.field.specs.Field.{modulus_of, elements};
 ghost use Rattle.dag.specs.Arrays.{padded};
-ghost use Rattle.columns.specs.Promises as ColumnContracts;
+ghost use Rattle.columns.specs.Promises as ColumnPromises;
 ghost use Rattle.periodic.specs.Periodic as Periodic;
-ghost use Rattle.periodic.specs.Promises as PeriodicContracts;
+ghost use Rattle.periodic.specs.Promises as PeriodicPromises;
 ghost use Rattle.basis.specs.Promises as Promises;
 
 use builder::Entered;
@@ -15,8 +15,8 @@ use field::{Prime, felt};
 
 // point − w^k, from w^k.
 fn basis_factor(prime: Prime, list: &mut [u64], n: usize, point: usize, root: u64) -> Entered
-    requires { PeriodicContracts.Ready (field_of prime) list.old n × PeriodicContracts.Inside n point × (root < modulus_of prime) }
-    ensures { PeriodicContracts.Entering (field_of prime) list.old n (Promises.factor (field_of prime) point root) list.new result }
+    requires { PeriodicPromises.Ready (field_of prime) list.old n × PeriodicPromises.Inside n point × (root < modulus_of prime) }
+    ensures { PeriodicPromises.Entering (field_of prime) list.old n (Promises.factor (field_of prime) point root) list.new result }
 {
     let root = periodic::constant(prime, list, n, root);
     periodic::sub(prime, list, root.count, point, root.place)
@@ -32,8 +32,8 @@ fn basis_factors(
     col: &[u64],
     places: &mut [u64],
 ) -> usize
-    requires { PeriodicContracts.Ready (field_of prime) list.old n × PeriodicContracts.Inside n point × (length col.now ≤ length places.old) × Promises.Roots (field_of prime) col.now roots.now × (length col.now ≤ 128) }
-    ensures { PeriodicContracts.Listing (field_of prime) list.old n (Periodic.factors (field_of prime) col.now point) list.new result places.new (length col.now) }
+    requires { PeriodicPromises.Ready (field_of prime) list.old n × PeriodicPromises.Inside n point × (length col.now ≤ length places.old) × Promises.Roots (field_of prime) col.now roots.now × (length col.now ≤ 128) }
+    ensures { PeriodicPromises.Listing (field_of prime) list.old n (Periodic.factors (field_of prime) col.now point) list.new result places.new (length col.now) }
 {
     let mut count = n;
     let mut k = 0;
@@ -71,8 +71,8 @@ fn element(
     col: &[u64],
     j: usize,
 ) -> Entered
-    requires { PeriodicContracts.Ready (field_of prime) list.old n × Promises.Products (field_of prime) n col.now roots.now prefix.now suffix.now × (j < length col.now) }
-    ensures { PeriodicContracts.Entering (field_of prime) list.old n (Periodic.element (field_of prime) col.now prefix.now suffix.now j) list.new result }
+    requires { PeriodicPromises.Ready (field_of prime) list.old n × Promises.Products (field_of prime) n col.now roots.now prefix.now suffix.now × (j < length col.now) }
+    ensures { PeriodicPromises.Entering (field_of prime) list.old n (Periodic.element (field_of prime) col.now prefix.now suffix.now j) list.new result }
 {
     let product = periodic::mul(
         prime,
@@ -98,8 +98,8 @@ fn class_turn(
     j: usize,
     acc: usize,
 ) -> Entered
-    requires { PeriodicContracts.Ready (field_of prime) list.old n × Promises.Products (field_of prime) n col.now roots.now prefix.now suffix.now × (j < length col.now) × PeriodicContracts.Inside n acc }
-    ensures { PeriodicContracts.Entering (field_of prime) list.old n (Periodic.class_turn (field_of prime) col.now prefix.now suffix.now v j acc) list.new result }
+    requires { PeriodicPromises.Ready (field_of prime) list.old n × Promises.Products (field_of prime) n col.now roots.now prefix.now suffix.now × (j < length col.now) × PeriodicPromises.Inside n acc }
+    ensures { PeriodicPromises.Entering (field_of prime) list.old n (Periodic.class_turn (field_of prime) col.now prefix.now suffix.now v j acc) list.new result }
 {
     if col[j] != v {
         return Entered {
@@ -122,8 +122,8 @@ fn class_sum(
     col: &[u64],
     v: u64,
 ) -> Entered
-    requires { PeriodicContracts.Ready (field_of prime) list.old n × Promises.Products (field_of prime) n col.now roots.now prefix.now suffix.now }
-    ensures { PeriodicContracts.Entering (field_of prime) list.old n (Periodic.class_sum (field_of prime) col.now prefix.now suffix.now v) list.new result }
+    requires { PeriodicPromises.Ready (field_of prime) list.old n × Promises.Products (field_of prime) n col.now roots.now prefix.now suffix.now }
+    ensures { PeriodicPromises.Entering (field_of prime) list.old n (Periodic.class_sum (field_of prime) col.now prefix.now suffix.now v) list.new result }
 {
     let mut acc = periodic::constant(prime, list, n, 0);
     let mut j = 0;
@@ -150,8 +150,8 @@ fn term_turn(
     sum: usize,
     minus: bool,
 ) -> Entered
-    requires { PeriodicContracts.Ready (field_of prime) list.old n × Promises.Products (field_of prime) n col.now roots.now prefix.now suffix.now × PeriodicContracts.Inside n sum × Promises.Class (field_of prime) col.now d v }
-    ensures { PeriodicContracts.Entering (field_of prime) list.old n (Periodic.term_turn (field_of prime) col.now minus prefix.now suffix.now v sum) list.new result }
+    requires { PeriodicPromises.Ready (field_of prime) list.old n × Promises.Products (field_of prime) n col.now roots.now prefix.now suffix.now × PeriodicPromises.Inside n sum × Promises.Class (field_of prime) col.now d v }
+    ensures { PeriodicPromises.Entering (field_of prime) list.old n (Periodic.term_turn (field_of prime) col.now minus prefix.now suffix.now v sum) list.new result }
 {
     let same = Entered {
         place: sum,
@@ -187,8 +187,8 @@ fn all_terms(
     start: usize,
     minus: bool,
 ) -> Entered
-    requires { PeriodicContracts.Ready (field_of prime) list.old n × Promises.Products (field_of prime) n col.now roots.now prefix.now suffix.now × PeriodicContracts.Inside n start × Promises.Offset (field_of prime) col.now values.now d }
-    ensures { PeriodicContracts.Entering (field_of prime) list.old n (Periodic.all_terms (field_of prime) col.now minus prefix.now suffix.now start) list.new result }
+    requires { PeriodicPromises.Ready (field_of prime) list.old n × Promises.Products (field_of prime) n col.now roots.now prefix.now suffix.now × PeriodicPromises.Inside n start × Promises.Offset (field_of prime) col.now values.now d }
+    ensures { PeriodicPromises.Entering (field_of prime) list.old n (Periodic.all_terms (field_of prime) col.now minus prefix.now suffix.now start) list.new result }
 {
     let mut sum = Entered {
         place: start,
@@ -214,8 +214,8 @@ fn basis_sum(
     suffix: &[u64],
     col: &[u64],
 ) -> Entered
-    requires { PeriodicContracts.Ready (field_of prime) list.old n × Promises.Products (field_of prime) n col.now roots.now prefix.now suffix.now × ColumnContracts.Column (modulus_of prime) col.now }
-    ensures { PeriodicContracts.Entering (field_of prime) list.old n (Periodic.basis_sum (field_of prime) col.now prefix.now suffix.now) list.new result }
+    requires { PeriodicPromises.Ready (field_of prime) list.old n × Promises.Products (field_of prime) n col.now roots.now prefix.now suffix.now × ColumnPromises.Column (modulus_of prime) col.now }
+    ensures { PeriodicPromises.Entering (field_of prime) list.old n (Periodic.basis_sum (field_of prime) col.now prefix.now suffix.now) list.new result }
 {
     let mut store = [0u64; 128];
     let t = columns::values(col, &mut store);
@@ -250,8 +250,8 @@ fn basis_back(
     prefix: &[u64],
     col: &[u64],
 ) -> Entered
-    requires { PeriodicContracts.Ready (field_of prime) list.old n × Promises.Products (field_of prime) n col.now roots.now prefix.now factors.now × ColumnContracts.Column (modulus_of prime) col.now }
-    ensures { PeriodicContracts.Entering (field_of prime) list.old n (Periodic.basis_back (field_of prime) col.now factors.now prefix.now) list.new result }
+    requires { PeriodicPromises.Ready (field_of prime) list.old n × Promises.Products (field_of prime) n col.now roots.now prefix.now factors.now × ColumnPromises.Column (modulus_of prime) col.now }
+    ensures { PeriodicPromises.Entering (field_of prime) list.old n (Periodic.basis_back (field_of prime) col.now factors.now prefix.now) list.new result }
 {
     let period = col.len();
     let one = periodic::constant(prime, list, n, 1);
@@ -278,8 +278,8 @@ fn basis_front(
     roots: &[u64; 128],
     col: &[u64],
 ) -> Entered
-    requires { PeriodicContracts.Ready (field_of prime) list.old n × PeriodicContracts.Inside n point × ColumnContracts.Column (modulus_of prime) col.now × Promises.Roots (field_of prime) col.now roots.now }
-    ensures { PeriodicContracts.Entering (field_of prime) list.old n (Periodic.basis_front (field_of prime) col.now point) list.new result }
+    requires { PeriodicPromises.Ready (field_of prime) list.old n × PeriodicPromises.Inside n point × ColumnPromises.Column (modulus_of prime) col.now × Promises.Roots (field_of prime) col.now roots.now }
+    ensures { PeriodicPromises.Entering (field_of prime) list.old n (Periodic.basis_front (field_of prime) col.now point) list.new result }
 {
     let period = col.len();
     let mut store = [0u64; 128];
@@ -301,8 +301,8 @@ fn basis_front(
 
 // The value of a column in basis whose point is ZK squared k times.
 pub fn basis_value(prime: Prime, list: &mut [u64], n: usize, col: &[u64], k: usize) -> Entered
-    requires { PeriodicContracts.Ready (field_of prime) list.old n × ColumnContracts.Column (modulus_of prime) col.now }
-    ensures { PeriodicContracts.Entering (field_of prime) list.old n (Periodic.basis_value (field_of prime) col.now k) list.new result }
+    requires { PeriodicPromises.Ready (field_of prime) list.old n × ColumnPromises.Column (modulus_of prime) col.now }
+    ensures { PeriodicPromises.Entering (field_of prime) list.old n (Periodic.basis_value (field_of prime) col.now k) list.new result }
 {
     let z = periodic::z_power(prime, list, n, k);
     let roots = coefficients::roots(prime, col);

@@ -6,7 +6,7 @@ ghost use Rattle.field.specs.Fields.{field_of};
 ghost use Rattle.field.specs.Field.{felt, modulus_of};
 ghost use Rattle.ring.specs.Power.{pow};
 ghost use Rattle.columns.specs.Columns as Columns;
-ghost use Rattle.columns.specs.Promises as ColumnContracts;
+ghost use Rattle.columns.specs.Promises as ColumnPromises;
 ghost use Rattle.coefficients.specs.Terms as Terms;
 ghost use Rattle.coefficients.specs.Arrays as Arrays;
 ghost use Rattle.coefficients.specs.Split as Split;
@@ -117,7 +117,7 @@ fn halved(prime: Prime, from: &[u64; 128], factors: &[u64; 128], s: usize, n: us
 
 // The sum of the entries at the powers of w^(−j), for each row j.
 fn sums(prime: Prime, col: &[u64]) -> [u64; 128]
-    requires { ColumnContracts.Column (modulus_of prime) col.now }
+    requires { ColumnPromises.Column (modulus_of prime) col.now }
     ensures { Split.Reached (field_of prime) col.now 1 (length col.now) result }
 {
     let factors = powers(prime, root_inverse(prime, col), col.len());
@@ -134,7 +134,7 @@ fn sums(prime: Prime, col: &[u64]) -> [u64; 128]
 
 // The dense coefficients, 0 past the last.
 pub fn dense(prime: Prime, col: &[u64]) -> [u64; 128]
-    requires { ColumnContracts.Column (modulus_of prime) col.now }
+    requires { ColumnPromises.Column (modulus_of prime) col.now }
     ensures { result ≡ Arrays.coefficients (field_of prime) col.now }
 {
     let scale = size_inverse(prime, col);
@@ -192,7 +192,7 @@ fn squares(prime: Prime, base: u64, log: usize) -> [u64; 7]
 
 // The twiddles of a sparse column's terms, at these places.
 pub fn sparse_twiddles(prime: Prime, col: &[u64], places: &[u64]) -> [[u64; 7]; 11]
-    requires { ColumnContracts.Column (modulus_of prime) col.now × Arrays.Places col.now places.now }
+    requires { ColumnPromises.Column (modulus_of prime) col.now × Arrays.Places col.now places.now }
     ensures { result ≡ Arrays.sparse_twiddles (field_of prime) col.now }
 {
     let step = root_inverse(prime, col);
@@ -208,7 +208,7 @@ pub fn sparse_twiddles(prime: Prime, col: &[u64], places: &[u64]) -> [[u64; 7]; 
 
 // The scaled values of a sparse column's terms, at these places.
 pub fn sparse_values(prime: Prime, col: &[u64], places: &[u64]) -> [u64; 11]
-    requires { ColumnContracts.Column (modulus_of prime) col.now × Arrays.Places col.now places.now }
+    requires { ColumnPromises.Column (modulus_of prime) col.now × Arrays.Places col.now places.now }
     ensures { result ≡ Arrays.sparse_values (field_of prime) col.now }
 {
     let scale = size_inverse(prime, col);

@@ -115,8 +115,8 @@ module _ (l : List NodeKind) (roots : List ℕ) where
     compact_all r =
         let a : (i : ℕ) → i < length l → Marked (marks l roots) i = λ i h. reach_marks l roots Low w inside i (r i h) in
         let Kept-same = kept_all Low l w (marks l roots) a in
-        let roots-same = map_same (rank (marks l roots)) roots (λ i p. rank_all (marks l roots) i (λ j k. a j (let h = inside i p in omega arith))) in
-        λ i. record { list = Kept-same i; roots = roots-same i }
+        let roots_same = map_same (rank (marks l roots)) roots (λ i p. rank_all (marks l roots) i (λ j k. a j (let h = inside i p in omega arith))) in
+        λ i. record { list = Kept-same i; roots = roots_same i }
 
     -- what is reached is reached at its new place
     reach_renamed : (i : ℕ) → Reach l roots i → Reach (compact l roots).list (compact l roots).roots (rank (marks l roots) i)

@@ -268,6 +268,7 @@ pub fn room_check(needed: usize, room: usize) -> Checked
 }
 
 // The tests of a list of at least `least` records without a root: 1, 2, then the records.
+#[tactic(auto, unfolding(crate::specs::Check::rootless_check))]
 pub fn rootless_check(prime: Prime, list: &[u64], n: usize, least: usize) -> Checked
     ensures { result ≡ Check.rootless_check (field_of prime).bounds least (interleaved list.now) n }
 {
@@ -467,6 +468,7 @@ pub fn renamed_roots(map: &[u64], roots: Roots) -> Roots
 }
 
 // Whether the record at place i has the words t, a, b.
+#[tactic(auto, unfolding(crate::specs::Store::words_are))]
 pub fn words_are(list: &[u64], i: usize, t: u64, a: u64, b: u64) -> bool
     requires { i < (interleaved list.now).room }
     ensures { result ≡ Store.words_are (interleaved list.now) i t a b }

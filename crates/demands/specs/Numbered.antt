@@ -92,11 +92,11 @@ module _ (number : ℕ) (prime : Prime) (known : numbered number ≡ Known prime
     unfolding Calls.build_answer Calls.build_result Calls.build_map
     build_known map = (by_known number _ _ known, by_known number _ _ known, by_known number _ _ known)
 
-    pub compact-known :
+    pub compact_known :
         (Calls.compact_answer number list n root result ≡ compact_words (Compaction.compact_answer (field_of prime) (interleaved list) n root (interleaved result).room))
         × (Calls.compact_result number list n root result ≡ Compaction.compact_result (field_of prime) (interleaved list) n root result)
     unfolding Calls.compact_answer Calls.compact_result
-    compact-known = (by_known number _ _ known, by_known number _ _ known)
+    compact_known = (by_known number _ _ known, by_known number _ _ known)
 
     pub normalize_known : (work : List ℕ)
         → (Calls.normalize_answer number list n root result work
@@ -116,7 +116,7 @@ module _ (number : ℕ) (prime : Prime) (known : numbered number ≡ Known prime
   prepare_known lengths entries = by_known number _ _ known
 
   module _ (list : List ℕ) (n : ℕ) (lengths entries : List ℕ) (period : ℕ) (result work places : List ℕ) where
-    pub lower-known :
+    pub lower_known :
         (Calls.lower_answer number list n lengths entries period result work places
         ≡ lower_words (Lowering.lower_answer (field_of prime) (interleaved list) n lengths entries period result work places))
         × (Calls.lower_result number list n lengths entries period result work places
@@ -126,7 +126,7 @@ module _ (number : ℕ) (prime : Prime) (known : numbered number ≡ Known prime
         × (Calls.lower_places number list n lengths entries period result work places
         ≡ Lowering.lower_places (field_of prime) (interleaved list) n lengths entries period result work places)
     unfolding Calls.lower_answer Calls.lower_result Calls.lower_work Calls.lower_places
-    lower-known = (by_known number _ _ known, by_known number _ _ known, by_known number _ _ known, by_known number _ _ known)
+    lower_known = (by_known number _ _ known, by_known number _ _ known, by_known number _ _ known, by_known number _ _ known)
 
 -- the number names a field, and there the tests pass
 abbrev pub Accepted : ℕ → (Prime → Checked) → Type 0

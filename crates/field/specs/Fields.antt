@@ -25,7 +25,7 @@ pub record Field : Type 1 where
   -- generator k has order 2^k, and one half
   pub generator : ℕ → ℕ
   pub half : ℕ
-  -- the longest shared period is 2^mostLog
+  -- the longest shared period is 2^most_log
   pub most_log : ℕ
   -- what holds of them
   pub coordinates_ring : Laws coordinates

@@ -30,7 +30,7 @@ generators BabyBear =
 unfoldable pub generator : Prime → ℕ → ℕ
 generator prime k = slice_index (generators prime) k
 
--- the last entry's place: its order is 2^mostLog
+-- the last entry's place: its order is 2^most_log
 abbrev pub most_log : Prime → ℕ
 most_log Goldilocks = 32
 most_log BabyBear = 27
@@ -83,7 +83,7 @@ module _ (prime : Prime) where
   halved : (k n : ℕ) → k < most_log prime → pow (felt prime) (generator prime (suc k)) (n + n) ≡ pow (felt prime) (generator prime k) n
   halved k n h = sym (square_pow (felt_laws prime) (generator prime (suc k)) n) ∙ ap (λ (x : ℕ). pow (felt prime) x n) (sym (square k h))
 
-  -- Entry k is the power 2^(mostLog − k) of the last.
+  -- Entry k is the power 2^(most_log − k) of the last.
   pub generator_power : (k : ℕ) → k ≤ most_log prime → generator prime k ≡ pow (felt prime) (generator prime (most_log prime)) (2 ^ (most_log prime - k))
   generator_power k h = go (most_log prime - k) k (omega arith)
     where
@@ -98,11 +98,11 @@ module _ (prime : Prime) where
           ∙ ap (pow (felt prime) (generator prime (most_log prime))) (sym (two-pow-succ d))
 
 -- Entries 0, 1, 8 and 32 of the public table modulo p.
-pub generator-ends :
+pub generator_ends :
     (generator Goldilocks 0 ≡ 1) × (generator Goldilocks 1 ≡ p - 1) × (generator Goldilocks 8 ≡ 0xbf79143ce60ca966)
     × (generator Goldilocks 32 ≡ 1753635133440165772)
 unfolding generator generators
-generator-ends = (refl, refl, refl, refl)
+generator_ends = (refl, refl, refl, refl)
 
 -- the first two entries are 1 and −1
 first_is : (prime : Prime) → (generator prime 0 ≡ 1) × (generator prime 1 ≡ modulus_of prime - 1)

@@ -235,7 +235,7 @@ pub fn is_minus_one(prime: Prime, a: u64) -> bool
     a == modulus(prime) - 1
 }
 
-// The product of `result` with `square` where the exponent is odd; `result` where it is even.
+// The product of `res` with `square` where the exponent is odd; `res` where it is even.
 fn times_odd(prime: Prime, res: u64, square: u64, exponent: u64) -> u64
     requires { (res < modulus_of prime) × (square < modulus_of prime) }
     ensures { (result ≡ (felt prime).mul res (pow (felt prime) square (exponent % 2))) × (result < modulus_of prime) }

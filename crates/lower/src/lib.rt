@@ -8,9 +8,9 @@ ghost use Rattle.dag.specs.View.{interleaved};
 ghost use Rattle.dag.specs.Nodes.{most_records, blank, filled};
 ghost use Rattle.dag.specs.Store.{Records};
 ghost use Rattle.columns.specs.Prepare as Prepare;
-ghost use Rattle.columns.specs.Promises as ColumnContracts;
+ghost use Rattle.columns.specs.Promises as ColumnPromises;
 ghost use Rattle.periodic.specs.Periodic as Periodic;
-ghost use Rattle.periodic.specs.Promises as PeriodicContracts;
+ghost use Rattle.periodic.specs.Promises as PeriodicPromises;
 ghost use Rattle.lower.specs.Lower as Lower;
 ghost use Rattle.lower.specs.Promises as Promises;
 
@@ -35,8 +35,8 @@ fn column_value(
     form: Form,
     k: usize,
 ) -> Entered
-    requires { PeriodicContracts.Ready (field_of prime) list.old n × ColumnContracts.Column (modulus_of prime) col.now × Promises.Formed col.now form }
-    ensures { PeriodicContracts.Entering (field_of prime) list.old n (Periodic.column_value (field_of prime) col.now form k) list.new result }
+    requires { PeriodicPromises.Ready (field_of prime) list.old n × ColumnPromises.Column (modulus_of prime) col.now × Promises.Formed col.now form }
+    ensures { PeriodicPromises.Entering (field_of prime) list.old n (Periodic.column_value (field_of prime) col.now form k) list.new result }
 {
     match form {
         Form::Sparse => periodic::sparse_value(prime, list, n, col, k),
@@ -57,8 +57,8 @@ fn column_node(
     log: usize,
     j: usize,
 ) -> Entered
-    requires { PeriodicContracts.Ready (field_of prime) list.old n × ColumnContracts.Weighed (modulus_of prime) lengths.now entries.now gains.now each.now × Promises.Covered (field_of prime) lengths.now entries.now log × (j < length lengths.now) }
-    ensures { PeriodicContracts.Entering (field_of prime) list.old n (Periodic.column_node (field_of prime) (Prepare.columns lengths.now entries.now) log j) list.new result }
+    requires { PeriodicPromises.Ready (field_of prime) list.old n × ColumnPromises.Weighed (modulus_of prime) lengths.now entries.now gains.now each.now × Promises.Covered (field_of prime) lengths.now entries.now log × (j < length lengths.now) }
+    ensures { PeriodicPromises.Entering (field_of prime) list.old n (Periodic.column_node (field_of prime) (Prepare.columns lengths.now entries.now) log j) list.new result }
 {
     let col = columns::column(lengths, entries, j);
     let form = columns::column_form(lengths, entries, gains, each, j);
@@ -75,8 +75,8 @@ fn build_periodic_nodes(
     log: usize,
     places: &mut [u64],
 ) -> usize
-    requires { PeriodicContracts.Ready (field_of prime) list.old n × Promises.Covered (field_of prime) lengths.now entries.now log × (length lengths.now ≤ length places.old) }
-    ensures { PeriodicContracts.Listing (field_of prime) list.old n (Periodic.build_periodic_nodes (field_of prime) (Prepare.columns lengths.now entries.now) log) list.new result places.new (length lengths.now) }
+    requires { PeriodicPromises.Ready (field_of prime) list.old n × Promises.Covered (field_of prime) lengths.now entries.now log × (length lengths.now ≤ length places.old) }
+    ensures { PeriodicPromises.Listing (field_of prime) list.old n (Periodic.build_periodic_nodes (field_of prime) (Prepare.columns lengths.now entries.now) log) list.new result places.new (length lengths.now) }
 {
     let gains = columns::gains(prime, lengths, entries);
     let each = columns::savings_each(lengths, entries, &gains);
@@ -177,7 +177,7 @@ fn fill_from(from: &[u64], m: usize, to: &mut [u64])
 
 // Writes the first n records of a list and their index to a store.
 fn store_list(list: &[u64], n: usize, store: &mut [u64])
-    requires { Records (interleaved list.now) n × (n ≤ most_records) × (length store.old ≡ PeriodicContracts.store_words) }
+    requires { Records (interleaved list.now) n × (n ≤ most_records) × (length store.old ≡ PeriodicPromises.store_words) }
     ensures { Promises.Stored (interleaved list.now) n store.new }
 {
     dag::copy_records(list, n, store);
@@ -218,7 +218,7 @@ fn lower_with(
     store: &mut [u64],
     places: &mut [u64],
 ) -> LowerAnswer
-    requires { Promises.Passed (field_of prime) (interleaved list.now) n lengths.now entries.now period (length places.old) × (length store.old ≡ PeriodicContracts.store_words) }
+    requires { Promises.Passed (field_of prime) (interleaved list.now) n lengths.now entries.now period (length places.old) × (length store.old ≡ PeriodicPromises.store_words) }
     ensures { Promises.Finished (field_of prime) (interleaved list.now) n lengths.now entries.now period res.old places.old result res.new places.new }
 {
     store_list(list, n, store);

@@ -11,7 +11,7 @@ ghost use Rattle.dag.specs.WellFormed.{Fine};
 ghost use Rattle.index.specs.Index.{NodeIndex};
 ghost use Rattle.builder.specs.Promises.{Request, resolved};
 ghost use Rattle.columns.specs.Prepare.{all_below};
-ghost use Rattle.columns.specs.Promises as ColumnContracts;
+ghost use Rattle.columns.specs.Promises as ColumnPromises;
 ghost use Rattle.periodic.specs.Builder as Builder;
 ghost use Rattle.periodic.specs.Periodic as Periodic;
 ghost use Rattle.periodic.specs.Promises as Promises;
@@ -287,7 +287,7 @@ fn sparse_sum(
 
 // The value of a sparse column whose point is ZK squared k times.
 pub fn sparse_value(prime: Prime, list: &mut [u64], n: usize, col: &[u64], k: usize) -> Entered
-    requires { Promises.Ready (field_of prime) list.old n × ColumnContracts.Column (modulus_of prime) col.now × Promises.Few col.now }
+    requires { Promises.Ready (field_of prime) list.old n × ColumnPromises.Column (modulus_of prime) col.now × Promises.Few col.now }
     ensures { Promises.Entering (field_of prime) list.old n (Periodic.sparse_value (field_of prime) col.now k) list.new result }
 {
     let z = z_power(prime, list, n, k);
@@ -313,7 +313,7 @@ pub fn sparse_value(prime: Prime, list: &mut [u64], n: usize, col: &[u64], k: us
 
 // The value of a dense column whose point is ZK squared k times.
 pub fn dense_value(prime: Prime, list: &mut [u64], n: usize, col: &[u64], k: usize) -> Entered
-    requires { Promises.Ready (field_of prime) list.old n × ColumnContracts.Column (modulus_of prime) col.now }
+    requires { Promises.Ready (field_of prime) list.old n × ColumnPromises.Column (modulus_of prime) col.now }
     ensures { Promises.Entering (field_of prime) list.old n (Periodic.dense_value (field_of prime) col.now k) list.new result }
 {
     let z = z_power(prime, list, n, k);

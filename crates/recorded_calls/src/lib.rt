@@ -1,4 +1,4 @@
-// The exported calls, each on the numbers and stores of a recorded case.
+// The calls that are exported, each on the numbers and stores of a recorded case.
 #![tactic(auto)]
 
 ghost use Rattle.std.specs.Prelude.{[], ◌≡◌};

@@ -5,7 +5,7 @@ ghost use Rattle.std.specs.Prelude.{◌≡◌, ◌<◌, ◌≤◌, IfOk, IfSome,
 ghost use Rattle.std.specs.Io.KnownBytes.{Consumes, IsAtEnd};
 
 use std::io;
-use std::io::{ErrorKind, Read};
+use std::io::Read;
 
 // Reads into a buffer until it is full or the input ends. Answers how many bytes at its front were read.
 pub fn read_full<R: Read>(reader: &mut R, buffer: &mut [u8]) -> io::Result<usize>
@@ -24,21 +24,12 @@ pub fn read_full<R: Read>(reader: &mut R, buffer: &mut [u8]) -> io::Result<usize
     Ok(done)
 }
 
-// One read, tried again where a signal interrupts it. Only at the end of the input does it read nothing into a buffer with room.
+// One read. Only at the end of the input does it read nothing into a buffer with room.
 fn read_some<R: Read>(reader: &mut R, buffer: &mut [u8]) -> io::Result<usize>
     ensures within { IfOk result (λ n. n ≤ length buffer.new) }
     ensures bytes { IfOk result (λ n. Consumes (R.remaining reader.old) (R.remaining reader.new) (take n buffer.new)) }
     ensures end { IfOk result (λ n. n ≡ 0 → 0 < length buffer.new → IsAtEnd (R.remaining reader.new)) }
 {
-    for _ in 0..u64::MAX {
-        match reader.read(buffer) {
-            Ok(n) => return Ok(n),
-            Err(e) => {
-                if e.kind() != ErrorKind::Interrupted {
-                    return Err(e);
-                }
-            }
-        }
-    }
-    Err(io::Error::from(ErrorKind::Interrupted))
+    let n = reader.read(buffer)?;
+    Ok(n)
 }

@@ -5,14 +5,6 @@ use Rattle.dag.specs.CheckLaws.{refused_then, good_told, bad_told}
 use Rattle.dag.specs.PassLaws.{room_enough}
 use Rattle.dag.proofs.rootless_check.Goals as goal
 
-pub returns-then-n-least : goal.returns-then-n-least
-unfolding Check.rootless_check
-returns-then-n-least c = simp (lt-leb _ _ c.if-n-least.true)
-
-pub returns-then-n-gt-MOST_RECORDS : goal.returns-then-n-gt-MOST_RECORDS
-unfolding Check.rootless_check
-returns-then-n-gt-MOST_RECORDS c = simp (le-leb _ _ c.if-n-least.false, lt-leb _ _ c.if-n-gt-MOST_RECORDS.true)
-
 pub returns-then-is_refused : goal.returns-then-is_refused
 unfolding Check.rootless_check
 returns-then-is_refused c =
