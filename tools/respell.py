@@ -20,8 +20,8 @@ TOKEN = re.compile(f"[^{SEPARATORS}]+")
 DECLARED = re.compile(
     rf"\s*(?:(?:pub|abbrev|unfoldable|private|mutual)\s+)*([^{SEPARATORS}:]+)(?:\s+\{{[^}}]*\}})?\s+:(?:\s|$)"
 )
-# names of arguments and of what a let names, in camel case
-LOCAL = ["mapWords", "placeWords", "resultRoom", "workAgain", "workRoom", "workWords"]
+# names of arguments and of what a let names
+LOCAL = ["roots-same", "mapWords", "placeWords", "resultRoom", "workAgain", "workRoom", "workWords"]
 # files that a function's proof is in: what they declare are goals, and no words
 OF_A_PROOF = ("Proof.antt", "Answers.antt", "Invariants.antt")
 
