@@ -75,7 +75,7 @@ built() {
   local verb=$1 crate=$2 log
   command -v rt > /dev/null ||
     fail "$crate is not built or older than its sources, and rt, the Rattle kit that builds it, is not on the PATH"
-  echo "proving and building $crate, some minutes the first time; a line for each crate:" >&2
+  echo "proving and building $crate, about five minutes the first time; a line for each crate:" >&2
   log=$(mktemp)
   # What a program writes, which runs on no input, is of no use here.
   if ! (cd "$root/crates/$crate" && rt "$verb" < /dev/null 2>&1 | tee "$log" |
