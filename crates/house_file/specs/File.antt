@@ -3,12 +3,11 @@ use Rattle.std.specs.Prelude.{ℕ, zero, suc, ◌+◌, ◌*◌, Bool, ◌&&◌, 
 use Rattle.field.specs.Fields.{goldilocks}
 use Rattle.dag.specs.View.{View, interleaved}
 use Rattle.dag.specs.Nodes.{nodes}
-use Rattle.dag.specs.Refusals.{need, ◌then◌, unless_refused}
+use Rattle.dag.specs.Refusals.{need, ◌then◌, unless_refused, Checked}
 use Rattle.dag.specs.Check.{room_check, list_check}
 use Rattle.dag.specs.Store.{stored}
 use Rattle.dag.specs.declared.NodeKind.{NodeKind}
 use Rattle.dag.specs.declared.Refusal.TheVariants.{FileTooShort, FileVersion, FileCount, FileLength}
-use Rattle.dag.specs.declared.Checked.{Checked}
 use Rattle.house_file.specs.declared.Words.{Words}
 use Rattle.house_file.specs.declared.FileAnswer.{FileAnswer}
 use Rattle.house_file.specs.declared.FileAnswer.TheVariants as FileAnswer'

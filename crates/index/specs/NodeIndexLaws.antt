@@ -1,23 +1,21 @@
 -- The index of a list's records.
 use Rattle.field.specs.Fields.{Bounds}
-use Rattle.std.specs.Prelude.{ℕ, zero, suc, ◌+◌, ◌*◌, ◌-◌, ◌/◌, ◌^◌, ◌<◌, ◌≤◌, Bool, true, false, ◌&&◌, List, [], ◌∷◌, ◌++◌, ◌⊎◌, ◌≡◌, get_or, length, take, replicate}
+use Rattle.std.specs.Prelude.{ℕ, zero, suc, ◌+◌, ◌*◌, ◌-◌, ◌/◌, ◌^◌, ◌<◌, ◌≤◌, Bool, true, false, ◌&&◌, List, [], ◌∷◌, ◌++◌, ◌⊎◌, ◌≡◌, get_or, length, replicate, Some, None, Option}
 use Rattle.std.proofs.Common.{inl, inr, sym, ◌∙◌, ap₂, mul-lt-mul_of_pos_right, mul-le-mul, add-one, arith}
 use Rattle.std.proofs.Math.Path.{ap}
-use Rattle.std.proofs.Math.Nat.{sub-zero}
 use borrow.Author.Tests.{eqb-true}
 use Rattle.std.proofs.Math.Dec.{eqb}
 use Rattle.std.proofs.lemmas.List.{length-replicate}
 use Rattle.dag.specs.View.{View}
 use Rattle.dag.specs.BlankLaws.{all_zero}
 use Rattle.dag.specs.CaseLaws.{and_true, below_suc}
-use Rattle.dag.specs.Nodes.{tag, first, second, at, nodes, record_at}
+use Rattle.dag.specs.Nodes.{tag, first, second, three, at, nodes, record_at}
 use Rattle.dag.specs.NodeLaws.{at_left, at_last, at_nodes, length_nodes, length_snoc}
 use Rattle.dag.specs.Lookup.{greatest, lookup}
 use Rattle.dag.specs.Store.{Sound, words_are}
 use Rattle.dag.specs.StoreLaws.{lookup_whole, tag_word_lem, first_word_lem, second_word_lem, sound_less}
 use Rattle.dag.specs.declared.NodeKind.{NodeKind}
-use Rattle.dag.specs.declared.Found.{Found}
-use Rattle.dag.specs.declared.Found.TheVariants.{At, Missing}
+use Rattle.dag.specs.declared.Words.{Words}
 use Rattle.index.specs.Index.{half, Indexed, noted, hash, bucket_of, node_bucket, word_bucket, Usable, NodeIndex}
 use Rattle.index.specs.IndexLaws.{indexed_agree, indexed_none, indexed_noted, length_noted}
 use Rattle.index.specs.WalkLaws.{Walking, walk_begin, walk_on, walk_down, walk_hit, walk_none}
@@ -44,9 +42,8 @@ pub node_inside : (b t u v : ℕ) → 0 < b → bucket_of b (hash t u v) < b
 node_inside b t u v h = bucket_below b (hash t u v) h (hash_below t u v)
 
 -- an empty index
-pub index_none : (links : List ℕ) → Usable links → (after : List ℕ) → after ≡ take 0 links ++ replicate (length links - 0) 0 → NodeIndex [] after
-index_none links u after whole =
-    let e : after ≡ replicate (length links) zero = rw (sub-zero (length links)) at whole in
+pub index_none : (links : List ℕ) → Usable links → (after : List ℕ) → after ≡ replicate (length links) 0 → NodeIndex [] after
+index_none links u after e =
     let k : length after ≡ length links = ap length e ∙ length-replicate (length links) zero in
     record {
       usable = record { some = rw k u.some; few = rw k u.few };
@@ -90,16 +87,16 @@ sound_first m s (suc n) k h d = go (below_suc k (suc n) (omega arith)) (λ j. so
     go (inl j) before = before (omega arith)
     go (inr e) before = rw e d
 
--- the walk of a lookup over the words t, a, b of a record
-module _ (s : View) (n : ℕ) (links : List ℕ) (t a b : ℕ) where
+-- the walk of a lookup over the words v of a record
+module _ (s : View) (n : ℕ) (links : List ℕ) (v : Words) where
   here : ℕ → Bool
-  here i = words_are s i t a b
+  here i = words_are s i v
 
   bucket : ℕ → ℕ
   bucket i = node_bucket (half links) (at (nodes s n) i)
 
   start : ℕ
-  start = bucket_of (half links) (hash t a b)
+  start = bucket_of (half links) (hash v.tag v.first v.second)
 
   -- the walk stands at this link
   pub record Standing (link : ℕ) : Type 0 where
@@ -112,47 +109,47 @@ module _ (s : View) (n : ℕ) (links : List ℕ) (t a b : ℕ) where
     only : (i : ℕ) → i < n → here i ≡ true → bucket i ≡ start
     unfolding here bucket start words_are
     only i h e =
-        let p = and_true (eqb (s.tag_word i) t && eqb (s.first_word i) a) (eqb (s.second_word i) b) e in
-        let q = and_true (eqb (s.tag_word i) t) (eqb (s.first_word i) a) p.0 in
+        let p = and_true (eqb (s.tag_word i) v.tag) (eqb (s.first_word i) v.first && eqb (s.second_word i) v.second) e in
+        let q = and_true (eqb (s.first_word i) v.first) (eqb (s.second_word i) v.second) p.1 in
         ap (node_bucket (half links)) (at_nodes s n i h)
-        ∙ same_bucket (half links) (tag_word_lem m s n sound i h ∙ eqb-true (s.tag_word i) t q.0) (first_word_lem m s n sound i h ∙ eqb-true (s.first_word i) a q.1)
-        (second_word_lem m s n sound i h ∙ eqb-true (s.second_word i) b p.1)
+        ∙ same_bucket (half links) (tag_word_lem m s n sound i h ∙ eqb-true (s.tag_word i) v.tag p.0) (first_word_lem m s n sound i h ∙ eqb-true (s.first_word i) v.first q.0)
+        (second_word_lem m s n sound i h ∙ eqb-true (s.second_word i) v.second q.1)
 
     inside : start < half links
     unfolding start
-    inside = node_inside (half links) t a b d.usable.some
+    inside = node_inside (half links) v.tag v.first v.second d.usable.some
 
     indexed : Indexed (half links) bucket n links
     unfolding bucket
     indexed = rw (length_nodes s n) at d.indexed
 
-    pub find_begin : (k h : ℕ) → k ≡ bucket_of (half links) h → h ≡ hash t a b → Standing (get_or links k 0)
+    pub find_begin : (k h : ℕ) → k ≡ bucket_of (half links) h → h ≡ hash v.tag v.first v.second → Standing (get_or links k 0)
     unfolding start
     find_begin k h ek eh = rw (ek, eh) (record { walking = walk_begin here bucket start n only (half links) links indexed inside })
 
-    pub find_on : (link : ℕ) → Standing link → 0 < link → words_are s (link - 1) t a b ≡ false → Standing (get_or links (half links + (link - 1)) 0)
+    pub find_on : (link : ℕ) → Standing link → 0 < link → words_are s (link - 1) v ≡ false → Standing (get_or links (half links + (link - 1)) 0)
     unfolding here
     find_on link w g miss = record { walking = walk_on here bucket start n only (half links) links indexed inside link w.walking g miss }
 
     pub find_down : (link : ℕ) → Standing link → 0 < link → get_or links (half links + (link - 1)) 0 < link
     find_down link w g = walk_down here bucket start n only (half links) links indexed inside link w.walking g
 
-    module _ (x : NodeKind) (et : t ≡ tag x) (ea : a ≡ first x) (eb : b ≡ second x) where
+    module _ (x : NodeKind) (ev : v ≡ three x) where
       whole : greatest here n ≡ lookup (nodes s n) x n
       unfolding here
-      whole = lookup_whole m s n x t a b sound et ea eb
+      whole = lookup_whole m s n x v sound ev
 
-      pub find_hit : (link : ℕ) → Standing link → 0 < link → words_are s (link - 1) t a b ≡ true → At (link - 1) ≡ lookup (nodes s n) x n
+      pub find_hit : (link : ℕ) → Standing link → 0 < link → words_are s (link - 1) v ≡ true → Some (link - 1) ≡ lookup (nodes s n) x n
       unfolding here
       find_hit link w g hit = walk_hit here bucket start n only link w.walking g hit ∙ whole
 
-      pub find_none : (link : ℕ) → Standing link → link ≤ 0 → Missing ≡ lookup (nodes s n) x n
+      pub find_none : (link : ℕ) → Standing link → link ≤ 0 → None ≡ lookup (nodes s n) x n
       find_none link w g = walk_none here bucket start n only link w.walking g ∙ whole
 
       -- the plain search from here on
-      pub find_plain : (link : ℕ) → Standing link → {r : Found} → r ≡ lookup (nodes s link) x link → r ≡ lookup (nodes s n) x n
+      pub find_plain : (link : ℕ) → Standing link → {r : (Option ℕ)} → r ≡ lookup (nodes s link) x link → r ≡ lookup (nodes s n) x n
       unfolding here
       find_plain link w e =
           e
-          ∙ (sym (lookup_whole m s link x t a b (sound_first m s n link w.walking.below sound) et ea eb)
+          ∙ (sym (lookup_whole m s link x v (sound_first m s n link w.walking.below sound) ev)
           ∙ (sym w.walking.same ∙ whole))
