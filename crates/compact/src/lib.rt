@@ -12,7 +12,7 @@ ghost use Rattle.dag.specs.Store.{written};
 ghost use Rattle.compact.specs.Promises.{most_marks, Unmarked, Markable, Numbered, Writing, AllBelow};
 ghost use Rattle.compact.specs.Calls as Calls;
 
-use dag::{Checked, FEW_RECORDS, MOST_RECORDS, NodeKind, Roots};
+use dag::{FEW_RECORDS, MOST_RECORDS, NodeKind, Refusal, Roots};
 use field::Prime;
 
 // The most marks: one for each record of a round's list.
@@ -21,14 +21,6 @@ pub const MOST_MARKS: usize = 8192;
 // How many records are kept, and the roots' new places.
 #[derive(Clone, Copy)]
 pub struct Kept {
-    pub count: usize,
-    pub roots: Roots,
-}
-
-// Compact's answer: no records and no roots where it is refused.
-#[derive(Clone, Copy)]
-pub struct CompactAnswer {
-    pub checked: Checked,
     pub count: usize,
     pub roots: Roots,
 }
@@ -54,7 +46,7 @@ fn mark_roots(reachable: &mut [bool], roots: Roots)
     ensures { reachable.new ≡ Reach.marked reachable.old (roots_of roots) }
 {
     for j in 0..roots.count {
-        reachable[dag::root_at(roots, j)] = true;
+        reachable[roots.at(j)] = true;
     }
 }
 
@@ -92,11 +84,8 @@ fn write_marked(list: &[u64], n: usize, reachable: &[bool], remap: &[u64], res: 
 {
     for i in 0..n {
         if reachable[i] {
-            dag::put_node(
-                res,
-                dag::mapped(remap, i),
-                dag::renamed(remap, dag::node_at(list, i)),
-            );
+            let x = dag::node_at(list, i).renamed(remap);
+            dag::put_node(res, dag::mapped(remap, i), x);
         }
     }
 }
@@ -129,7 +118,7 @@ pub fn write_numbered(
     ensures { (result ≡ (Calls.kept_of (Calls.compacted (interleaved list.now) n (roots_of roots))).roots) × (res.new ≡ written res.old (Calls.compacted (interleaved list.now) n (roots_of roots)).list) }
 {
     write_marked(list, n, reachable, remap, res);
-    dag::renamed_roots(remap, roots)
+    roots.renamed(remap)
 }
 
 // Writes what the roots reach, renamed, to the start of the result store; at most so many records.
@@ -167,35 +156,33 @@ fn compact_sized(list: &[u64], n: usize, roots: Roots, res: &mut [u64]) -> Kept
 }
 
 // Compact's tests.
-fn compact_check(prime: Prime, list: &[u64], n: usize, root: usize, result_room: usize) -> Checked
+#[tactic(auto, unfolding(crate::specs::Calls::compact_check))]
+fn compact_check(
+    prime: Prime,
+    list: &[u64],
+    n: usize,
+    root: usize,
+    result_room: usize,
+) -> Result<(), Refusal>
     ensures { result ≡ Calls.compact_check (field_of prime) (interleaved list.now) n root result_room }
 {
-    let checked = dag::list_check(prime, list, n, root);
-    if dag::is_refused(checked) {
-        return checked;
-    }
+    dag::list_check(prime, list, n, root)?;
     dag::room_check(n, result_room)
 }
 
 // Compact: the records that the root reaches, in order, into the result store.
-pub fn compact(prime: Prime, list: &[u64], n: usize, root: usize, res: &mut [u64]) -> CompactAnswer
+pub fn compact(
+    prime: Prime,
+    list: &[u64],
+    n: usize,
+    root: usize,
+    res: &mut [u64],
+) -> Result<Kept, Refusal>
     ensures answer { result ≡ Calls.compact_answer (field_of prime) (interleaved list.now) n root (interleaved res.old).room }
     ensures store { res.new ≡ Calls.compact_result (field_of prime) (interleaved list.now) n root res.old }
 {
-    let checked = compact_check(prime, list, n, root, dag::room(res));
-    if dag::is_refused(checked) {
-        return CompactAnswer {
-            checked,
-            count: 0,
-            roots: dag::no_roots(),
-        };
-    }
-    let kept = compact_sized(list, n, dag::one_root(root), res);
+    compact_check(prime, list, n, root, dag::room(res))?;
+    let kept = compact_sized(list, n, Roots::one(root), res);
     dag::blank_records(res, kept.count);
-    let roots = kept.roots;
-    CompactAnswer {
-        checked,
-        count: kept.count,
-        roots,
-    }
+    Ok(kept)
 }

@@ -10,7 +10,7 @@ loop-j-init c = refl
 
 pub loop-j-preserved : goal.loop-j-preserved
 loop-j-preserved c =
-    marked_turn c.args.reachable.now c.loop-j.reachable c.args.roots.places c.loop-j.j _ (omega arith) c.loop-j.invariant c.root_at.ensures
+    marked_turn c.args.reachable.now c.loop-j.reachable c.args.roots.places c.loop-j.j _ (omega arith) c.loop-j.invariant c.at.ensures
 
 pub returns : goal.returns
 unfolding roots_of

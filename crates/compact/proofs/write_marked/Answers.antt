@@ -10,8 +10,8 @@ pub loop-i-init : goal.loop-i-init
 unfolding kept
 loop-i-init c = sym (written_nil _)
 
-pub renamed-requires : goal.renamed-requires
-renamed-requires c = record_fine _ _ _ _ _ c.requires.sound (omega arith) c.requires.remaps.fits c.node_at.ensures
+pub renamed-x-requires : goal.renamed-x-requires
+renamed-x-requires c = record_fine _ _ _ _ _ c.requires.sound (omega arith) c.requires.remaps.fits c.node_at.ensures
 
 pub put_node-requires : goal.put_node-requires
 put_node-requires c =
@@ -21,8 +21,8 @@ put_node-requires c =
 pub loop-i-preserved : goal.loop-i-preserved
 loop-i-preserved c =
     elim c.if-reachable-i.branch [
-      then-reachable-i w ↦ w.res-is ∙ (rw w.mapped.ensures at w.put_node.ensures)
+      | then-reachable-i w ↦ w.res-is ∙ (rw w.mapped.ensures at w.put_node.ensures)
           ∙ write_kept _ _ _ _ _ c.requires _ (omega arith) _ _ _ c.loop-i.invariant w.if-reachable-i.true w.node_at.ensures
-          w.renamed.ensures
-    | else-reachable-i w ↦ w.res-is ∙ write_skipped _ _ _ _ _ c.requires _ (omega arith) _ c.loop-i.invariant w.if-reachable-i.false
+          w.renamed-x.ensures
+      | else-reachable-i w ↦ w.res-is ∙ write_skipped _ _ _ _ _ c.requires _ (omega arith) _ c.loop-i.invariant w.if-reachable-i.false
     ]
