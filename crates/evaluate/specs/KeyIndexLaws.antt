@@ -1,9 +1,7 @@
 -- The index of entries as they are noted, and the walk along a key's bucket.
-use Rattle.std.specs.Prelude.{ℕ, ◌+◌, ◌-◌, ◌/◌, ◌≤◌, ◌<◌, Bool, true, List, ◌≡◌, eqb, get_or, length}
+use Rattle.std.specs.Prelude.{ℕ, ◌+◌, ◌-◌, ◌/◌, ◌≤◌, ◌<◌, Bool, true, List, Option, Some, None, ◌≡◌, eqb, get_or, length}
 use Rattle.std.proofs.Math.Path.{refl, ap}
 use Rattle.std.proofs.Common.{sym, ◌∙◌, mul-le-mul_left, add-one, arith, eq-eqb, ne_eqb, eqb-true}
-use Rattle.dag.specs.declared.Found.{Found}
-use Rattle.dag.specs.declared.Found.TheVariants.{At, Missing}
 use Rattle.dag.specs.Lookup.{greatest}
 use Rattle.index.specs.Index.{half, noted, Usable}
 use Rattle.index.specs.IndexLaws.{indexed_none, indexed_noted, length_noted}
@@ -73,15 +71,15 @@ module _ (width : ℕ) (e : List ℕ) (n : ℕ) (links : List ℕ) (key : ℕ) w
     unfolding bucket
     find_down link w g = walk_down here bucket start n only (half links) links d.indexed inside link w.walking g
 
-  pub find_hit : (link : ℕ) → Standing link → 0 < link → key_at width e (link - 1) ≡ key → At (link - 1) ≡ entry_of width e n key
+  pub find_hit : (link : ℕ) → Standing link → 0 < link → key_at width e (link - 1) ≡ key → Some (link - 1) ≡ entry_of width e n key
   unfolding here
   find_hit link w g hit = walk_hit here bucket start n only link w.walking g (eq-eqb (key_at width e (link - 1)) key hit) ∙ whole
 
-  pub find_none : (link : ℕ) → Standing link → link ≤ 0 → Missing ≡ entry_of width e n key
+  pub find_none : (link : ℕ) → Standing link → link ≤ 0 → None ≡ entry_of width e n key
   find_none link w g = walk_none here bucket start n only link w.walking g ∙ whole
 
   -- the plain search from here on
-  pub find_plain : (link : ℕ) → Standing link → {r : Found} → r ≡ entry_of width e link key → r ≡ entry_of width e n key
+  pub find_plain : (link : ℕ) → Standing link → {r : Option ℕ} → r ≡ entry_of width e link key → r ≡ entry_of width e n key
   unfolding here entry_of
   find_plain link w q = q ∙ (sym w.walking.same ∙ whole)
 
