@@ -1,5 +1,5 @@
 -- What the tests of a file give, and what reading it then gives.
-use Rattle.std.specs.Prelude.{ℕ, ◌+◌, ◌*◌, ◌^◌, ◌≤◌, ◌<◌, true, List, ◌≡◌, refl, leb, eqb, get_or, length, Ok, Err}
+use Rattle.std.specs.Prelude.{ℕ, ◌+◌, ◌*◌, ◌^◌, ◌≤◌, ◌<◌, true, List, ◌≡◌, refl, leb, eqb, get_or, length, Ok, Err, Result}
 use Rattle.std.proofs.Common.{sym, ◌∙◌, ap, pow-suc, add-one, arith, leb-true, eqb-true}
 use Rattle.std.proofs.Math.Path.{ap₂}
 use Rattle.std.proofs.Math.Nat.{pow-le-pow_right}
@@ -18,10 +18,9 @@ use Rattle.dag.specs.StoreLaws.{sound_well_formed, same_list_agree}
 use Rattle.dag.specs.WordLaws.{nodes_stored, sound_stored, filled_front}
 use Rattle.dag.specs.declared.Refusal.{Refusal}
 use Rattle.dag.specs.declared.Refusal.TheVariants.{FileTooShort, FileVersion, FileCount, FileLength}
-use Rattle.house_file.specs.declared.FileAnswer.{FileAnswer}
-use Rattle.house_file.specs.declared.FileAnswer.TheVariants as FileAnswer'
+use Rattle.house_file.specs.declared.Filed.{Filed}
 use Rattle.house_file.specs.Promises.{Headed, Formed, Passed, Done}
-use Rattle.house_file.specs.File.{number, file_count, file_root, most_filed, record_place, file_view, file_list, is_count, head_check, form_check, held_check, file_check, store_check, read_check, read_answer, read_list}
+use Rattle.house_file.specs.File.{number, file_count, file_root, most_filed, record_place, file_view, file_list, is_count, head_check, form_check, held_check, file_check, store_check, read_check, read_answer, read_list, filed}
 
 pub count_range : (n : ℕ) → is_count n ≡ true → (1 ≤ n) × (n ≤ most_filed)
 unfolding is_count
@@ -78,11 +77,11 @@ room_enough file room h = go (form_check file) refl
     go (Err r) e = refl
 
 -- what an answer tells of the tests
-pub read_refused : (file : List ℕ) (room : ℕ) (r : Refusal) → read_answer file room ≡ FileAnswer'.Refused r → read_check file room ≡ Err r
+pub read_refused : (file : List ℕ) (room : ℕ) (r : Refusal) → read_answer file room ≡ Err r → read_check file room ≡ Err r
 unfolding read_answer
 read_refused file room r = go (read_check file room)
   where
-    go : (c : Checked) → unless_refused c FileAnswer'.Refused (FileAnswer'.Read (file_count file) (file_root file)) ≡ FileAnswer'.Refused r → c ≡ Err r
+    go : (c : Checked) → unless_refused c Err (Ok (filed file)) ≡ Err r → c ≡ Err r
     go (Ok u) e = let z : ◌≡◌ {A = ℕ} 0 1 = cc in absurd (omega arith)
     go (Err q) e = cc
 
@@ -91,12 +90,14 @@ pub record Read (file : List ℕ) (room count root : ℕ) : Type 0 where
   pub count_is : count ≡ file_count file
   pub root_is : root ≡ file_root file
 
-pub read_done : (file : List ℕ) (room count root : ℕ) → read_answer file room ≡ FileAnswer'.Read count root → Read file room count root
+pub read_done : (file : List ℕ) (room count root : ℕ) → read_answer file room ≡ Ok (record { count = count; root = root }) → Read file room count root
 unfolding read_answer
 read_done file room count root = go (read_check file room) refl
   where
-    go : (c : Checked) → read_check file room ≡ c → unless_refused c FileAnswer'.Refused (FileAnswer'.Read (file_count file) (file_root file)) ≡ FileAnswer'.Read count root → Read file room count root
-    go (Ok u) g e = record { good = g; count_is = cc; root_is = cc }
+    go : (c : Checked) → read_check file room ≡ c → unless_refused c Err (Ok (filed file)) ≡ Ok (record { count = count; root = root }) → Read file room count root
+    go (Ok u) g e =
+        let same : filed file ≡ record { count = count; root = root } = cc in
+        record { good = g; count_is = ap (λ f. f.count) (sym same); root_is = ap (λ f. f.root) (sym same) }
     go (Err q) g e = let z : ◌≡◌ {A = ℕ} 0 1 = cc in absurd (omega arith)
 
 -- a store that holds the words of a file's records, and what its list check c says
@@ -109,29 +110,29 @@ module _ (file list words : List ℕ) (n root : ℕ) (en : n ≡ file_count file
       ∙ (alike_list (interleaved words) (file_view file) n (alike (interleaved words) (file_view file) n room (omega (arith, en)) whole) goldilocks.bounds root
       ∙ ap₂ (list_check goldilocks.bounds (file_view file)) en er)
 
-  pub done_refused : (r : Refusal) → c ≡ Err r → Done file list (FileAnswer'.Refused r) list
+  pub done_refused : (r : Refusal) → c ≡ Err r → Done file list (Err r) list
   done_refused r e = let h : held_check file ≡ Err r = sym held ∙ e in record { answer = rw h; list_is = rw h }
 
-  pub done_good : (after : List ℕ) → c ≡ Ok tt → after ≡ filled (length list) (front n words) → Done file list (FileAnswer'.Read n root) after
+  pub done_good : (after : List ℕ) → c ≡ Ok tt → after ≡ filled (length list) (front n words) → Done file list (Ok (record { count = n; root = root })) after
   done_good after e ea =
       let good : held_check file ≡ Ok tt = sym held ∙ e in
       let sound = (rooted goldilocks.bounds (interleaved words) n root (sym ec ∙ e)).list.sound in
       let same = agree_nodes (interleaved words) (file_view file) n whole ∙ ap (nodes (file_view file)) en in
       record {
-        answer = rw good (ap₂ FileAnswer'.Read en er);
+        answer = rw good (ap₂ (λ count root. Ok (record { count = count; root = root })) en er);
         list_is = rw good (ea ∙ (filled_front goldilocks.bounds words list n sound ∙ ap (stored list) same));
       }
 
 -- what reading gives, refused or not
-pub record Told (file list : List ℕ) (a : FileAnswer) (after : List ℕ) : Type 0 where
+pub record Told (file list : List ℕ) (a : Result Filed Refusal) (after : List ℕ) : Type 0 where
   pub answer : a ≡ read_answer file (interleaved list).room
   pub list_is : after ≡ read_list file list
 
-pub told_refused : (file list : List ℕ) (r : Refusal) → store_check file (interleaved list).room ≡ Err r → Told file list (FileAnswer'.Refused r) list
+pub told_refused : (file list : List ℕ) (r : Refusal) → store_check file (interleaved list).room ≡ Err r → Told file list (Err r) list
 unfolding read_answer read_list read_check
 told_refused file list r e = record { answer = rw e; list_is = rw e }
 
-pub told_done : (file list : List ℕ) (a : FileAnswer) (after : List ℕ) → store_check file (interleaved list).room ≡ Ok tt → Done file list a after → Told file list a after
+pub told_done : (file list : List ℕ) (a : Result Filed Refusal) (after : List ℕ) → store_check file (interleaved list).room ≡ Ok tt → Done file list a after → Told file list a after
 unfolding read_answer read_list read_check
 told_done file list a after e d = record { answer = rw e d.answer; list_is = rw e d.list_is }
 

@@ -1,12 +1,14 @@
 // An index of places by a hash of the record's words, for the lookup.
 #![tactic(auto)]
 
-ghost use Rattle.std.specs.Prelude.{◌≡◌, [], ◌+◌, ◌*◌, ◌/◌, ◌^◌, ◌<◌, ◌≤◌};
+ghost use Rattle.std.specs.Prelude.{◌≡◌, ℕ, Bool, [], ◌+◌, ◌*◌, ◌/◌, ◌^◌, ◌<◌, ◌≤◌};
 ghost use Rattle.dag.specs.View.{interleaved};
 ghost use Rattle.dag.specs.Nodes as Nodes;
 ghost use Rattle.dag.specs.Store as Store;
 ghost use Rattle.dag.specs.Lookup as Lookup;
+ghost use Rattle.dag.specs.Lookup.{greatest};
 ghost use Rattle.index.specs.Index as Index;
+ghost use Rattle.index.specs.Index.{Sought};
 
 use dag::{NodeKind, Words};
 
@@ -72,23 +74,41 @@ pub fn index_list(list: &[u64], n: usize, links: &mut [u64])
     }
 }
 
-// The greatest place of a record equal to x among the first n, along its bucket; behind many others of the bucket by the plain search.
-pub fn find(list: &[u64], n: usize, links: &[u64], x: NodeKind) -> Option<usize>
-    requires { Store.Records (interleaved list.now) n × Index.NodeIndex (Nodes.nodes (interleaved list.now) n) links.now }
-    ensures { result ≡ Lookup.lookup (Nodes.nodes (interleaved list.now) n) x n }
+// The greatest indexed place where a test holds, along bucket k; behind many others of the bucket by a search of the places below.
+pub fn walk<T: Fn(usize) -> bool, S: Fn(usize) -> Option<usize>>(
+    links: &[u64],
+    k: usize,
+    is_hit: T,
+    search: S,
+) -> Option<usize>
+    requires { (hit : ℕ → Bool) × (count : ℕ) × Sought hit count links.now k (T.pre is_hit) (T.post is_hit) (S.pre search) (S.post search) }
+    ensures { (hit : ℕ → Bool) (count : ℕ) → Sought hit count links.now k (T.pre is_hit) (T.post is_hit) (S.pre search) (S.post search) → result ≡ greatest hit count }
 {
-    let wanted = Words::from(x);
     let half = links.len() / 2;
-    let mut link = links[bucket_of(half, hash(wanted))];
+    let mut link = links[k];
     for _ in 0..MOST_STEPS {
         if link == 0 {
             return None;
         }
         let i = (link - 1) as usize;
-        if dag::words_at(list, i) == wanted {
+        if is_hit(i) {
             return Some(i);
         }
         link = links[half + i];
     }
-    dag::lookup(list, link as usize, x)
+    search(link as usize)
+}
+
+// The greatest place of a record equal to x among the first n, by the index.
+pub fn find(list: &[u64], n: usize, links: &[u64], x: NodeKind) -> Option<usize>
+    requires { Store.Records (interleaved list.now) n × Index.NodeIndex (Nodes.nodes (interleaved list.now) n) links.now }
+    ensures { result ≡ Lookup.lookup (Nodes.nodes (interleaved list.now) n) x n }
+{
+    let wanted = Words::from(x);
+    walk(
+        links,
+        bucket_of(links.len() / 2, hash(wanted)),
+        |i| dag::words_at(list, i) == wanted,
+        |below| dag::lookup(list, below, x),
+    )
 }
