@@ -1,7 +1,7 @@
 // `eval_dag`: assignments and Evaluate.
 #![tactic(auto)]
 
-ghost use Rattle.std.specs.Prelude.{◌≡◌, ℕ, ◌+◌, ◌*◌, ◌^◌, ◌<◌, ◌≤◌, Ok, option_map, length};
+ghost use Rattle.std.specs.Prelude.{◌≡◌, ℕ, ◌+◌, ◌*◌, ◌^◌, ◌<◌, ◌≤◌, Ok, option_map, length, nat_eq};
 ghost use Rattle.field.specs.Fields.{field_of};
 ghost use Rattle.dag.specs.View.{interleaved};
 ghost use Rattle.dag.specs.Nodes as Nodes;
@@ -136,19 +136,19 @@ impl<const WIDTH: usize> Entries<'_, WIDTH> {
         requires { KeyIndex.Lookup WIDTH self.now.words.now self.now.count links.now }
         ensures { result ≡ Places.entry_of WIDTH self.now.words.now self.now.count key }
     {
-        let half = links.len() / 2;
-        let mut link = links[index::bucket_of(half, index::hash(words_of_key(key)))];
-        for _ in 0..index::MOST_STEPS {
-            if link == 0 {
-                return None;
-            }
-            let i = (link - 1) as usize;
-            if self.key_at(i) == key {
-                return Some(i);
-            }
-            link = links[half + i];
-        }
-        self.search(link as usize, key)
+        let k = index::bucket_of(links.len() / 2, index::hash(words_of_key(key)));
+        index::walk(
+            links,
+            k,
+            |i: usize| -> bool
+                requires { WIDTH * i < length self.now.words.now }
+                ensures { result ≡ nat_eq (Places.key_at WIDTH self.entry.now.words.now i) key }
+            { self.key_at(i) == key },
+            |below: usize| -> Option<usize>
+                requires { Lent WIDTH self.now.words.now below }
+                ensures { result ≡ Places.entry_of WIDTH self.entry.now.words.now below key }
+            { self.search(below, key) },
+        )
     }
 
     // The element that the entries give a key: that of its last entry.
