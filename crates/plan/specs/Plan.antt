@@ -1,11 +1,9 @@
--- What a round does with one record (document 01, 'Normalising'; `normalize_once` of normalize.rs), on decoded lists.
+-- What a round does with one record (`normalize_once` of normalize.rs), on decoded lists.
 use Rattle.std.specs.Prelude.{ℕ, zero, suc, ◌+◌, Bool, cond, ◌&&◌, List, [], ◌∷◌, Option, Some, None, is_some, ltb, eqb, length}
 use Rattle.dag.specs.Nodes.{at, tag, first, second, operands}
 use Rattle.dag.specs.Lookup.{lookup}
 use Rattle.dag.specs.declared.NodeKind.{NodeKind}
 use Rattle.dag.specs.declared.NodeKind.TheVariants.{Input, Constant, Add, Sub, Mul, Neg}
-use Rattle.dag.specs.declared.Found.{Found}
-use Rattle.dag.specs.declared.Found.TheVariants.{At, Missing}
 use Rattle.builder.specs.Steps.{low_first}
 use Rattle.plan.specs.declared.Rewrite.{Rewrite}
 use Rattle.plan.specs.declared.Rewrite.TheVariants.{Factored, Rotated}
@@ -54,9 +52,9 @@ common_factor l fan a b =
     None
 
 -- the record found, if it stands before place i, with what remains
-unfoldable pub onto_before : ℕ → ℕ → Found → Option Rewrite
-onto_before i remaining (At j) = cond (ltb j i) (Some (Rotated j remaining)) None
-onto_before i remaining Missing = None
+unfoldable pub onto_before : ℕ → ℕ → Option ℕ → Option Rewrite
+onto_before i remaining (Some j) = cond (ltb j i) (Some (Rotated j remaining)) None
+onto_before i remaining None = None
 
 -- op (op x y) other at place i: x with `other`, else y with `other`, where that is a record before i
 unfoldable pub existing_rotation : (ℕ → ℕ → NodeKind) → List NodeKind → (ℕ → ℕ) → ℕ → ℕ → ℕ → Option Rewrite

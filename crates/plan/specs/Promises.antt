@@ -6,11 +6,9 @@ use Rattle.dag.specs.Store.{Records}
 use Rattle.dag.specs.Nodes.{most_records, nodes, at, tag, first, second}
 use Rattle.dag.specs.declared.NodeKind.{NodeKind}
 use Rattle.dag.specs.declared.Roots.{Roots}
-use Rattle.dag.specs.declared.NodeKind.TheVariants.{Add, Mul}
 use Rattle.index.specs.Index.{NodeIndex}
 use Rattle.builder.specs.Promises.{read}
 use Rattle.plan.specs.Plan.{is_single, shared_factor}
-use Rattle.plan.specs.declared.AssociativeOp.{AssociativeOp}
 use Rattle.plan.specs.declared.Rewrite.{Rewrite}
 use Rattle.plan.specs.declared.Rewrite.TheVariants.{Factored, Rotated}
 use Rattle.plan.specs.declared.Round.{Round}
@@ -39,11 +37,6 @@ pub record Counting (s : View) (n : ℕ) (roots : Roots) (f : List ℕ) : Type 0
 -- the factor that two arrays of operands share
 abbrev pub shared_in : List ℕ → List ℕ → Option Rewrite
 shared_in a b = shared_factor (get_or a 0 0) (get_or a 1 0) (get_or b 0 0) (get_or b 1 0)
-
--- the operation that a name stands for
-abbrev pub operation : AssociativeOp → ℕ → ℕ → NodeKind
-operation AssociativeOp.Add a b = Add a b
-operation AssociativeOp.Mul a b = Mul a b
 
 -- a record's operands, if it is the operation's
 unfoldable pub operands_if : (ℕ → ℕ → NodeKind) → NodeKind → Option (List ℕ)

@@ -7,8 +7,6 @@ use Rattle.dag.specs.LookupLaws.{Says, lookup_says}
 use Rattle.dag.specs.CaseLaws.{cond_elim, and_true}
 use Rattle.dag.specs.declared.NodeKind.{NodeKind}
 use Rattle.dag.specs.declared.NodeKind.TheVariants.{Mul}
-use Rattle.dag.specs.declared.Found.{Found}
-use Rattle.dag.specs.declared.Found.TheVariants.{At, Missing}
 use Rattle.builder.specs.Steps.{low_first}
 use Rattle.plan.specs.Plan.{or_else, is_single, shared_factor, common_factor, onto_before, existing_rotation, either_rotation}
 use Rattle.plan.specs.declared.Rewrite.{Rewrite}
@@ -75,11 +73,11 @@ factor_elim P l fan a b plain shared =
         hit f x y s t = shared f x y (record { left_mul = h; right_mul = k; left_splits = s; right_splits = t })
 
 module _ (P : Option Rewrite → Type 0) (plain : P None) (op : ℕ → ℕ → NodeKind) (l : List NodeKind) (i : ℕ) where
-  onto_elim : (y : ℕ) (z : NodeKind) (f : Found) → Says l z (length l) f
+  onto_elim : (y : ℕ) (z : NodeKind) (f : Option ℕ) → Says l z (length l) f
       → ((e : ℕ) → e < i → e < length l → at l e ≡ z → P (Some (Rotated e y))) → P (onto_before i y f)
   unfolding onto_before
-  onto_elim y z (At j) s onto = cond_elim P (ltb j i) (Some (Rotated j y)) None (λ t. onto j (ltb-true j i t) s.0 s.1) (λ _. plain)
-  onto_elim y z Missing s onto = plain
+  onto_elim y z (Some j) s onto = cond_elim P (ltb j i) (Some (Rotated j y)) None (λ t. onto j (ltb-true j i t) s.0 s.1) (λ _. plain)
+  onto_elim y z None s onto = plain
 
   existing_elim : (fan : ℕ → ℕ) (inner other : ℕ) → ((e y : ℕ) → Rotates op l i inner other e y → P (Some (Rotated e y))) → P (existing_rotation op l fan i inner other)
   unfolding existing_rotation

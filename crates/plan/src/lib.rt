@@ -7,21 +7,14 @@ ghost use Rattle.dag.specs.Nodes as Nodes;
 ghost use Rattle.dag.specs.Lookup as Lookup;
 ghost use Rattle.dag.specs.Roots.{most_roots, roots_of, Inside};
 ghost use Rattle.dag.specs.WellFormed.{Any, Fine};
-ghost use Rattle.builder.specs.Steps as Steps;
-ghost use Rattle.builder.specs.Promises.{read};
+ghost use Rattle.builder.specs.Promises.{read, operation};
 ghost use Rattle.compact.specs.Promises.{AllBelow};
 ghost use Rattle.plan.specs.Plan as Plans;
 ghost use Rattle.plan.specs.Promises as Promises;
-ghost use Rattle.plan.specs.Promises.{operation, Standing, records, fanouts};
+ghost use Rattle.plan.specs.Promises.{Standing, records, fanouts};
 
-use dag::{Found, NodeKind, Roots};
-
-// The operations whose operands may rotate.
-#[derive(Clone, Copy)]
-pub enum AssociativeOp {
-    Add,
-    Mul,
-}
+use builder::AssociativeOp;
+use dag::{NodeKind, Roots};
 
 // What a round does with one record: two products that share a factor, with what is left of each; or a record that is there already in place of an inner one, with the operand that remains.
 #[derive(Clone, Copy)]
@@ -66,7 +59,7 @@ fn mention_roots(fan: &mut [u64], roots: Roots)
     ensures { fan.new ≡ Promises.mentioned fan.old (roots_of roots) }
 {
     for j in 0..roots.count {
-        mention(fan, dag::root_at(roots, j));
+        mention(fan, roots.at(j));
     }
 }
 
@@ -81,19 +74,9 @@ pub fn fanout(list: &[u64], n: usize, roots: Roots, fan: &mut [u64])
     mention_roots(fan, roots);
 }
 
-// The record of an operation on two places, lower place first.
-fn canonical(op: AssociativeOp, a: usize, b: usize) -> NodeKind
-    ensures { result ≡ Steps.low_first (Promises.operation op) a b }
-{
-    match op {
-        AssociativeOp::Add => builder::low_add(a, b),
-        AssociativeOp::Mul => builder::low_mul(a, b),
-    }
-}
-
 // The operands of a record, if it is the operation's.
 fn operands_of(op: AssociativeOp, x: NodeKind) -> Option<[usize; 2]>
-    ensures { result ≡ Promises.operands_if (Promises.operation op) x }
+    ensures { result ≡ Promises.operands_if (operation op) x }
 {
     match (op, x) {
         (AssociativeOp::Add, NodeKind::Add(a, b)) => Some([a, b]),
@@ -160,13 +143,11 @@ impl Round<'_> {
         requires { Standing self.now }
         ensures { result ≡ Plans.onto_before i remaining (Lookup.lookup (records self.now) candidate self.now.n) }
     {
-        match index::find(self.list, self.n, self.own, candidate) {
-            Found::At(existing) if existing < i => Some(Rewrite::Rotated {
-                existing,
-                remaining,
-            }),
-            _ => None,
-        }
+        let existing = index::find(self.list, self.n, self.own, candidate)?;
+        (existing < i).then_some(Rewrite::Rotated {
+            existing,
+            remaining,
+        })
     }
 
     // op (op x y) other at place i: x with `other`, else y with `other`, where that is a record before i.
@@ -181,8 +162,8 @@ impl Round<'_> {
         ensures { result ≡ Plans.existing_rotation (operation op) (records self.now) (fanouts self.now) i inner other }
     {
         let [x, y] = self.single(op, inner)?;
-        match self.onto_before(i, canonical(op, x, other), y) {
-            None => self.onto_before(i, canonical(op, y, other), x),
+        match self.onto_before(i, builder::canonical(op, x, other), y) {
+            None => self.onto_before(i, builder::canonical(op, y, other), x),
             found => found,
         }
     }

@@ -10,9 +10,9 @@ loop-j-init c = (refl, λ i. omega arith)
 
 pub loop-j-preserved : goal.loop-j-preserved
 loop-j-preserved c =
-    let place : c.root_at.result < length c.loop-j.fan = omega (arith, c.requires.0.below c.loop-j.j c.loop-j-test.true) in (
+    let place : c.at.result < length c.loop-j.fan = omega (arith, c.requires.0.below c.loop-j.j c.loop-j-test.true) in (
       mentioned_turn c.args.fan.now c.loop-j.fan _ c.args.roots.places c.loop-j.j _ c.mention.ensures (omega arith)
-          c.loop-j.invariant.0 c.root_at.ensures,
+          c.loop-j.invariant.0 c.at.ensures,
       few_turn c.args.fan.now c.loop-j.fan _ c.args.roots.places c.loop-j.j _ c.mention.ensures place c.loop-j.invariant.1,
     )
 
