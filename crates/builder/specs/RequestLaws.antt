@@ -1,7 +1,7 @@
 -- Requests on a store: what each kind asks of its operands, what it comes to, and what entering it leaves.
-use Rattle.std.specs.Prelude.{ℕ, ◌+◌, ◌<◌, List, [], ◌∷◌, ◌++◌, ◌≡◌, length}
+use Rattle.std.specs.Prelude.{ℕ, ◌+◌, ◌<◌, ◌⊎◌, List, [], ◌∷◌, ◌++◌, ◌≡◌, length}
 use Rattle.std.proofs.Math.Path.{refl, ap}
-use Rattle.std.proofs.Common.{sym, ◌∙◌, subst, add-one, arith}
+use Rattle.std.proofs.Common.{inl, inr, sym, ◌∙◌, subst, add-one, arith}
 use Rattle.field.specs.Fields.{Field, Low, element_laws}
 use Rattle.field.specs.declared.QuadFelt.{QuadFelt}
 use Rattle.dag.specs.View.{View, interleaved}
@@ -77,13 +77,10 @@ module _ (field : Field) where
     is_outcome : (y : NodeKind) (o : Outcome) → x ≡ y → o ≡ outcome field.elements (nodes s n) y → o ≡ outcome field.elements (nodes s n) x
     is_outcome y o e h = rw e h
 
-    pub input_outcome : (k : ℕ) → x ≡ Input k → Node (Input k) ≡ outcome field.elements (nodes s n) x
+    pub leaf_outcome : ((k : ℕ) × (x ≡ Input k)) ⊎ ((v : QuadFelt) × (x ≡ Constant v)) → Node x ≡ outcome field.elements (nodes s n) x
     unfolding outcome
-    input_outcome k e = is_outcome (Input k) (Node (Input k)) e refl
-
-    pub constant_outcome : (v : QuadFelt) → x ≡ Constant v → Node (Constant v) ≡ outcome field.elements (nodes s n) x
-    unfolding outcome
-    constant_outcome v e = is_outcome (Constant v) (Node (Constant v)) e refl
+    leaf_outcome (inl p) = rw p.1
+    leaf_outcome (inr p) = rw p.1
 
     pub add_outcome_lem : (a b : ℕ) (o : Outcome) → x ≡ Add a b → o ≡ add_outcome field.elements (nodes s n) a b → o ≡ outcome field.elements (nodes s n) x
     unfolding outcome
