@@ -1,5 +1,5 @@
 -- What the builder's functions ask and say of their stores.
-use Rattle.std.specs.Prelude.{ℕ, ◌+◌, ◌<◌, ◌≤◌, true, cond, ◌&&◌, eqb, Option, Some, None, List, [], ◌∷◌, ◌++◌, ◌≡◌, length, get_or, take}
+use Rattle.std.specs.Prelude.{ℕ, ◌+◌, ◌<◌, ◌≤◌, true, cond, ◌&&◌, eqb, Option, Some, None, Result, Ok, Err, List, [], ◌∷◌, ◌++◌, ◌≡◌, length, get_or, take}
 use mathlib.Core.List as Lists
 use Rattle.field.specs.Fields.{Field, Low}
 use Rattle.field.specs.declared.Prime.{Prime}
@@ -15,18 +15,14 @@ use Rattle.index.specs.Index.{half, NodeIndex}
 use Rattle.dag.specs.declared.NodeKind.{NodeKind}
 use Rattle.dag.specs.declared.NodeKind.TheVariants.{Add, Mul}
 use Rattle.dag.specs.declared.Roots.{Roots}
-use Rattle.dag.specs.declared.Checked.TheVariants.{Good}
-use Rattle.dag.specs.declared.Found.{Found}
-use Rattle.dag.specs.declared.Found.TheVariants.{At, Missing}
+use Rattle.dag.specs.declared.Refusal.{Refusal}
 use Rattle.builder.specs.Steps.{is_constant, is_add, is_sub, element, outcome, Built, step, Replay, place_of}
 use Rattle.builder.specs.Calls.{step_room_check}
 use Rattle.builder.specs.declared.Outcome.{Outcome}
 use Rattle.builder.specs.declared.Outcome.TheVariants.{Place, Node}
 use Rattle.builder.specs.declared.AssociativeOp.{AssociativeOp}
 use Rattle.builder.specs.declared.Entered.{Entered}
-use Rattle.builder.specs.declared.StepAnswer.{StepAnswer}
-use Rattle.builder.specs.declared.StepAnswer.TheVariants as StepAnswer'
-use Rattle.builder.specs.declared.BuildAnswer.{BuildAnswer}
+use Rattle.builder.specs.declared.BuiltDag.{BuiltDag}
 
 -- the operation that a name stands for
 abbrev pub operation : AssociativeOp → ℕ → ℕ → NodeKind
@@ -53,9 +49,9 @@ cancel_sub x y a b =
     None))
 
 -- a search's answer: a place, or x that is new
-abbrev pub new_unless : NodeKind → Found → Outcome
-new_unless x (At i) = Place i
-new_unless x Missing = Node x
+abbrev pub new_unless : NodeKind → Option ℕ → Outcome
+new_unless x (Some i) = Place i
+new_unless x None = Node x
 
 -- the place of x among the first n records, or x where it is new
 unfoldable pub found_or_new : List NodeKind → ℕ → NodeKind → Outcome
@@ -72,8 +68,8 @@ appended l (Place i) = record { list = l; place = i }
 appended l (Node y) = record { list = l ++ (y ∷ []); place = length l }
 
 -- an answer and a store, by the list and the place that a request comes to
-pub record Stepped (s : List ℕ) (n : ℕ) (b : Built) (r : StepAnswer) (after : List ℕ) : Type 0 where
-  pub answer : r ≡ unless_refused (step_room_check (interleaved s) n b) StepAnswer'.Refused (StepAnswer'.Done b.place (length b.list))
+pub record Stepped (s : List ℕ) (n : ℕ) (b : Built) (r : Result Entered Refusal) (after : List ℕ) : Type 0 where
+  pub answer : r ≡ unless_refused (step_room_check (interleaved s) n b) Err (Ok (record { place = b.place; count = length b.list }))
   pub store : after ≡ unless_refused (step_room_check (interleaved s) n b) (λ _. s) (written s b.list)
 
 -- a store of n records and its index, with room for one record more
@@ -87,8 +83,8 @@ abbrev pub read : List ℕ → ℕ → ℕ
 read map j = get_or map j 0
 
 -- the answer and the stores of a replay r
-pub record Finished (r : Replay) (roots : Roots) (result map : List ℕ) (a : BuildAnswer) (after places : List ℕ) : Type 0 where
-  pub answer : a ≡ record { checked = Good; count = length r.list; roots = roots_from (Lists.map (place_of r) (roots_of roots)) }
+pub record Finished (r : Replay) (roots : Roots) (result map : List ℕ) (a : BuiltDag) (after places : List ℕ) : Type 0 where
+  pub answer : a ≡ record { count = length r.list; roots = roots_from (Lists.map (place_of r) (roots_of roots)) }
   pub list_is : after ≡ stored result r.list
   pub places_are : places ≡ filled (length map) r.map
 

@@ -12,7 +12,7 @@ ghost use Rattle.builder.specs.Steps as Steps;
 ghost use Rattle.builder.specs.Promises as Promises;
 ghost use Rattle.builder.specs.Calls as Calls;
 
-use dag::{Checked, Found, NodeKind, Refusal, Roots};
+use dag::{NodeKind, Refusal, Roots, Words};
 use field::{Prime, QuadFelt};
 
 // The links of a short list's index.
@@ -43,17 +43,9 @@ pub struct Entered {
     pub count: usize,
 }
 
-// Step's answer.
+// A list that is built: its count and its roots.
 #[derive(Clone, Copy)]
-pub enum StepAnswer {
-    Done { place: usize, count: usize },
-    Refused(Refusal),
-}
-
-// Build's answer.
-#[derive(Clone, Copy)]
-pub struct BuildAnswer {
-    pub checked: Checked,
+pub struct BuiltDag {
     pub count: usize,
     pub roots: Roots,
 }
@@ -86,14 +78,6 @@ fn constants(x: NodeKind, y: NodeKind) -> Option<(QuadFelt, QuadFelt)>
         (NodeKind::Constant(c), NodeKind::Constant(d)) => Some((c, d)),
         _ => None,
     }
-}
-
-// Whether x is the constant e.
-#[tactic(auto, unfolding(crate::specs::Steps::is_the, crate::specs::Steps::is_constant, crate::specs::Steps::element))]
-fn is_the(e: QuadFelt, x: NodeKind) -> bool
-    ensures { result ≡ Steps.is_the e x }
-{
-    matches!(x, NodeKind::Constant(c) if c.same(e))
 }
 
 // What is left of a sum with a difference that takes its other operand away.
@@ -142,10 +126,10 @@ fn add_rule(prime: Prime, x: NodeKind, y: NodeKind, a: usize, b: usize) -> Rule
     if let Some((c, d)) = constants(x, y) {
         return Rule::Make(NodeKind::Constant(c.add(prime, d)));
     }
-    if is_the(QuadFelt::ZERO, x) {
+    if x == NodeKind::Constant(QuadFelt::ZERO) {
         return Rule::Use(b);
     }
-    if is_the(QuadFelt::ZERO, y) {
+    if y == NodeKind::Constant(QuadFelt::ZERO) {
         return Rule::Use(a);
     }
     if let Some(i) = cancel_add(x, y, a, b) {
@@ -168,7 +152,7 @@ fn sub_rule(prime: Prime, x: NodeKind, y: NodeKind, a: usize, b: usize) -> Rule
     if let Some((c, d)) = constants(x, y) {
         return Rule::Make(NodeKind::Constant(c.sub(prime, d)));
     }
-    if is_the(QuadFelt::ZERO, y) {
+    if y == NodeKind::Constant(QuadFelt::ZERO) {
         return Rule::Use(a);
     }
     if a == b {
@@ -192,13 +176,13 @@ fn mul_outcome(prime: Prime, x: NodeKind, y: NodeKind, a: usize, b: usize) -> Ou
     if let Some((c, d)) = constants(x, y) {
         return Outcome::Node(NodeKind::Constant(c.mul(prime, d)));
     }
-    if is_the(QuadFelt::ZERO, x) || is_the(QuadFelt::ZERO, y) {
+    if x == NodeKind::Constant(QuadFelt::ZERO) || y == NodeKind::Constant(QuadFelt::ZERO) {
         return Outcome::Node(NodeKind::Constant(QuadFelt::ZERO));
     }
-    if is_the(QuadFelt::ONE, x) {
+    if x == NodeKind::Constant(QuadFelt::ONE) {
         return Outcome::Place(b);
     }
-    if is_the(QuadFelt::ONE, y) {
+    if y == NodeKind::Constant(QuadFelt::ONE) {
         return Outcome::Place(a);
     }
     Outcome::Node(canonical(AssociativeOp::Mul, a, b))
@@ -273,8 +257,8 @@ pub fn resolve(prime: Prime, list: &[u64], n: usize, links: &[u64], x: NodeKind)
     match request_outcome(prime, list, n, x) {
         Outcome::Place(i) => Outcome::Place(i),
         Outcome::Node(y) => match index::find(list, n, links, y) {
-            Found::At(i) => Outcome::Place(i),
-            Found::Missing => Outcome::Node(y),
+            Some(i) => Outcome::Place(i),
+            None => Outcome::Node(y),
         },
     }
 }
@@ -284,13 +268,7 @@ pub fn note(links: &mut [u64], n: usize, y: NodeKind)
     requires { Usable links.old × (n < half links.old) }
     ensures { links.new ≡ noted links.old n (node_bucket (half links.old) y) }
 {
-    index::note(
-        links,
-        n,
-        dag::tag_of(y),
-        dag::first_of(y),
-        dag::second_of(y),
-    );
+    index::note(links, n, Words::from(y));
 }
 
 // A list that is built: its first `count` records, and their index.
@@ -348,69 +326,59 @@ impl<'list, 'links> DagBuilder<'list, 'links> {
 }
 
 // Step's tests.
-fn step_check(prime: Prime, list: &[u64], n: usize, tag: u64, first: u64, second: u64) -> Checked
-    ensures { result ≡ Calls.step_check (field_of prime) (interleaved list.now) n tag first second }
+#[tactic(auto, unfolding(crate::specs::Calls::step_check))]
+fn step_check(prime: Prime, list: &[u64], n: usize, words: Words) -> Result<(), Refusal>
+    ensures { result ≡ Calls.step_check (field_of prime) (interleaved list.now) n words.tag words.first words.second }
 {
-    let checked = dag::rootless_check(prime, list, n, 0);
-    if dag::is_refused(checked) {
-        return checked;
-    }
-    dag::record_check(prime, tag, first, second, n)
+    dag::rootless_check(prime, list, n, 0)?;
+    dag::record_check(prime, words, n)
 }
 
 // Appends a new record where there is room.
-fn append(list: &mut [u64], n: usize, y: NodeKind) -> StepAnswer
+fn append(list: &mut [u64], n: usize, y: NodeKind) -> Result<Entered, Refusal>
     requires { Store.Records (interleaved list.old) n × (n ≤ Nodes.most_records) }
     ensures { Promises.Stepped list.old n (Promises.appended (Nodes.nodes (interleaved list.old) n) (Outcome.Node y)) result list.new }
 {
-    if dag::MOST_RECORDS <= n || dag::room(list) <= n {
-        return StepAnswer::Refused(Refusal::NoRoom);
+    let room = dag::room(list);
+    if dag::MOST_RECORDS <= n || room <= n {
+        return Err(Refusal::NoRoom);
     }
     dag::put_node(list, n, y);
-    StepAnswer::Done {
+    Ok(Entered {
         place: n,
         count: n + 1,
-    }
+    })
 }
 
 // Interns a record by the plain search.
-fn intern(list: &mut [u64], n: usize, y: NodeKind) -> StepAnswer
+fn intern(list: &mut [u64], n: usize, y: NodeKind) -> Result<Entered, Refusal>
     requires { Store.Records (interleaved list.old) n × (n ≤ Nodes.most_records) }
     ensures { Promises.Stepped list.old n (Steps.intern (Nodes.nodes (interleaved list.old) n) y) result list.new }
 {
     match dag::lookup(list, n, y) {
-        Found::At(i) => StepAnswer::Done { place: i, count: n },
-        Found::Missing => append(list, n, y),
+        Some(place) => Ok(Entered { place, count: n }),
+        None => append(list, n, y),
     }
 }
 
 // Step past its tests.
-fn enter(prime: Prime, list: &mut [u64], n: usize, x: NodeKind) -> StepAnswer
+fn enter(prime: Prime, list: &mut [u64], n: usize, x: NodeKind) -> Result<Entered, Refusal>
     requires { Promises.Request (field_of prime) (interleaved list.old) n x × (n ≤ Nodes.most_records) }
     ensures { Promises.Stepped list.old n (Steps.step (elements prime) (Nodes.nodes (interleaved list.old) n) x) result list.new }
 {
     match request_outcome(prime, list, n, x) {
-        Outcome::Place(i) => StepAnswer::Done { place: i, count: n },
+        Outcome::Place(place) => Ok(Entered { place, count: n }),
         Outcome::Node(y) => intern(list, n, y),
     }
 }
 
 // Step: one request on a list.
-pub fn step(
-    prime: Prime,
-    list: &mut [u64],
-    n: usize,
-    tag: u64,
-    first: u64,
-    second: u64,
-) -> StepAnswer
-    ensures answer { result ≡ Calls.step_answer (field_of prime) (interleaved list.old) n tag first second }
-    ensures store { list.new ≡ Calls.step_store (field_of prime) list.old n tag first second }
+pub fn step(prime: Prime, list: &mut [u64], n: usize, words: Words) -> Result<Entered, Refusal>
+    ensures answer { result ≡ Calls.step_answer (field_of prime) (interleaved list.old) n words.tag words.first words.second }
+    ensures store { list.new ≡ Calls.step_store (field_of prime) list.old n words.tag words.first words.second }
 {
-    match step_check(prime, list, n, tag, first, second) {
-        Checked::Refused(r) => StepAnswer::Refused(r),
-        Checked::Good => enter(prime, list, n, dag::decode(tag, first, second)),
-    }
+    step_check(prime, list, n, words)?;
+    enter(prime, list, n, NodeKind::from(words))
 }
 
 // Replays the requests one after the other into an empty list; answers its count.
@@ -427,24 +395,14 @@ fn replay(
 {
     let mut builder = DagBuilder::new(prime, res, links);
     for i in 0..n {
-        let x = dag::renamed(map, dag::node_at(list, i));
+        let x = dag::node_at(list, i).renamed(map);
         map[i] = builder.push(x) as u64;
     }
     builder.count
 }
 
-// The tests of Build's stores.
-fn build_stores(n: usize, result_room: usize, map_words: usize) -> Checked
-    ensures { result ≡ Calls.build_stores n result_room map_words }
-{
-    let checked = dag::room_check(n, result_room);
-    if dag::is_refused(checked) {
-        return checked;
-    }
-    dag::room_check(n, map_words)
-}
-
 // Build's tests.
+#[tactic(auto, unfolding(crate::specs::Calls::build_check, crate::specs::Calls::build_stores))]
 fn build_check(
     prime: Prime,
     list: &[u64],
@@ -452,14 +410,12 @@ fn build_check(
     root: usize,
     result_room: usize,
     map_words: usize,
-) -> Checked
+) -> Result<(), Refusal>
     ensures { result ≡ Calls.build_check (field_of prime) (interleaved list.now) n root result_room map_words }
 {
-    let checked = dag::list_check(prime, list, n, root);
-    if dag::is_refused(checked) {
-        return checked;
-    }
-    build_stores(n, result_room, map_words)
+    dag::list_check(prime, list, n, root)?;
+    dag::room_check(n, result_room)?;
+    dag::room_check(n, map_words)
 }
 
 // Build past its tests, with an index of so many links.
@@ -470,7 +426,7 @@ fn build_with<const LINKS: usize>(
     roots: Roots,
     res: &mut [u64],
     map: &mut [u64],
-) -> BuildAnswer
+) -> BuiltDag
     requires { Promises.Ready (field_of prime) (interleaved list.now) n roots (interleaved res.old).room (length map.old) × (2 ≤ LINKS) × (LINKS ≤ 8192) × (n ≤ LINKS / 2) }
     ensures { Promises.Finished (Steps.replay (elements prime) (Nodes.nodes (interleaved list.now) n) n) roots res.old map.old result res.new map.new }
 {
@@ -478,10 +434,9 @@ fn build_with<const LINKS: usize>(
     let count = replay(prime, list, n, res, map, &mut links);
     dag::blank_records(res, count);
     dag::blank_from(map, n);
-    BuildAnswer {
-        checked: Checked::Good,
+    BuiltDag {
         count,
-        roots: dag::renamed_roots(map, roots),
+        roots: roots.renamed(map),
     }
 }
 
@@ -493,7 +448,7 @@ fn build_sized(
     roots: Roots,
     res: &mut [u64],
     map: &mut [u64],
-) -> BuildAnswer
+) -> BuiltDag
     requires { Promises.Ready (field_of prime) (interleaved list.now) n roots (interleaved res.old).room (length map.old) }
     ensures { Promises.Finished (Steps.replay (elements prime) (Nodes.nodes (interleaved list.now) n) n) roots res.old map.old result res.new map.new }
 {
@@ -512,18 +467,11 @@ pub fn build(
     root: usize,
     res: &mut [u64],
     map: &mut [u64],
-) -> BuildAnswer
+) -> Result<BuiltDag, Refusal>
     ensures answer { result ≡ Calls.build_answer (field_of prime) (interleaved list.now) n root (interleaved res.old).room (length map.old) }
     ensures res { res.new ≡ Calls.build_result (field_of prime) (interleaved list.now) n root res.old (length map.old) }
     ensures map { map.new ≡ Calls.build_map (field_of prime) (interleaved list.now) n root (interleaved res.old).room map.old }
 {
-    let checked = build_check(prime, list, n, root, dag::room(res), map.len());
-    if dag::is_refused(checked) {
-        return BuildAnswer {
-            checked,
-            count: 0,
-            roots: dag::no_roots(),
-        };
-    }
-    build_sized(prime, list, n, dag::one_root(root), res, map)
+    build_check(prime, list, n, root, dag::room(res), map.len())?;
+    Ok(build_sized(prime, list, n, Roots::one(root), res, map))
 }

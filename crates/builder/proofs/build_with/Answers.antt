@@ -7,4 +7,4 @@ pub returns : goal.returns
 returns g c =
     finished (field_of c.args.prime) (interleaved c.args.list.now) c.args.n c.args.roots c.args.res.now c.args.map.now c.requires.0.sound
     c.requires.0.inside _ _ _ c.replay-count.ensures c.replay-count.auto.res c.replay-count.auto.map
-    c.requires.0.map_room _ _ _ c.blank_records.ensures c.blank_from.ensures c.renamed_roots.ensures
+    c.requires.0.map_room _ _ _ c.blank_records.ensures c.blank_from.ensures c.renamed.ensures
