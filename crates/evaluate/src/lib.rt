@@ -264,6 +264,7 @@ fn evaluate_sized(
 }
 
 // Evaluate: the root's value under an assignment.
+#[tactic(auto, unfolding(crate::specs::Calls::evaluate_answer, crate::specs::Calls::evaluate_check))]
 pub fn evaluate(
     prime: Prime,
     list: &[u64],
