@@ -1,11 +1,10 @@
 -- Prepare's tests one by one, and what they give.
-use Rattle.std.specs.Prelude.{ℕ, suc, ◌+◌, ◌*◌, ◌≤◌, ◌<◌, Bool, true, false, List, [], ◌∷◌, ◌≡◌, refl, leb, get_or, length, take, drop}
-use Rattle.std.proofs.Common.{sym, ◌∙◌, ap, add-one, arith, drop_of_length-le, drop-cons}
-use borrow.Author.Tests.{lt-ltb, le-ltb, le-leb, lt-leb, leb-true}
-use Rattle.std.proofs.Math.Seq.{take-length}
-use Rattle.dag.specs.CaseLaws.{not_both}
-use Rattle.dag.specs.CheckLaws.{first_good, then_good, need_good, refused_then}
-use Rattle.dag.specs.Refusals.{first_refused, need, ◌then◌, is_refused}
+use Rattle.std.specs.Prelude.{ℕ, suc, ◌*◌, ◌≤◌, ◌<◌, true, false, List, [], ◌∷◌, ◌≡◌, Ok, Err, refl, leb, get_or, length}
+use Rattle.std.proofs.Common.{ap, arith}
+use borrow.Author.Tests.{le-leb, lt-leb, leb-true}
+use Rattle.dag.specs.CheckLaws.{first_good, then_good, need_good}
+use Rattle.dag.specs.Refusals.{first_refused, need, ◌then◌}
+use Rattle.dag.specs.declared.Refusal.{Refusal}
 use Rattle.dag.specs.declared.Refusal.TheVariants.{StoreTooShort, Malformed, TooManyColumns, ColumnLength}
 use Rattle.dag.specs.declared.Checked.{Checked}
 use Rattle.dag.specs.declared.Checked.TheVariants.{Good, Refused}
@@ -14,21 +13,7 @@ use Rattle.columns.specs.Prepare.{total, columns, all_below, length_check, entri
 use Rattle.dag.specs.Arrays.{padded}
 use Rattle.columns.specs.LogLaws.{power_pos, power_le}
 use Rattle.columns.specs.ColumnLaws.{length_columns, column_length}
-use Rattle.columns.specs.Promises.{Column, Handed, Tested}
-
--- entries from place i on
-module _ (m : ℕ) (c : List ℕ) (i : ℕ) (t : Bool) where
-  pub below_next : i < length c → get_or c i 0 < m → all_below m (drop i c) ≡ t → all_below m (drop (i + 1) c) ≡ t
-  unfolding all_below
-  below_next h k inv = rw (add-one i) (rw (drop-cons c i 0 h, lt-ltb _ _ k) at inv)
-
-  pub below_stop : i < length c → m ≤ get_or c i 0 → all_below m (drop i c) ≡ t → false ≡ t
-  unfolding all_below
-  below_stop h k inv = rw (drop-cons c i 0 h, le-ltb _ _ k) at inv
-
-  pub below_end : length c ≤ i → all_below m (drop i c) ≡ t → true ≡ t
-  unfolding all_below
-  below_end h inv = rw (drop_of_length-le c {i = i} h) at inv
+use Rattle.columns.specs.Promises.{as_result, Column, Handed, Tested}
 
 -- one length, and one column
 module _ (ls : List ℕ) (j : ℕ) where
@@ -48,6 +33,15 @@ module _ (m : ℕ) (cs : List (List ℕ)) (j : ℕ) where
   pub entries_bad : all_below m (column cs j) ≡ false → entries_check m cs j ≡ Refused (Malformed j)
   unfolding entries_check
   entries_bad e = rw e
+
+-- a test, from what its result says
+pub as_ok : (c : Checked) (u : Unit {0}) → as_result c ≡ Ok u → c ≡ Good
+as_ok Good u e = refl
+as_ok (Refused r) u e = absurd (cc)
+
+pub as_err : (c : Checked) (r : Refusal) → as_result c ≡ Err r → c ≡ Refused r
+as_err Good r e = absurd (cc)
+as_err (Refused q) r e = let same : q ≡ r = cc in ap Refused same
 
 -- what the tests give
 pub length_powers : (ls : List ℕ) → first_refused (length_check ls) (length ls) ≡ Good → (j : ℕ) → j < length ls → is_power 7 (get_or ls j 0) ≡ true
@@ -101,37 +95,30 @@ module _ (m : ℕ) (ls es : List ℕ) (j : ℕ) (h : j < length ls) where
       }
 
 -- the tests in their order
-module _ (m : ℕ) (ls es : List ℕ) (few : length ls ≤ most_columns) where
-  pub check_lengths : (r : Checked) → r ≡ first_refused (length_check ls) (length ls) → is_refused (first_refused (length_check ls) (length ls)) ≡ true → r ≡ prepare_check m ls es
+module _ (m : ℕ) (ls es : List ℕ) where
+  pub check_few : most_columns < length ls → Refused TooManyColumns ≡ prepare_check m ls es
   unfolding prepare_check
-  check_lengths r e bad = rw (le-leb _ _ few) (e ∙ refused_then (first_refused (length_check ls) (length ls)) _ bad)
+  check_few h = rw (lt-leb _ _ h)
 
-  module _ (good : first_refused (length_check ls) (length ls) ≡ Good) (s : ℕ) (e : s ≡ total (take (length ls) ls)) where
-    whole : s ≡ total ls
-    whole = e ∙ ap total (take-length ls)
-
-    pub check_store : length es < s → Refused StoreTooShort ≡ prepare_check m ls es
+  module _ (few : length ls ≤ most_columns) where
+    pub check_lengths : (r : Refusal) → first_refused (length_check ls) (length ls) ≡ Refused r → Refused r ≡ prepare_check m ls es
     unfolding prepare_check
-    check_store h = rw (le-leb _ _ few, good, lt-leb (total ls) (length es) (rw (← whole) h))
+    check_lengths r e = rw (le-leb _ _ few, e)
 
-    pub check_handed : s ≤ length es → Handed ls es
-    check_handed h = handed ls es few good (rw (← whole) h)
+    module _ (good : first_refused (length_check ls) (length ls) ≡ Good) where
+      pub check_store : length es < total ls → Refused StoreTooShort ≡ prepare_check m ls es
+      unfolding prepare_check
+      check_store h = rw (le-leb _ _ few, good, lt-leb (total ls) (length es) h)
 
-    pub check_entries : (r : Checked) → s ≤ length es → r ≡ first_refused (entries_check m (columns ls es)) (length ls) → r ≡ prepare_check m ls es
-    unfolding prepare_check
-    check_entries r h q = rw (le-leb _ _ few, good, le-leb (total ls) (length es) (rw (← whole) h)) q
+      pub check_entries : total ls ≤ length es → first_refused (entries_check m (columns ls es)) (length ls) ≡ prepare_check m ls es
+      unfolding prepare_check
+      check_entries h = rw (le-leb _ _ few, good, le-leb (total ls) (length es) h)
 
 -- the answer
-pub prepare_refused : (m : ℕ) (ls es : List ℕ) (r : Checked) → r ≡ prepare_check m ls es → is_refused (prepare_check m ls es) ≡ true
-    → record { checked = r; count = 0; forms = padded 0 most_columns [] } ≡ prepare m ls es
+pub prepare_refused : (m : ℕ) (ls es : List ℕ) (r : Refusal) → prepare_check m ls es ≡ Refused r → record { checked = Refused r; count = 0; forms = padded 0 most_columns [] } ≡ prepare m ls es
 unfolding prepare answer
-prepare_refused m ls es r e bad = rw e (go (prepare_check m ls es) bad)
-  where
-    go : (c : Checked) → is_refused c ≡ true → record { checked = c; count = 0; forms = padded 0 most_columns [] } ≡ answer m (columns ls es) c
-    go Good b = absurd (not_both true refl (sym b))
-    go (Refused r) b = refl
+prepare_refused m ls es r e = rw e
 
-pub prepare_good : (m : ℕ) (ls es : List ℕ) (r : Checked) (f : List ℕ) → r ≡ prepare_check m ls es → prepare_check m ls es ≡ Good → f ≡ forms m (columns ls es)
-    → record { checked = r; count = length ls; forms = f } ≡ prepare m ls es
+pub prepare_good : (m : ℕ) (ls es : List ℕ) → prepare_check m ls es ≡ Good → record { checked = Good; count = length ls; forms = forms m (columns ls es) } ≡ prepare m ls es
 unfolding prepare answer
-prepare_good m ls es r f e good q = rw (e, good, q, length_columns ls es)
+prepare_good m ls es good = rw (good, length_columns ls es)

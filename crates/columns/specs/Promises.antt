@@ -2,7 +2,20 @@
 use Rattle.std.specs.Prelude.{ℕ, zero, suc, ◌+◌, ◌<◌, ◌≤◌, Bool, true, cond, ◌&&◌, List, ◌≡◌, leb, ltb, eqb, get_or, length}
 use Rattle.columns.specs.Columns.{is_power, values, column, gain, is_among, saving, threshold}
 use Rattle.columns.specs.Prepare.{total, columns, all_below, most_columns}
+use Rattle.std.specs.Prelude.{Result, Ok, Err}
 use Rattle.dag.specs.Arrays.{up_to, padded}
+use Rattle.dag.specs.declared.Refusal.{Refusal}
+use Rattle.dag.specs.declared.Checked.{Checked}
+use Rattle.dag.specs.declared.Checked.TheVariants.{Good, Refused}
+
+-- what a test says, and what a result says of its tests
+abbrev pub as_result : Checked → Result (Unit {0}) Refusal
+as_result Good = Ok tt
+as_result (Refused r) = Err r
+
+abbrev pub outcome : {A : Type 0} → Result A Refusal → Result (Unit {0}) Refusal
+outcome (Ok x) = Ok tt
+outcome (Err r) = Err r
 
 -- a column that was tested
 pub record Column (m : ℕ) (c : List ℕ) : Type 0 where

@@ -8,5 +8,5 @@ returns-then-others-eq0 c = gain_equal _ _ (told c.others.ensures c.if-others-eq
 
 pub returns : goal.returns
 returns c =
-    c.less.ensures ∙ gain_told _ _ _ _ _ (λ e. c.if-others-eq0.false (c.others.ensures ∙ e)) c.offset-d.ensures.0
+    c.saturating_sub.ensures ∙ gain_told _ _ _ _ _ (λ e. c.if-others-eq0.false (c.others.ensures ∙ e)) c.offset-d.ensures.0
     c.standalone.ensures c.combination_cost.ensures

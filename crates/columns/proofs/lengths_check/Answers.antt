@@ -1,16 +1,19 @@
-use native.Mathlib.Omega.{arith}
-use Rattle.dag.specs.CheckLaws.{first_stop, first_next, first_none}
+use Rattle.std.proofs.Common.{ap}
+use Rattle.dag.specs.CheckLaws.{first_stop, first_next, first_none, first_all}
 use Rattle.dag.specs.BranchLaws.{told}
+use Rattle.columns.specs.Promises.{as_result}
 use Rattle.columns.specs.PrepareLaws.{length_good, length_bad}
 use Rattle.columns.proofs.lengths_check.Goals as goal
 
-pub loop-i-init : goal.loop-i-init
-loop-i-init c = (omega arith, first_none _)
+pub loop-j-init : goal.loop-j-init
+loop-j-init c = first_none _
 
 pub returns-then-not-is_power : goal.returns-then-not-is_power
 returns-then-not-is_power c =
-    first_stop _ _ _ _ c.loop-i.invariant.1 (length_bad _ _ (told c.is_power.ensures c.if-not-is_power.true))
-    c.loop-i-test.true
+    ap as_result (first_stop _ _ _ _ c.loop-j.invariant (length_bad _ _ (told c.is_power.ensures c.if-not-is_power.true)) c.loop-j-test.true)
 
-pub loop-i-preserved : goal.loop-i-preserved
-loop-i-preserved c = (omega arith, first_next _ _ c.loop-i.invariant.1 (length_good _ _ (told c.is_power.ensures c.if-not-is_power.false)))
+pub loop-j-preserved : goal.loop-j-preserved
+loop-j-preserved c = first_next _ _ c.loop-j.invariant (length_good _ _ (told c.is_power.ensures c.if-not-is_power.false))
+
+pub returns : goal.returns
+returns c = ap as_result (first_all _ _ _ c.loop-j.invariant c.loop-j.auto.j-end c.loop-j-test.false)

@@ -1,17 +1,15 @@
-use Rattle.columns.specs.PrepareLaws.{prepare_refused, prepare_good}
-use Rattle.dag.specs.CheckLaws.{good_told, bad_told}
-use Rattle.dag.specs.Arrays as Arrays
-use Rattle.columns.specs.PrepareLaws.{prepared}
+use Rattle.std.proofs.Common.{sym, ap, ◌∙◌}
+use Rattle.dag.specs.Arrays.{padded}
+use Rattle.columns.specs.Promises.{outcome}
+use Rattle.columns.specs.PrepareLaws.{as_ok, as_err, prepare_refused, prepare_good}
 use Rattle.columns.proofs.prepare.Goals as goal
 
-pub returns-then-is_refused : goal.returns-then-is_refused
-unfolding Arrays.padded
-returns-then-is_refused c = prepare_refused _ _ _ _ c.prepare_check-checked.ensures (bad_told c.prepare_check-checked.ensures c.is_refused.ensures c.if-is_refused.true)
+pub returns-in-Ok : goal.returns-in-Ok
+returns-in-Ok c =
+    let good = as_ok _ tt (sym c.new.ensures.checked ∙ ap outcome c.in-Ok.is) in
+    let cols = c.in-Ok.ensures.columns in
+    rw (c.forms.ensures, c.new-in-Ok.ensures, cols.0, cols.1, cols.2) (prepare_good _ _ _ good)
 
-pub forms-requires : goal.forms-requires
-forms-requires c = prepared _ _ _ (good_told c.prepare_check-checked.ensures c.is_refused.ensures c.if-is_refused.false)
-
-pub returns : goal.returns
-returns c =
-    prepare_good _ _ _ _ _ c.prepare_check-checked.ensures
-    (good_told c.prepare_check-checked.ensures c.is_refused.ensures c.if-is_refused.false) c.forms.ensures
+pub returns-in-Err : goal.returns-in-Err
+unfolding padded
+returns-in-Err c = prepare_refused _ _ _ _ (as_err _ _ (sym c.new.ensures.checked ∙ ap outcome c.in-Err.is))
