@@ -1,6 +1,6 @@
 -- Where Evaluate accepts a list, it accepts what Normalise, Compact or Build made of it, and answers the same.
 use Prim.Native.Nat.{ℕ, zero, suc, ◌<◌, ◌≤◌}
-use Rattle.std.specs.Prelude.{true, List, [], ◌∷◌, ◌≡◌, get_or, length}
+use Rattle.std.specs.Prelude.{true, List, [], ◌∷◌, ◌≡◌, get_or, length, Option}
 use Rattle.std.proofs.Math.Path.{refl}
 use Rattle.std.proofs.Common.{sym, ◌∙◌, ap, arith}
 use Rattle.field.specs.Fields.{Field, Low, element_laws}
@@ -9,7 +9,7 @@ use Rattle.dag.specs.View.{View, interleaved}
 use Rattle.dag.specs.Nodes.{nodes, at}
 use Rattle.dag.specs.Store.{Alike, stored}
 use Rattle.dag.specs.NodeLaws.{length_nodes}
-use Rattle.dag.specs.Refusals.{first_refused, need, ◌then◌, unless_refused}
+use Rattle.dag.specs.Refusals.{first_refused, need, ◌then◌, unless_refused, Checked}
 use Rattle.dag.specs.Check.{list_check}
 use Rattle.dag.specs.CheckLaws.{first_good, then_good, need_good}
 use Rattle.dag.specs.PassLaws.{Rooted, rooted}
@@ -17,9 +17,7 @@ use Rattle.dag.specs.StoreLaws.{sound_well_formed}
 use Rattle.dag.specs.WellFormed.{WellFormed}
 use Rattle.dag.specs.declared.NodeKind.{NodeKind}
 use Rattle.dag.specs.declared.NodeKind.TheVariants.{Input, Constant, Add, Sub, Mul, Neg}
-use Rattle.dag.specs.declared.Found.{Found}
 use Rattle.dag.specs.declared.Refusal.TheVariants.{Unassigned}
-use Rattle.dag.specs.declared.Checked.{Checked}
 use Rattle.dag.specs.declared.Checked.TheVariants as Checked'
 use Rattle.meaning.specs.Values.{value}
 use Rattle.builder.specs.Steps.{Replay, place_of, replay}
@@ -39,7 +37,7 @@ use Rattle.demands.specs.Inputs.{Keyed, Inputs, KeyOf, own_keys, inputs_through,
 use Rattle.demands.specs.Normalising.{count_of, root_of, answer_list, answer_passes, answer_value}
 
 -- Evaluate's test of inputs, as a statement about every input
-module _ (find : ℕ → Found) where
+module _ (find : ℕ → Option ℕ) where
   Assigned : ℕ → Type 0
   Assigned k = is_found (find k) ≡ true
 
@@ -103,7 +101,7 @@ module _ (field : Field) where
 
   module _ (s : View) (n root : ℕ) (t : View) (count root' : ℕ) (h : InPlaceOf s n root t count root') (a : List ℕ) (m : ℕ) where
     module _ (e : evaluate_check field s n root a m ≡ Checked'.Good) where
-      find : ℕ → Found
+      find : ℕ → Option ℕ
       find = entry_of entry_words a m
 
       tests : (entries_check field.bounds entry_words a m ≡ Checked'.Good) × (inputs_check find (nodes s n) n ≡ Checked'.Good)

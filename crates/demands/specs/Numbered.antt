@@ -1,6 +1,7 @@
 -- The calls by their field numbers. A number that names no field is 49 at place 0, whatever else is handed over, and every store stays as it
 -- was. For 1 and 2 a call is its field's, so that what is shown of every field holds of these numbers.
-use Rattle.std.specs.Prelude.{ℕ, List, [], ◌∷◌, ◌↔◌, ◌≡◌, get_or, length}
+use Rattle.dag.specs.Refusals.{Checked}
+use Rattle.std.specs.Prelude.{ℕ, List, [], ◌∷◌, ◌↔◌, ◌≡◌, get_or, length, Ok}
 use Rattle.std.proofs.Math.Path.{refl}
 use Rattle.std.proofs.Common.{sym, ◌∙◌, ap, ap₂, arith}
 use Rattle.field.specs.Fields.{Field, field_of, modulus}
@@ -14,8 +15,6 @@ use Rattle.dag.specs.Nodes.{nodes}
 use Rattle.dag.specs.Store.{Alike}
 use Rattle.dag.specs.Arrays.{padded}
 use Rattle.dag.specs.Roots.{roots_from}
-use Rattle.dag.specs.declared.Checked.{Checked}
-use Rattle.dag.specs.declared.Checked.TheVariants.{Good}
 use Rattle.meaning.specs.Values.{value}
 use Rattle.builder.specs.Calls.{step_whole_check, build_check}
 use Rattle.builder.specs.Calls as Builder
@@ -130,11 +129,11 @@ module _ (number : ℕ) (prime : Prime) (known : numbered number ≡ Known prime
 
 -- the number names a field, and there the tests pass
 abbrev pub Accepted : ℕ → (Prime → Checked) → Type 0
-Accepted number check = (prime : Prime) × (numbered number ≡ Known prime) × (check prime ≡ Good)
+Accepted number check = (prime : Prime) × (numbered number ≡ Known prime) × (check prime ≡ Ok tt)
 
 -- an answer's first word is 0 exactly there
 module _ (number : ℕ) (unknown : List ℕ) (refuses : outcome unknown ≡ 49) (words : Prime → List ℕ) (check : Prime → Checked)
-    (accepts : (prime : Prime) → (outcome (words prime) ≡ 0) ↔ (check prime ≡ Good)) where
+    (accepts : (prime : Prime) → (outcome (words prime) ≡ 0) ↔ (check prime ≡ Ok tt)) where
   heard : (k : FieldNumber) → numbered number ≡ k → outcome (named k unknown words) ≡ 0 → Accepted number check
   heard (Known prime) e z = (prime, e, (accepts prime).0 z)
   heard Unknown e z = absurd (omega (arith, sym refuses ∙ z))
@@ -190,7 +189,7 @@ words_done count root rounds = refl
 
 -- In one field: where Normalise and Evaluate both accept a list, Evaluate says the same of the list that came back.
 module _ (field : Field) (list : List ℕ) (n root : ℕ) (result : List ℕ) (work_room : ℕ) (assignment : List ℕ) (m : ℕ) where
-  evaluate_value : evaluate_check field (interleaved list) n root assignment m ≡ Good
+  evaluate_value : evaluate_check field (interleaved list) n root assignment m ≡ Ok tt
       → evaluate_answer field (interleaved list) n root assignment m ≡ Value (value field.elements (given assignment m) (nodes (interleaved list) n) root)
   unfolding evaluate_answer
   evaluate_value e = rw e

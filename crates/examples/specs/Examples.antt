@@ -1,9 +1,7 @@
 -- Examples A to L of document 01, I and J in both fields: each is an answer of a definition and the answer that the document gives.
-use Rattle.std.specs.Prelude.{ℕ, zero, suc, ◌*◌, ◌-◌, List, [], ◌∷◌, ◌++◌, map, ◌≡◌, refl, length, replicate}
+use Rattle.std.specs.Prelude.{ℕ, zero, suc, ◌*◌, ◌-◌, List, [], ◌∷◌, ◌++◌, map, ◌≡◌, refl, length, replicate, Err}
 use Rattle.field.specs.Fields.{field_of, goldilocks}
-use Rattle.dag.specs.Refusals.{first_refused}
-use Rattle.dag.specs.declared.Checked.{Checked}
-use Rattle.dag.specs.declared.Checked.TheVariants.{Refused}
+use Rattle.dag.specs.Refusals.{first_refused, Checked}
 use Rattle.dag.specs.declared.Refusal.TheVariants.{Malformed}
 use Rattle.field.specs.Field.{p, q, felt, elements, same, new}
 use Rattle.field.specs.declared.Prime.TheVariants.{Goldilocks, BabyBear}
@@ -142,7 +140,7 @@ I = record { Answer = QuadFelt; computed = (elements Goldilocks).mul (new 0 1) (
 
 -- in field 2 there is no u: a constant with c1 = 1 is refused with 4, and the like of u × u is (q − 1) × (q − 1) = 1
 abbrev I-refused : Example
-I-refused = record { Answer = Checked; computed = record_check (field_of BabyBear).bounds 1 0 1 0; stated = Refused (Malformed 0) }
+I-refused = record { Answer = Checked; computed = record_check (field_of BabyBear).bounds 1 0 1 0; stated = Err (Malformed 0) }
 
 abbrev I-second : Example
 I-second = record { Answer = QuadFelt; computed = (elements BabyBear).mul (new (q - 1) 0) (new (q - 1) 0); stated = new 1 0 }
