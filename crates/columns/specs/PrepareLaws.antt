@@ -6,45 +6,34 @@ use Rattle.dag.specs.CheckLaws.{first_good, then_good, need_good}
 use Rattle.dag.specs.Refusals.{first_refused, need, ◌then◌}
 use Rattle.dag.specs.declared.Refusal.{Refusal}
 use Rattle.dag.specs.declared.Refusal.TheVariants.{StoreTooShort, Malformed, TooManyColumns, ColumnLength}
-use Rattle.dag.specs.declared.Checked.{Checked}
-use Rattle.dag.specs.declared.Checked.TheVariants.{Good, Refused}
 use Rattle.columns.specs.Columns.{is_power, column}
 use Rattle.columns.specs.Prepare.{total, columns, all_below, length_check, entries_check, most_columns, prepare_check, forms, answer, prepare}
 use Rattle.dag.specs.Arrays.{padded}
 use Rattle.columns.specs.LogLaws.{power_pos, power_le}
 use Rattle.columns.specs.ColumnLaws.{length_columns, column_length}
-use Rattle.columns.specs.Promises.{as_result, Column, Handed, Tested}
+use Rattle.columns.specs.Promises.{Column, Handed, Tested}
 
 -- one length, and one column
 module _ (ls : List ℕ) (j : ℕ) where
-  pub length_good : is_power 7 (get_or ls j 0) ≡ true → length_check ls j ≡ Good
+  pub length_good : is_power 7 (get_or ls j 0) ≡ true → length_check ls j ≡ Ok tt
   unfolding length_check
   length_good e = rw e
 
-  pub length_bad : is_power 7 (get_or ls j 0) ≡ false → length_check ls j ≡ Refused (ColumnLength j)
+  pub length_bad : is_power 7 (get_or ls j 0) ≡ false → length_check ls j ≡ Err (ColumnLength j)
   unfolding length_check
   length_bad e = rw e
 
 module _ (m : ℕ) (cs : List (List ℕ)) (j : ℕ) where
-  pub entries_good : all_below m (column cs j) ≡ true → entries_check m cs j ≡ Good
+  pub entries_good : all_below m (column cs j) ≡ true → entries_check m cs j ≡ Ok tt
   unfolding entries_check
   entries_good e = rw e
 
-  pub entries_bad : all_below m (column cs j) ≡ false → entries_check m cs j ≡ Refused (Malformed j)
+  pub entries_bad : all_below m (column cs j) ≡ false → entries_check m cs j ≡ Err (Malformed j)
   unfolding entries_check
   entries_bad e = rw e
 
--- a test, from what its result says
-pub as_ok : (c : Checked) (u : Unit {0}) → as_result c ≡ Ok u → c ≡ Good
-as_ok Good u e = refl
-as_ok (Refused r) u e = absurd (cc)
-
-pub as_err : (c : Checked) (r : Refusal) → as_result c ≡ Err r → c ≡ Refused r
-as_err Good r e = absurd (cc)
-as_err (Refused q) r e = let same : q ≡ r = cc in ap Refused same
-
 -- what the tests give
-pub length_powers : (ls : List ℕ) → first_refused (length_check ls) (length ls) ≡ Good → (j : ℕ) → j < length ls → is_power 7 (get_or ls j 0) ≡ true
+pub length_powers : (ls : List ℕ) → first_refused (length_check ls) (length ls) ≡ Ok tt → (j : ℕ) → j < length ls → is_power 7 (get_or ls j 0) ≡ true
 unfolding length_check
 length_powers ls e j h = need_good (is_power 7 (get_or ls j 0)) (ColumnLength j) (first_good (length_check ls) (length ls) e j h)
 
@@ -53,13 +42,13 @@ unfolding total
 total_small [] h = omega arith
 total_small (n ∷ ls) h = omega (arith, h 0 (omega arith), total_small ls (λ j k. h (suc j) (omega arith)))
 
-pub lengths_small : (ls : List ℕ) → length ls ≤ most_columns → first_refused (length_check ls) (length ls) ≡ Good → total ls ≤ 2048
+pub lengths_small : (ls : List ℕ) → length ls ≤ most_columns → first_refused (length_check ls) (length ls) ≡ Ok tt → total ls ≤ 2048
 lengths_small ls few e = omega (arith, total_small ls (λ j h. power_le 7 (get_or ls j 0) (length_powers ls e j h)))
 
-pub handed : (ls es : List ℕ) → length ls ≤ most_columns → first_refused (length_check ls) (length ls) ≡ Good → total ls ≤ length es → Handed ls es
+pub handed : (ls es : List ℕ) → length ls ≤ most_columns → first_refused (length_check ls) (length ls) ≡ Ok tt → total ls ≤ length es → Handed ls es
 handed ls es few e enough = record { few = few; powers = length_powers ls e; small = lengths_small ls few e; enough = enough }
 
-pub tested : (m : ℕ) (ls es : List ℕ) → Handed ls es → first_refused (entries_check m (columns ls es)) (length ls) ≡ Good → Tested m ls es
+pub tested : (m : ℕ) (ls es : List ℕ) → Handed ls es → first_refused (entries_check m (columns ls es)) (length ls) ≡ Ok tt → Tested m ls es
 unfolding entries_check
 tested m ls es h e =
     record {
@@ -68,7 +57,7 @@ tested m ls es h e =
     }
 
 -- all of Prepare's tests
-pub prepared : (m : ℕ) (ls es : List ℕ) → prepare_check m ls es ≡ Good → Tested m ls es
+pub prepared : (m : ℕ) (ls es : List ℕ) → prepare_check m ls es ≡ Ok tt → Tested m ls es
 unfolding prepare_check
 prepared m ls es e =
     let one = then_good (need (leb (length ls) most_columns) TooManyColumns) (first_refused (length_check ls) (length ls) then need (leb (total ls) (length es)) StoreTooShort then first_refused (entries_check m (columns ls es)) (length ls)) e in
@@ -96,17 +85,17 @@ module _ (m : ℕ) (ls es : List ℕ) (j : ℕ) (h : j < length ls) where
 
 -- the tests in their order
 module _ (m : ℕ) (ls es : List ℕ) where
-  pub check_few : most_columns < length ls → Refused TooManyColumns ≡ prepare_check m ls es
+  pub check_few : most_columns < length ls → Err TooManyColumns ≡ prepare_check m ls es
   unfolding prepare_check
   check_few h = rw (lt-leb _ _ h)
 
   module _ (few : length ls ≤ most_columns) where
-    pub check_lengths : (r : Refusal) → first_refused (length_check ls) (length ls) ≡ Refused r → Refused r ≡ prepare_check m ls es
+    pub check_lengths : (r : Refusal) → first_refused (length_check ls) (length ls) ≡ Err r → Err r ≡ prepare_check m ls es
     unfolding prepare_check
     check_lengths r e = rw (le-leb _ _ few, e)
 
-    module _ (good : first_refused (length_check ls) (length ls) ≡ Good) where
-      pub check_store : length es < total ls → Refused StoreTooShort ≡ prepare_check m ls es
+    module _ (good : first_refused (length_check ls) (length ls) ≡ Ok tt) where
+      pub check_store : length es < total ls → Err StoreTooShort ≡ prepare_check m ls es
       unfolding prepare_check
       check_store h = rw (le-leb _ _ few, good, lt-leb (total ls) (length es) h)
 
@@ -115,10 +104,10 @@ module _ (m : ℕ) (ls es : List ℕ) where
       check_entries h = rw (le-leb _ _ few, good, le-leb (total ls) (length es) h)
 
 -- the answer
-pub prepare_refused : (m : ℕ) (ls es : List ℕ) (r : Refusal) → prepare_check m ls es ≡ Refused r → record { checked = Refused r; count = 0; forms = padded 0 most_columns [] } ≡ prepare m ls es
+pub prepare_refused : (m : ℕ) (ls es : List ℕ) (r : Refusal) → prepare_check m ls es ≡ Err r → Err r ≡ prepare m ls es
 unfolding prepare answer
 prepare_refused m ls es r e = rw e
 
-pub prepare_good : (m : ℕ) (ls es : List ℕ) → prepare_check m ls es ≡ Good → record { checked = Good; count = length ls; forms = forms m (columns ls es) } ≡ prepare m ls es
+pub prepare_good : (m : ℕ) (ls es : List ℕ) → prepare_check m ls es ≡ Ok tt → Ok (record { count = length ls; forms = forms m (columns ls es) }) ≡ prepare m ls es
 unfolding prepare answer
 prepare_good m ls es good = rw (good, length_columns ls es)

@@ -4,16 +4,11 @@ use Rattle.columns.specs.Columns.{is_power, values, column, gain, is_among, savi
 use Rattle.columns.specs.Prepare.{total, columns, all_below, most_columns}
 use Rattle.std.specs.Prelude.{Result, Ok, Err}
 use Rattle.dag.specs.Arrays.{up_to, padded}
+use Rattle.dag.specs.Refusals.{Checked}
 use Rattle.dag.specs.declared.Refusal.{Refusal}
-use Rattle.dag.specs.declared.Checked.{Checked}
-use Rattle.dag.specs.declared.Checked.TheVariants.{Good, Refused}
 
--- what a test says, and what a result says of its tests
-abbrev pub as_result : Checked → Result (Unit {0}) Refusal
-as_result Good = Ok tt
-as_result (Refused r) = Err r
-
-abbrev pub outcome : {A : Type 0} → Result A Refusal → Result (Unit {0}) Refusal
+-- what a result says of the tests before it
+abbrev pub outcome : {A : Type 0} → Result A Refusal → Checked
 outcome (Ok x) = Ok tt
 outcome (Err r) = Err r
 

@@ -9,7 +9,7 @@ ghost use Rattle.columns.specs.Prepare as Prepare;
 ghost use Rattle.columns.specs.Promises as Promises;
 ghost use Rattle.dag.specs.Arrays.{up_to, padded};
 
-use dag::{Checked, Refusal};
+use dag::Refusal;
 use field::{Prime, felt};
 
 // The most columns.
@@ -26,10 +26,9 @@ pub enum Form {
     Basis,
 }
 
-// Prepare's answer: what the tests said, the number of columns, and each column's form as a number, 0 past the last.
-#[derive(Clone, Copy)]
-pub struct PrepareAnswer {
-    pub checked: Checked,
+// Prepare's answer: the number of columns, and each column's form as a number, 0 past the last.
+#[derive(Clone, Copy, PartialEq, Eq)]
+pub struct Prepared {
     pub count: usize,
     pub forms: [u64; 16],
 }
@@ -223,7 +222,7 @@ fn column<'a>(lengths: &[u64], entries: &'a [u64], j: usize) -> &'a [u64]
 
 // The first length that is no power of two in 1 to 128.
 fn lengths_check(lengths: &[u64]) -> Result<(), Refusal>
-    ensures { result ≡ Promises.as_result (Refusals.first_refused (Prepare.length_check lengths.now) (length lengths.now)) }
+    ensures { result ≡ Refusals.first_refused (Prepare.length_check lengths.now) (length lengths.now) }
 {
     for (j, length) in lengths.iter().enumerate() {
         if !is_power(MOST_LOG, *length) {
@@ -236,7 +235,7 @@ fn lengths_check(lengths: &[u64]) -> Result<(), Refusal>
 // The first column with an entry not below the prime.
 fn entries_check(prime: Prime, lengths: &[u64], entries: &[u64]) -> Result<(), Refusal>
     requires { Promises.Handed lengths.now entries.now }
-    ensures { result ≡ Promises.as_result (Refusals.first_refused (Prepare.entries_check (modulus_of prime) (Prepare.columns lengths.now entries.now)) (length lengths.now)) }
+    ensures { result ≡ Refusals.first_refused (Prepare.entries_check (modulus_of prime) (Prepare.columns lengths.now entries.now)) (length lengths.now) }
 {
     for j in 0..lengths.len() {
         if !all_below(prime, column(lengths, entries, j)) {
@@ -258,7 +257,7 @@ pub struct Columns<'a> {
 impl<'a> Columns<'a> {
     // The columns, if they are few, their lengths are powers of two, their entries are there, and below the prime.
     pub fn new(prime: Prime, lengths: &'a [u64], entries: &'a [u64]) -> Result<Columns<'a>, Refusal>
-        ensures checked { Promises.outcome result ≡ Promises.as_result (Prepare.prepare_check (modulus_of prime) lengths.now entries.now) }
+        ensures checked { Promises.outcome result ≡ Prepare.prepare_check (modulus_of prime) lengths.now entries.now }
         ensures columns { IfOk result (λ c. (c.prime ≡ prime) × (c.lengths.now ≡ lengths.now) × (c.entries.now ≡ entries.now)) }
     {
         if MOST_COLUMNS < lengths.len() {
@@ -382,19 +381,12 @@ fn savings(lengths: &[u64], each: &[u64], period: u64) -> u64
 }
 
 // Prepare: the tests, and each column's form.
-pub fn prepare(prime: Prime, lengths: &[u64], entries: &[u64]) -> PrepareAnswer
+pub fn prepare(prime: Prime, lengths: &[u64], entries: &[u64]) -> Result<Prepared, Refusal>
     ensures { result ≡ Prepare.prepare (modulus_of prime) lengths.now entries.now }
 {
-    match Columns::new(prime, lengths, entries) {
-        Ok(columns) => PrepareAnswer {
-            checked: Checked::Good,
-            count: lengths.len(),
-            forms: Weighed::new(columns).forms(),
-        },
-        Err(r) => PrepareAnswer {
-            checked: Checked::Refused(r),
-            count: 0,
-            forms: [0; 16],
-        },
-    }
+    let columns = Columns::new(prime, lengths, entries)?;
+    Ok(Prepared {
+        count: lengths.len(),
+        forms: Weighed::new(columns).forms(),
+    })
 }

@@ -2,7 +2,6 @@ use Rattle.std.proofs.Common.{ap, sym, ◌∙◌}
 use Rattle.dag.specs.CheckLaws.{first_stop, first_next, first_none, first_all}
 use Rattle.dag.specs.BranchLaws.{told}
 use Rattle.columns.specs.Prepare as Prepare
-use Rattle.columns.specs.Promises.{as_result}
 use Rattle.columns.specs.PrepareLaws.{entries_good, entries_bad}
 use Rattle.columns.proofs.entries_check.Goals as goal
 
@@ -11,7 +10,7 @@ loop-j-init c = first_none _
 
 pub returns-then-not-all_below : goal.returns-then-not-all_below
 returns-then-not-all_below c =
-    ap as_result (first_stop _ _ _ _ c.loop-j.invariant
+    (first_stop _ _ _ _ c.loop-j.invariant
     (entries_bad _ _ _ (ap (Prepare.all_below _) (sym c.column.ensures) ∙ told c.all_below.ensures c.if-not-all_below.true)) c.loop-j-test.true)
 
 pub loop-j-preserved : goal.loop-j-preserved
@@ -19,4 +18,4 @@ loop-j-preserved c =
     first_next _ _ c.loop-j.invariant (entries_good _ _ _ (ap (Prepare.all_below _) (sym c.column.ensures) ∙ told c.all_below.ensures c.if-not-all_below.false))
 
 pub returns : goal.returns
-returns c = ap as_result (first_all _ _ _ c.loop-j.invariant c.loop-j.auto.j-end c.loop-j-test.false)
+returns c = (first_all _ _ _ c.loop-j.invariant c.loop-j.auto.j-end c.loop-j-test.false)

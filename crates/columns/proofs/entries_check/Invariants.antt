@@ -1,10 +1,9 @@
 -- The invariant: the columns before place j are good.
-use Rattle.std.proofs.Common.{◌≡◌}
+use Rattle.std.proofs.Common.{◌≡◌, Ok}
 use Rattle.dag.specs.Refusals.{first_refused}
 use Rattle.field.specs.Field.{modulus_of}
-use Rattle.dag.specs.declared.Checked.TheVariants.{Good}
 use Rattle.columns.specs.Prepare as Prepare
 use Rattle.columns.proofs.entries_check.Given as goal
 
 abbrev pub invariant-loop-j : goal.invariant-loop-j
-invariant-loop-j l = first_refused (Prepare.entries_check (modulus_of l.prime) (Prepare.columns l.lengths l.entries)) l.j ≡ Good
+invariant-loop-j l = first_refused (Prepare.entries_check (modulus_of l.prime) (Prepare.columns l.lengths l.entries)) l.j ≡ Ok tt

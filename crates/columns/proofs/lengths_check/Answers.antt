@@ -1,7 +1,6 @@
 use Rattle.std.proofs.Common.{ap}
 use Rattle.dag.specs.CheckLaws.{first_stop, first_next, first_none, first_all}
 use Rattle.dag.specs.BranchLaws.{told}
-use Rattle.columns.specs.Promises.{as_result}
 use Rattle.columns.specs.PrepareLaws.{length_good, length_bad}
 use Rattle.columns.proofs.lengths_check.Goals as goal
 
@@ -10,10 +9,10 @@ loop-j-init c = first_none _
 
 pub returns-then-not-is_power : goal.returns-then-not-is_power
 returns-then-not-is_power c =
-    ap as_result (first_stop _ _ _ _ c.loop-j.invariant (length_bad _ _ (told c.is_power.ensures c.if-not-is_power.true)) c.loop-j-test.true)
+    (first_stop _ _ _ _ c.loop-j.invariant (length_bad _ _ (told c.is_power.ensures c.if-not-is_power.true)) c.loop-j-test.true)
 
 pub loop-j-preserved : goal.loop-j-preserved
 loop-j-preserved c = first_next _ _ c.loop-j.invariant (length_good _ _ (told c.is_power.ensures c.if-not-is_power.false))
 
 pub returns : goal.returns
-returns c = ap as_result (first_all _ _ _ c.loop-j.invariant c.loop-j.auto.j-end c.loop-j-test.false)
+returns c = (first_all _ _ _ c.loop-j.invariant c.loop-j.auto.j-end c.loop-j-test.false)
