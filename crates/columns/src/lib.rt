@@ -34,6 +34,7 @@ pub struct Prepared {
 }
 
 // The greatest k up to `most` with 2^k at most n, else 0.
+#[tactic(auto, using(crate::specs::LogLaws::log_is))]
 pub fn log_within(most: usize, n: u64) -> usize
     ensures log { result ≡ Spec.log_within most n }
     ensures bound { result < 64 }
@@ -42,6 +43,7 @@ pub fn log_within(most: usize, n: u64) -> usize
 }
 
 // Whether n is 2^0, 2^1, .. or 2^most.
+#[tactic(auto, unfolding(crate::specs::Columns::is_power))]
 pub fn is_power(most: usize, n: u64) -> bool
     ensures { result ≡ Spec.is_power most n }
 {
@@ -49,6 +51,7 @@ pub fn is_power(most: usize, n: u64) -> bool
 }
 
 // How many entries are other than d.
+#[tactic(auto, using(crate::specs::CountLaws::others_is))]
 fn others(col: &[u64], d: u64) -> usize
     ensures { result ≡ Spec.others col.now d }
 {
@@ -56,6 +59,7 @@ fn others(col: &[u64], d: u64) -> usize
 }
 
 // L of a column of 2^L entries.
+#[tactic(auto, using(crate::specs::LogLaws::log_le), unfolding(crate::specs::Columns::log_length))]
 pub fn log_length(col: &[u64]) -> usize
     ensures { (result ≡ Spec.log_length col.now) × (result ≤ 7) }
 {
@@ -79,6 +83,7 @@ fn dense_ops(period: usize) -> usize
 }
 
 // Whether a column by itself is sparse.
+#[tactic(auto, unfolding(crate::specs::Columns::is_sparse))]
 fn is_sparse(col: &[u64]) -> bool
     requires { length col.now ≤ 128 }
     ensures { result ≡ Spec.is_sparse col.now }
@@ -88,6 +93,7 @@ fn is_sparse(col: &[u64]) -> bool
 }
 
 // A column's cost by itself.
+#[tactic(auto, unfolding(crate::specs::Columns::standalone))]
 fn standalone(col: &[u64]) -> usize
     requires { length col.now ≤ 128 }
     ensures { result ≡ Spec.standalone col.now }
@@ -116,6 +122,7 @@ pub fn values(col: &[u64], store: &mut [u64]) -> usize
 }
 
 // How often v stands in a list.
+#[tactic(auto, using(crate::specs::CountLaws::count_is))]
 fn count(list: &[u64], v: u64) -> usize
     ensures { result ≡ Spec.count v list.now }
 {
@@ -123,6 +130,7 @@ fn count(list: &[u64], v: u64) -> usize
 }
 
 // How often a value stands in a column; 0 weighs nothing.
+#[tactic(auto, unfolding(crate::specs::Columns::weight))]
 fn weight(col: &[u64], v: u64) -> usize
     ensures { result ≡ Spec.weight col.now v }
 {
@@ -150,6 +158,7 @@ fn is_scaled(prime: Prime, v: u64, d: u64) -> bool
 }
 
 // How many of the values are scaled, with offset d.
+#[tactic(auto, using(crate::specs::ClassLaws::scalings_count))]
 fn scalings(prime: Prime, values: &[u64], d: u64) -> usize
     requires { All (λ v. v < modulus_of prime) values.now × (d < modulus_of prime) }
     ensures { (result ≡ length (Spec.scalings (modulus_of prime) d values.now)) × (result ≤ length values.now) }
@@ -158,6 +167,7 @@ fn scalings(prime: Prime, values: &[u64], d: u64) -> usize
 }
 
 // The cost of a column in basis, with offset d.
+#[tactic(auto, using(crate::specs::ClassLaws::below_values, crate::specs::ClassLaws::all_below_is, crate::specs::ClassLaws::cost_zero, crate::specs::ClassLaws::cost_offset))]
 fn combination_cost(prime: Prime, col: &[u64], values: &[u64], d: u64) -> usize
     requires { Promises.Classes (modulus_of prime) col.now values.now × (d < modulus_of prime) }
     ensures { result ≡ Spec.combination_cost (modulus_of prime) col.now d }
@@ -180,6 +190,7 @@ pub fn offset(prime: Prime, col: &[u64], values: &[u64]) -> u64
 }
 
 // What a column saves in basis.
+#[tactic(auto, unfolding(crate::specs::Columns::gain, crate::specs::Columns::equal_entries))]
 fn gain(prime: Prime, col: &[u64]) -> usize
     requires { Promises.Column (modulus_of prime) col.now }
     ensures { result ≡ Spec.gain (modulus_of prime) col.now }
@@ -195,6 +206,7 @@ fn gain(prime: Prime, col: &[u64]) -> usize
 }
 
 // How many entries columns of these lengths have.
+#[tactic(auto, using(crate::specs::CountLaws::total_is))]
 fn total(lengths: &[u64]) -> usize
     requires { Prepare.total lengths.now ≤ 2048 }
     ensures { result ≡ Prepare.total lengths.now }
@@ -211,6 +223,7 @@ fn all_below(prime: Prime, col: &[u64]) -> bool
 }
 
 // Column j.
+#[tactic(auto, using(crate::specs::ColumnLaws::ends, crate::specs::ColumnLaws::column_part))]
 fn column<'a>(lengths: &[u64], entries: &'a [u64], j: usize) -> &'a [u64]
     requires { Promises.Handed lengths.now entries.now × (j < length lengths.now) }
     ensures { result.now ≡ Spec.column (Prepare.columns lengths.now entries.now) j }
@@ -292,6 +305,7 @@ impl<'a> Columns<'a> {
     }
 
     // What column j saves in basis.
+    #[tactic(auto, using(crate::specs::PrepareLaws::tested_column))]
     fn gain(&self, j: usize) -> u64
         requires { j < length self.now.lengths.now }
         ensures { result ≡ Spec.gain (modulus_of self.now.prime) (Spec.column (Prepare.columns self.now.lengths.now self.now.entries.now) j) }
@@ -337,6 +351,7 @@ impl<'a> Weighed<'a> {
     }
 
     // Whether a period goes over to the basis.
+    #[tactic(auto, using(crate::specs::SavingLaws::small_each, crate::specs::SavingLaws::savings_is, crate::specs::SavingLaws::goes_short, crate::specs::SavingLaws::goes_told))]
     fn goes_over(&self, period: u64) -> bool
         requires { period ≤ 128 }
         ensures { result ≡ Spec.goes_over (modulus_of self.now.columns.prime) (Prepare.columns self.now.columns.lengths.now self.now.columns.entries.now) period }
