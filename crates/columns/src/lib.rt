@@ -177,6 +177,7 @@ fn combination_cost(prime: Prime, col: &[u64], values: &[u64], d: u64) -> usize
 }
 
 // The offset of a column in basis.
+#[tactic(auto, using(crate::specs::ClassLaws::dominant_below, crate::specs::ClassLaws::offset_dominant, crate::specs::ClassLaws::offset_zero))]
 pub fn offset(prime: Prime, col: &[u64], values: &[u64]) -> u64
     requires { Promises.Classes (modulus_of prime) col.now values.now }
     ensures { (result ≡ Spec.offset (modulus_of prime) col.now) × (result < modulus_of prime) }
@@ -234,6 +235,7 @@ fn column<'a>(lengths: &[u64], entries: &'a [u64], j: usize) -> &'a [u64]
 }
 
 // The first length that is no power of two in 1 to 128.
+#[tactic(auto, using(crate::specs::PrepareLaws::length_good, crate::specs::PrepareLaws::length_bad, dag::specs::CheckLaws::first_none, dag::specs::CheckLaws::first_next, dag::specs::CheckLaws::first_stop, dag::specs::CheckLaws::first_all))]
 fn lengths_check(lengths: &[u64]) -> Result<(), Refusal>
     ensures { result ≡ Refusals.first_refused (Prepare.length_check lengths.now) (length lengths.now) }
 {
@@ -246,6 +248,7 @@ fn lengths_check(lengths: &[u64]) -> Result<(), Refusal>
 }
 
 // The first column with an entry not below the prime.
+#[tactic(auto, using(crate::specs::PrepareLaws::entries_good, crate::specs::PrepareLaws::entries_bad, dag::specs::CheckLaws::first_none, dag::specs::CheckLaws::first_next, dag::specs::CheckLaws::first_stop, dag::specs::CheckLaws::first_all))]
 fn entries_check(prime: Prime, lengths: &[u64], entries: &[u64]) -> Result<(), Refusal>
     requires { Promises.Handed lengths.now entries.now }
     ensures { result ≡ Refusals.first_refused (Prepare.entries_check (modulus_of prime) (Prepare.columns lengths.now entries.now)) (length lengths.now) }
@@ -269,6 +272,7 @@ pub struct Columns<'a> {
 
 impl<'a> Columns<'a> {
     // The columns, if they are few, their lengths are powers of two, their entries are there, and below the prime.
+    #[tactic(auto, using(crate::specs::PrepareLaws::lengths_small, crate::specs::PrepareLaws::handed, crate::specs::PrepareLaws::tested, crate::specs::PrepareLaws::check_few, crate::specs::PrepareLaws::check_lengths, crate::specs::PrepareLaws::check_store, crate::specs::PrepareLaws::check_entries))]
     pub fn new(prime: Prime, lengths: &'a [u64], entries: &'a [u64]) -> Result<Columns<'a>, Refusal>
         ensures checked { Promises.outcome result ≡ Prepare.prepare_check (modulus_of prime) lengths.now entries.now }
         ensures columns { IfOk result (λ c. (c.prime ≡ prime) × (c.lengths.now ≡ lengths.now) × (c.entries.now ≡ entries.now)) }
@@ -360,6 +364,7 @@ impl<'a> Weighed<'a> {
     }
 
     // Column j's form.
+    #[tactic(auto, using(crate::specs::PrepareLaws::column_short, crate::specs::SavingLaws::gained_at, crate::specs::SavingLaws::form_basis, crate::specs::SavingLaws::form_sparse, crate::specs::SavingLaws::form_dense, crate::specs::SavingLaws::apart_alone, crate::specs::SavingLaws::apart_dear))]
     pub fn form(&self, j: usize) -> Form
         requires { j < length self.now.columns.lengths.now }
         ensures { result ≡ Spec.form (modulus_of self.now.columns.prime) (Prepare.columns self.now.columns.lengths.now self.now.columns.entries.now) j }
@@ -396,6 +401,7 @@ fn savings(lengths: &[u64], each: &[u64], period: u64) -> u64
 }
 
 // Prepare: the tests, and each column's form.
+#[tactic(auto, using(crate::specs::PrepareLaws::prepare_refused, crate::specs::PrepareLaws::prepare_good))]
 pub fn prepare(prime: Prime, lengths: &[u64], entries: &[u64]) -> Result<Prepared, Refusal>
     ensures { result ≡ Prepare.prepare (modulus_of prime) lengths.now entries.now }
 {
