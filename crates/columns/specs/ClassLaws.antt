@@ -219,3 +219,8 @@ gain_equal m c e = rw (eq-eqb _ _ e)
 pub gain_told : (m : ℕ) (c : List ℕ) (d s k : ℕ) → (others c (get_or c 0 0) ≡ 0 → ⊥) → d ≡ offset m c → s ≡ standalone c → k ≡ combination_cost m c d → s - k ≡ gain m c
 unfolding gain equal_entries
 gain_told m c d s k n ed es ek = rw (ne_eqb _ _ n, ← ed, ← es, ← ek)
+
+-- a column's cost in basis, and its offset
+pub ruleset costs = (below_values, all_below_is, cost_zero, cost_offset)
+
+pub ruleset offsets = (dominant_below, offset_dominant, offset_zero)

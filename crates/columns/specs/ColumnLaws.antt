@@ -75,3 +75,6 @@ pub among_is : (cs : List (List ℕ)) (j k : ℕ) → is_among cs j k ≡ list_a
 unfolding is_among
 among_is cs j zero = refl
 among_is cs j (suc k) = rw (among_is cs j k) (sym (any_more (λ i. same_entries (column cs i) (column cs j)) k))
+
+-- where a column stands
+pub ruleset places = (ends, column_part)

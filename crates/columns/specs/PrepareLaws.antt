@@ -1,14 +1,13 @@
 -- Prepare's tests one by one, and what they give.
-use Rattle.std.specs.Prelude.{ℕ, suc, ◌*◌, ◌≤◌, ◌<◌, true, false, List, [], ◌∷◌, ◌≡◌, Ok, Err, refl, leb, get_or, length}
-use Rattle.std.proofs.Common.{ap, arith}
+use Rattle.std.specs.Prelude.{ℕ, suc, ◌*◌, ◌≤◌, ◌<◌, true, false, List, [], ◌∷◌, ◌≡◌, Ok, Err, leb, get_or, length}
+use Rattle.std.proofs.Common.{arith}
 use borrow.Author.Tests.{le-leb, lt-leb, leb-true}
-use Rattle.dag.specs.CheckLaws.{first_good, then_good, need_good}
+use Rattle.dag.specs.CheckLaws.{first_none, first_next, first_stop, first_all, first_good, then_good, need_good}
 use Rattle.dag.specs.Refusals.{first_refused, need, ◌then◌}
 use Rattle.dag.specs.declared.Refusal.{Refusal}
 use Rattle.dag.specs.declared.Refusal.TheVariants.{StoreTooShort, Malformed, TooManyColumns, ColumnLength}
 use Rattle.columns.specs.Columns.{is_power, column}
 use Rattle.columns.specs.Prepare.{total, columns, all_below, length_check, entries_check, most_columns, prepare_check, forms, answer, prepare}
-use Rattle.dag.specs.Arrays.{padded}
 use Rattle.columns.specs.LogLaws.{power_pos, power_le}
 use Rattle.columns.specs.ColumnLaws.{length_columns, column_length}
 use Rattle.columns.specs.Promises.{Column, Handed, Tested}
@@ -111,3 +110,10 @@ prepare_refused m ls es r e = rw e
 pub prepare_good : (m : ℕ) (ls es : List ℕ) → prepare_check m ls es ≡ Ok tt → Ok (record { count = length ls; forms = forms m (columns ls es) }) ≡ prepare m ls es
 unfolding prepare answer
 prepare_good m ls es good = rw (good, length_columns ls es)
+
+-- a test at each column, the tests in their order, and the answer
+pub ruleset at_each = (length_good, length_bad, entries_good, entries_bad, first_none, first_next, first_stop, first_all)
+
+pub ruleset in_order = (lengths_small, handed, tested, check_few, check_lengths, check_store, check_entries)
+
+pub ruleset answers = (prepare_refused, prepare_good)

@@ -129,3 +129,8 @@ module _ (m : ℕ) (cs : List (List ℕ)) (j : ℕ) where
   pub form_dense : is_sparse (column cs j) ≡ false → Apart → Dense ≡ form m cs j
   unfolding form
   form_dense e off = rw (off, e)
+
+-- a period that goes over, and a column's form
+pub ruleset going_over = (small_each, savings_is, goes_short, goes_told)
+
+pub ruleset forms = (column_short, gained_at, form_basis, form_sparse, form_dense, apart_alone, apart_dear)

@@ -167,7 +167,7 @@ fn scalings(prime: Prime, values: &[u64], d: u64) -> usize
 }
 
 // The cost of a column in basis, with offset d.
-#[tactic(auto, using(crate::specs::ClassLaws::below_values, crate::specs::ClassLaws::all_below_is, crate::specs::ClassLaws::cost_zero, crate::specs::ClassLaws::cost_offset))]
+#[tactic(auto, using(crate::specs::ClassLaws::costs))]
 fn combination_cost(prime: Prime, col: &[u64], values: &[u64], d: u64) -> usize
     requires { Promises.Classes (modulus_of prime) col.now values.now × (d < modulus_of prime) }
     ensures { result ≡ Spec.combination_cost (modulus_of prime) col.now d }
@@ -177,7 +177,7 @@ fn combination_cost(prime: Prime, col: &[u64], values: &[u64], d: u64) -> usize
 }
 
 // The offset of a column in basis.
-#[tactic(auto, using(crate::specs::ClassLaws::dominant_below, crate::specs::ClassLaws::offset_dominant, crate::specs::ClassLaws::offset_zero))]
+#[tactic(auto, using(crate::specs::ClassLaws::offsets))]
 pub fn offset(prime: Prime, col: &[u64], values: &[u64]) -> u64
     requires { Promises.Classes (modulus_of prime) col.now values.now }
     ensures { (result ≡ Spec.offset (modulus_of prime) col.now) × (result < modulus_of prime) }
@@ -224,7 +224,7 @@ fn all_below(prime: Prime, col: &[u64]) -> bool
 }
 
 // Column j.
-#[tactic(auto, using(crate::specs::ColumnLaws::ends, crate::specs::ColumnLaws::column_part))]
+#[tactic(auto, using(crate::specs::ColumnLaws::places))]
 fn column<'a>(lengths: &[u64], entries: &'a [u64], j: usize) -> &'a [u64]
     requires { Promises.Handed lengths.now entries.now × (j < length lengths.now) }
     ensures { result.now ≡ Spec.column (Prepare.columns lengths.now entries.now) j }
@@ -235,7 +235,7 @@ fn column<'a>(lengths: &[u64], entries: &'a [u64], j: usize) -> &'a [u64]
 }
 
 // The first length that is no power of two in 1 to 128.
-#[tactic(auto, using(crate::specs::PrepareLaws::length_good, crate::specs::PrepareLaws::length_bad, dag::specs::CheckLaws::first_none, dag::specs::CheckLaws::first_next, dag::specs::CheckLaws::first_stop, dag::specs::CheckLaws::first_all))]
+#[tactic(auto, using(crate::specs::PrepareLaws::at_each))]
 fn lengths_check(lengths: &[u64]) -> Result<(), Refusal>
     ensures { result ≡ Refusals.first_refused (Prepare.length_check lengths.now) (length lengths.now) }
 {
@@ -248,7 +248,7 @@ fn lengths_check(lengths: &[u64]) -> Result<(), Refusal>
 }
 
 // The first column with an entry not below the prime.
-#[tactic(auto, using(crate::specs::PrepareLaws::entries_good, crate::specs::PrepareLaws::entries_bad, dag::specs::CheckLaws::first_none, dag::specs::CheckLaws::first_next, dag::specs::CheckLaws::first_stop, dag::specs::CheckLaws::first_all))]
+#[tactic(auto, using(crate::specs::PrepareLaws::at_each))]
 fn entries_check(prime: Prime, lengths: &[u64], entries: &[u64]) -> Result<(), Refusal>
     requires { Promises.Handed lengths.now entries.now }
     ensures { result ≡ Refusals.first_refused (Prepare.entries_check (modulus_of prime) (Prepare.columns lengths.now entries.now)) (length lengths.now) }
@@ -272,7 +272,7 @@ pub struct Columns<'a> {
 
 impl<'a> Columns<'a> {
     // The columns, if they are few, their lengths are powers of two, their entries are there, and below the prime.
-    #[tactic(auto, using(crate::specs::PrepareLaws::lengths_small, crate::specs::PrepareLaws::handed, crate::specs::PrepareLaws::tested, crate::specs::PrepareLaws::check_few, crate::specs::PrepareLaws::check_lengths, crate::specs::PrepareLaws::check_store, crate::specs::PrepareLaws::check_entries))]
+    #[tactic(auto, using(crate::specs::PrepareLaws::in_order))]
     pub fn new(prime: Prime, lengths: &'a [u64], entries: &'a [u64]) -> Result<Columns<'a>, Refusal>
         ensures checked { Promises.outcome result ≡ Prepare.prepare_check (modulus_of prime) lengths.now entries.now }
         ensures columns { IfOk result (λ c. (c.prime ≡ prime) × (c.lengths.now ≡ lengths.now) × (c.entries.now ≡ entries.now)) }
@@ -355,7 +355,7 @@ impl<'a> Weighed<'a> {
     }
 
     // Whether a period goes over to the basis.
-    #[tactic(auto, using(crate::specs::SavingLaws::small_each, crate::specs::SavingLaws::savings_is, crate::specs::SavingLaws::goes_short, crate::specs::SavingLaws::goes_told))]
+    #[tactic(auto, using(crate::specs::SavingLaws::going_over))]
     fn goes_over(&self, period: u64) -> bool
         requires { period ≤ 128 }
         ensures { result ≡ Spec.goes_over (modulus_of self.now.columns.prime) (Prepare.columns self.now.columns.lengths.now self.now.columns.entries.now) period }
@@ -364,7 +364,7 @@ impl<'a> Weighed<'a> {
     }
 
     // Column j's form.
-    #[tactic(auto, using(crate::specs::PrepareLaws::column_short, crate::specs::SavingLaws::gained_at, crate::specs::SavingLaws::form_basis, crate::specs::SavingLaws::form_sparse, crate::specs::SavingLaws::form_dense, crate::specs::SavingLaws::apart_alone, crate::specs::SavingLaws::apart_dear))]
+    #[tactic(auto, using(crate::specs::SavingLaws::forms))]
     pub fn form(&self, j: usize) -> Form
         requires { j < length self.now.columns.lengths.now }
         ensures { result ≡ Spec.form (modulus_of self.now.columns.prime) (Prepare.columns self.now.columns.lengths.now self.now.columns.entries.now) j }
@@ -401,7 +401,7 @@ fn savings(lengths: &[u64], each: &[u64], period: u64) -> u64
 }
 
 // Prepare: the tests, and each column's form.
-#[tactic(auto, using(crate::specs::PrepareLaws::prepare_refused, crate::specs::PrepareLaws::prepare_good))]
+#[tactic(auto, using(crate::specs::PrepareLaws::answers))]
 pub fn prepare(prime: Prime, lengths: &[u64], entries: &[u64]) -> Result<Prepared, Refusal>
     ensures { result ≡ Prepare.prepare (modulus_of prime) lengths.now entries.now }
 {

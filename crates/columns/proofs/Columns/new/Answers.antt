@@ -1,7 +1,6 @@
-use Rattle.std.proofs.Common.{sym, ap, ◌∙◌}
+use Rattle.std.proofs.Common.{sym, ◌∙◌}
 use Rattle.std.proofs.lemmas.Result.{err_from_is_err_and}
-use Rattle.field.specs.Field.{modulus_of}
-use Rattle.columns.specs.PrepareLaws.{lengths_small, handed, tested, check_few, check_lengths, check_store, check_entries}
+use Rattle.columns.specs.PrepareLaws.{check_lengths}
 use Rattle.columns.proofs.Columns.new.Goals as goal
 
 pub returns-in_err-lengths_check-clause-checked : goal.returns-in_err-lengths_check-clause-checked
