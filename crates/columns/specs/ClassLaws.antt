@@ -1,10 +1,10 @@
 -- A column's classes: its values, the dominant one, and the coefficients that an offset leaves.
 use Prim.Native.Nat.{ℕ, zero, suc, ◌+◌, ◌*◌, ◌-◌, ◌≤◌, ◌<◌}
-use Rattle.std.specs.Prelude.{Bool, ◌≡◌, leb, ltb, eqb, get_or, take, drop, set}
+use Rattle.std.specs.Prelude.{Bool, ◌≡◌, leb, ltb, eqb, get_or, drop}
 use Rattle.std.proofs.Math.Bool.{true, false, cond}
 use mathlib.Core.List.{List, [], ◌∷◌, ◌++◌, append-nil, append_assoc}
 use Rattle.std.proofs.Math.Path.{refl, ap}
-use Rattle.std.proofs.Common.{sym, ◌∙◌, arith, drop_of_length-le, drop-cons, take-suc-set}
+use Rattle.std.proofs.Common.{sym, ◌∙◌, arith, drop_of_length-le, drop-cons}
 use Rattle.std.proofs.Math.Numerals.{add-one}
 use borrow.Author.Tests.{eq-eqb, ne_eqb, eqb-true, eqb-false, ltb-true, lt-ltb, le-ltb, le-leb}
 use Rattle.std.proofs.Math.ListN.{length}
@@ -172,15 +172,15 @@ module _ (m d : ℕ) (big : 1 < m) where
   unfolding values scalings all_below
   constants c e = fresh_values [] (scalings m d (values_from [] c)) (fresh_scaled [] (values_from [] c) refl (below_from m [] c refl e) (fresh_from [] c tt))
 
--- a store whose first n words are the values found
-module _ (s : List ℕ) (n v : ℕ) (h : n < length s) where
-  pub new_none : list_any (λ x. eqb x v) (take n s) ≡ true → take n s ≡ with_new (take n s) v
+-- one more value
+module _ (vs : List ℕ) (v : ℕ) where
+  pub new_none : list_any (λ x. eqb x v) vs ≡ true → vs ≡ with_new vs v
   unfolding with_new
-  new_none e = rw (not-true (eqb (count v (take n s)) 0) (sym (among_count v (take n s)) ∙ e))
+  new_none e = rw (not-true (eqb (count v vs) 0) (sym (among_count v vs) ∙ e))
 
-  pub new_one : list_any (λ x. eqb x v) (take n s) ≡ false → take (n + 1) (set s n v) ≡ with_new (take n s) v
+  pub new_one : list_any (λ x. eqb x v) vs ≡ false → vs ++ (v ∷ []) ≡ with_new vs v
   unfolding with_new
-  new_one e = rw (not-false (eqb (count v (take n s)) 0) (sym (among_count v (take n s)) ∙ e), add-one n) (take-suc-set s n v h)
+  new_one e = rw (not-false (eqb (count v vs) 0) (sym (among_count v vs) ∙ e))
 
 -- a column's cost in basis, where n classes are scaled
 module _ (m : ℕ) (c vs : List ℕ) (d n k : ℕ) (big : 1 < m) (low : all_below m c ≡ true) (ev : vs ≡ values c) (en : n ≡ length (scalings m d vs)) (ek : k ≡ others c d - 1) where
