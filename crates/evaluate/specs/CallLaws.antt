@@ -52,14 +52,6 @@ module _ (field : Field) where
     unfolding evaluate_answer
     answer_refused r e = rw e
 
-    pub list_refused : (r : Refusal) → list_check field.bounds s n root ≡ Err r → Err r ≡ evaluate_answer field s n root a m
-    unfolding evaluate_check
-    list_refused r e = answer_refused r (rw e)
-
-    pub entries_refused : (r : Refusal) → list_check field.bounds s n root ≡ Ok tt → entries_check field.bounds entry_words a m ≡ Err r → Err r ≡ evaluate_answer field s n root a m
-    unfolding evaluate_check
-    entries_refused r d e = answer_refused r (rw (d, e))
-
     -- where both pass
     module _ (t : Tested field s n root a m) where
       inputs_left : evaluate_check field s n root a m ≡ inputs_check (entry_of entry_words a m) (nodes s n) n

@@ -75,6 +75,7 @@ impl<const WIDTH: usize> Entries<'_, WIDTH> {
     }
 
     // The first bad entry.
+    #[tactic(auto, using(dag::specs::CheckLaws::first_next, dag::specs::CheckLaws::first_stop, crate::specs::EntryLaws::entry_room), unfolding(dag::specs::Refusals::first_refused))]
     fn each_check(&self, prime: Prime) -> Result<(), Refusal>
         requires { (2 < WIDTH) × Lent WIDTH self.now.words.now self.now.count }
         ensures { result ≡ Refusals.first_refused (Places.entry_check (field_of prime).bounds WIDTH self.now.words.now) self.now.count }
@@ -101,6 +102,7 @@ impl<const WIDTH: usize> Entries<'_, WIDTH> {
     }
 
     // Notes entry i in the bucket of its key.
+    #[tactic(auto, using(crate::specs::KeyIndexLaws::keyed_next))]
     fn note(&self, i: usize, links: &mut [u64])
         requires { KeyIndex.Keyed WIDTH self.now.words.now i links.old × (i < Index.half links.old) × (WIDTH * i < length self.now.words.now) }
         ensures { KeyIndex.Keyed WIDTH self.now.words.now (i + 1) links.new }
@@ -109,6 +111,7 @@ impl<const WIDTH: usize> Entries<'_, WIDTH> {
     }
 
     // Indexes the entries by their keys, in links that index none.
+    #[tactic(auto, using(crate::specs::EntryLaws::key_room))]
     fn index(&self, links: &mut [u64])
         requires { Lent WIDTH self.now.words.now self.now.count × KeyIndex.Keyed WIDTH self.now.words.now 0 links.old × (self.now.count ≤ Index.half links.old) }
         ensures { KeyIndex.Keyed WIDTH self.now.words.now self.now.count links.new }
@@ -177,6 +180,7 @@ fn value_at(values: &[QuadFelt], i: usize) -> QuadFelt
 }
 
 // The value of the record at place i, on the values before it; none for an input whose key has no entry.
+#[tactic(auto, unfolding(crate::specs::Promises::record_answer, meaning::specs::Values::value_of))]
 fn value_of(
     prime: Prime,
     list: &[u64],
@@ -260,6 +264,7 @@ fn evaluate_sized(
 }
 
 // Evaluate: the root's value under an assignment.
+#[tactic(auto, unfolding(crate::specs::Calls::evaluate_answer, crate::specs::Calls::evaluate_check))]
 pub fn evaluate(
     prime: Prime,
     list: &[u64],

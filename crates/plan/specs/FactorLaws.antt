@@ -55,6 +55,4 @@ module _ (a b : List ℕ) where
   unfolding left
   search_ends i h k e = let q : i ≡ 2 = omega arith in sym (e ∙ rw q)
 
-  -- on to a's next operand
-  pub search_next : (i j : ℕ) → 2 ≤ j → j ≤ 2 → shared_in a b ≡ left (2 * i + j) → shared_in a b ≡ left (2 * (i + 1))
-  search_next i j h k e = let q : 2 * (i + 1) ≡ 2 * i + j = omega arith in rw q e
+pub ruleset search_steps = (search_hit, search_miss, search_begins, search_ends)

@@ -39,11 +39,11 @@ abbrev pub shared_in : List ℕ → List ℕ → Option Rewrite
 shared_in a b = shared_factor (get_or a 0 0) (get_or a 1 0) (get_or b 0 0) (get_or b 1 0)
 
 -- a record's operands, if it is the operation's
-unfoldable pub operands_if : (ℕ → ℕ → NodeKind) → NodeKind → Option (List ℕ)
+abbrev pub operands_if : (ℕ → ℕ → NodeKind) → NodeKind → Option (List ℕ)
 operands_if op x = cond (eqb (tag x) (tag (op 0 0))) (Some (first x ∷ second x ∷ [])) None
 
 -- those of the record at place i, if its fanout is 1 besides
-unfoldable pub single_at : (ℕ → ℕ → NodeKind) → List NodeKind → (ℕ → ℕ) → ℕ → Option (List ℕ)
+abbrev pub single_at : (ℕ → ℕ → NodeKind) → List NodeKind → (ℕ → ℕ) → ℕ → Option (List ℕ)
 single_at op l fan i = cond (is_single op l fan i) (Some (first (at l i) ∷ second (at l i) ∷ [])) None
 
 -- a round's records, and their fanouts

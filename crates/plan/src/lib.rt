@@ -31,6 +31,7 @@ pub enum Rewrite {
 }
 
 // Counts one mention of place i.
+#[tactic(auto, unfolding(crate::specs::Promises::mentioned))]
 fn mention(fan: &mut [u64], i: usize)
     requires { (i < length fan.old) × (get_or fan.old i 0 < Promises.most_mentions) }
     ensures { fan.new ≡ Promises.mentioned fan.old (i ∷ []) }
@@ -54,6 +55,7 @@ fn mention_operands(fan: &mut [u64], x: NodeKind)
 }
 
 // Counts one mention of each root.
+#[tactic(auto, using(crate::specs::FanoutLaws::mentioned_turn, crate::specs::FanoutLaws::few_turn), unfolding(crate::specs::Promises::mentioned, dag::specs::Roots::roots_of))]
 fn mention_roots(fan: &mut [u64], roots: Roots)
     requires { Inside (length fan.old) roots × Promises.Countable most_roots fan.old }
     ensures { fan.new ≡ Promises.mentioned fan.old (roots_of roots) }
@@ -86,6 +88,7 @@ fn operands_of(op: AssociativeOp, x: NodeKind) -> Option<[usize; 2]>
 }
 
 // The first factor that two products share: a's first against b's first, then second; then a's second likewise.
+#[tactic(auto, using(crate::specs::FactorLaws::search_steps))]
 fn shared_factor(a: [usize; 2], b: [usize; 2]) -> Option<Rewrite>
     ensures { result ≡ Promises.shared_in a b }
 {
@@ -116,6 +119,7 @@ pub struct Round<'a> {
 
 impl Round<'_> {
     // The operands of the record at place i, if it is the operation's, with fanout 1.
+    #[tactic(auto, using(dag::specs::NodeLaws::at_nodes))]
     fn single(&self, op: AssociativeOp, i: usize) -> Option<[usize; 2]>
         requires { Standing self.now × (i < self.now.n) }
         ensures { result ≡ Promises.single_at (operation op) (records self.now) (fanouts self.now) i }
@@ -128,6 +132,7 @@ impl Round<'_> {
     }
 
     // Two muls, each of fanout 1, that share a factor.
+    #[tactic(auto, unfolding(crate::specs::Plan::common_factor))]
     fn common_factor(&self, a: usize, b: usize) -> Option<Rewrite>
         requires { Standing self.now × (a < self.now.n) × (b < self.now.n) }
         ensures { result ≡ Plans.common_factor (records self.now) (fanouts self.now) a b }
@@ -139,6 +144,7 @@ impl Round<'_> {
     }
 
     // The candidate's greatest place, if it stands before place i, with what remains.
+    #[tactic(auto, unfolding(crate::specs::Plan::onto_before))]
     fn onto_before(&self, i: usize, candidate: NodeKind, remaining: usize) -> Option<Rewrite>
         requires { Standing self.now }
         ensures { result ≡ Plans.onto_before i remaining (Lookup.lookup (records self.now) candidate self.now.n) }
@@ -151,6 +157,7 @@ impl Round<'_> {
     }
 
     // op (op x y) other at place i: x with `other`, else y with `other`, where that is a record before i.
+    #[tactic(auto, using(dag::specs::NodeLaws::length_nodes), unfolding(crate::specs::Plan::existing_rotation, crate::specs::Plan::or_else))]
     fn existing_rotation(
         &self,
         op: AssociativeOp,
@@ -169,6 +176,7 @@ impl Round<'_> {
     }
 
     // The first operand is tried as the inner one, then the second.
+    #[tactic(auto, unfolding(crate::specs::Plan::either_rotation, crate::specs::Plan::or_else))]
     fn either_rotation(&self, op: AssociativeOp, i: usize, a: usize, b: usize) -> Option<Rewrite>
         requires { Standing self.now × (a < self.now.n) × (b < self.now.n) }
         ensures { result ≡ Plans.either_rotation (operation op) (records self.now) (fanouts self.now) i a b }
@@ -180,6 +188,7 @@ impl Round<'_> {
     }
 
     // What a round does with the record x at place i.
+    #[tactic(auto, unfolding(crate::specs::Plan::plan_of, crate::specs::Plan::or_else, dag::specs::WellFormed::Fine))]
     pub fn plan_of(&self, i: usize, x: NodeKind) -> Option<Rewrite>
         requires { Standing self.now × (i ≤ self.now.n) × Fine Any i x }
         ensures { result ≡ Plans.plan_of (records self.now) (fanouts self.now) i x }

@@ -10,10 +10,6 @@ pub returns-in-Input : goal.returns-in-Input
 unfolding record_answer value_of given
 returns-in-Input c = rw (← c.in-Input.ensures) (c.given.ensures ∙ element_given _ _)
 
-pub returns-in-Constant : goal.returns-in-Constant
-unfolding record_answer value_of
-returns-in-Constant c = rw (← c.in-Constant.ensures)
-
 pub value_at-requires : goal.value_at-requires
 value_at-requires c =
     let k = add_before _ _ _ _ c.requires.valued c.in-Add.ensures in omega (arith, k, c.requires.valued.fits)
@@ -26,10 +22,6 @@ pub add-requires : goal.add-requires
 add-requires c =
     let k = add_before _ _ _ _ c.requires.valued c.in-Add.ensures in
     (low_read _ c.requires.valued _ k.0 c.value_at.ensures, low_read _ c.requires.valued _ k.1 c.value_at-in-Add.ensures)
-
-pub returns-in-Add : goal.returns-in-Add
-unfolding record_answer value_of
-returns-in-Add c = rw (← c.in-Add.ensures, c.add.ensures.0, c.value_at.ensures, c.value_at-in-Add.ensures)
 
 pub value_at-requires-in-Sub : goal.value_at-requires-in-Sub
 value_at-requires-in-Sub c =
@@ -44,10 +36,6 @@ sub-requires c =
     let k = sub_before _ _ _ _ c.requires.valued c.in-Sub.ensures in
     (low_read _ c.requires.valued _ k.0 c.value_at-in-Sub.ensures, low_read _ c.requires.valued _ k.1 c.value_at-in-Sub-2.ensures)
 
-pub returns-in-Sub : goal.returns-in-Sub
-unfolding record_answer value_of
-returns-in-Sub c = rw (← c.in-Sub.ensures, c.sub.ensures.0, c.value_at-in-Sub.ensures, c.value_at-in-Sub-2.ensures)
-
 pub value_at-requires-in-Mul : goal.value_at-requires-in-Mul
 value_at-requires-in-Mul c =
     let k = mul_before _ _ _ _ c.requires.valued c.in-Mul.ensures in omega (arith, k, c.requires.valued.fits)
@@ -61,17 +49,9 @@ mul-requires c =
     let k = mul_before _ _ _ _ c.requires.valued c.in-Mul.ensures in
     (low_read _ c.requires.valued _ k.0 c.value_at-in-Mul.ensures, low_read _ c.requires.valued _ k.1 c.value_at-in-Mul-2.ensures)
 
-pub returns-in-Mul : goal.returns-in-Mul
-unfolding record_answer value_of
-returns-in-Mul c = rw (← c.in-Mul.ensures, c.mul.ensures.0, c.value_at-in-Mul.ensures, c.value_at-in-Mul-2.ensures)
-
 pub value_at-requires-in-Neg : goal.value_at-requires-in-Neg
 value_at-requires-in-Neg c =
     let k = neg_before _ _ _ _ c.requires.valued c.in-Neg.ensures in omega (arith, k, c.requires.valued.fits)
 
 pub neg-requires : goal.neg-requires
 neg-requires c = low_read _ c.requires.valued _ (neg_before _ _ _ _ c.requires.valued c.in-Neg.ensures) c.value_at-in-Neg.ensures
-
-pub returns-in-Neg : goal.returns-in-Neg
-unfolding record_answer value_of
-returns-in-Neg c = rw (← c.in-Neg.ensures, c.neg.ensures.0, c.value_at-in-Neg.ensures)
