@@ -306,7 +306,8 @@ impl<'a> Columns<'a> {
         requires { j < length self.now.lengths.now }
         ensures { result ≡ Spec.is_among (Prepare.columns self.now.lengths.now self.now.entries.now) j j }
     {
-        (0..j).any(|i| self.column(i) == self.column(j))
+        let col = self.column(j);
+        (0..j).any(|i| self.column(i) == col)
     }
 
     // What column j saves in basis.
