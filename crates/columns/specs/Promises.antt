@@ -1,6 +1,6 @@
 -- What the functions on columns ask and say.
-use Rattle.std.specs.Prelude.{ℕ, zero, suc, ◌+◌, ◌<◌, ◌≤◌, Bool, true, cond, ◌&&◌, List, ◌≡◌, leb, ltb, eqb, get_or, length}
-use Rattle.columns.specs.Columns.{is_power, values, column, gain, is_among, saving, threshold}
+use Rattle.std.specs.Prelude.{ℕ, zero, suc, ◌+◌, ◌<◌, ◌≤◌, true, cond, List, ◌≡◌, eqb, get_or, length}
+use Rattle.columns.specs.Columns.{is_power, values, column, gain, is_among, saving}
 use Rattle.columns.specs.Prepare.{total, columns, all_below, most_columns}
 use Rattle.std.specs.Prelude.{Result, Ok, Err, sum, map, filter}
 use Rattle.std.specs.List.{zip}
@@ -63,12 +63,3 @@ added ls each P = sum (map (λ (p : ℕ × ℕ). p.1) (filter (λ (p : ℕ × �
 unfoldable pub savings_of : List ℕ → List ℕ → ℕ → ℕ → ℕ
 savings_of ls each P zero = 0
 savings_of ls each P (suc n) = savings_of ls each P n + cond (eqb (get_or ls n 0) P) (get_or each n 0) 0
-
-unfoldable pub over : List ℕ → List ℕ → ℕ → Bool
-over ls each P = leb 2 P && ltb (threshold P) (savings_of ls each P (length ls))
-
--- columns that passed, with what they save
-pub record Weighed (m : ℕ) (ls es gs each : List ℕ) : Type 0 where
-  pub tested : Tested m ls es
-  pub gained : gs ≡ gains m (columns ls es)
-  pub saved : each ≡ savings_each m (columns ls es)

@@ -67,10 +67,6 @@ module _ (m : ℕ) (ls es : List ℕ) (h : Handed ls es) where
   unfolding savings_each
   length_each = length_padded 0 most_columns (up_to (saving m (columns ls es)) (length (columns ls es))) (rw (length_up_to (saving m (columns ls es)) (length (columns ls es)), length_columns ls es) h.few)
 
-  pub length_gains : length (gains m (columns ls es)) ≡ most_columns
-  unfolding gains
-  length_gains = length_padded 0 most_columns (up_to (λ j. gain m (column (columns ls es) j)) (length (columns ls es))) (rw (length_up_to (λ j. gain m (column (columns ls es) j)) (length (columns ls es)), length_columns ls es) h.few)
-
   saving_small : (j : ℕ) → j < length ls → saving m (columns ls es) j ≤ 4096
   unfolding saving
   saving_small j k =
