@@ -16,7 +16,7 @@ use Rattle.std.proofs.lemmas.Bool.{not-true, not-false}
 use Rattle.std.proofs.lemmas.List.{get_or_default}
 use Rattle.std.proofs.lemmas.List.Recursion.{is_count_by}
 use Rattle.columns.specs.CountLaws.{one_more, among_count}
-use Rattle.columns.specs.Columns.{count, with_new, values_from, values, weight, heaviest, dominant, is_scaled, scalings, others, combination_cost, offset, equal_entries, gain, standalone}
+use Rattle.columns.specs.Columns.{count, with_new, values_from, values, weight, heaviest, dominant, is_scaled, scalings, others, combination_cost, offset}
 use Rattle.columns.specs.Prepare.{all_below}
 
 -- entries below m
@@ -210,15 +210,6 @@ module _ (m : ℕ) (c vs : List ℕ) (d a b : ℕ) (ev : vs ≡ values c) (ed : 
 
 pub dominant_below : (m : ℕ) (c vs : List ℕ) (d : ℕ) → 0 < m → all_below m c ≡ true → vs ≡ values c → d ≡ heaviest c 0 vs → d < m
 dominant_below m c vs d pos low ev ed = rw (ed, ev) (below_heaviest m c 0 (values c) pos (below_values m c low))
-
--- what a column saves
-pub gain_equal : (m : ℕ) (c : List ℕ) → others c (get_or c 0 0) ≡ 0 → 0 ≡ gain m c
-unfolding gain equal_entries
-gain_equal m c e = rw (eq-eqb _ _ e)
-
-pub gain_told : (m : ℕ) (c : List ℕ) (d s k : ℕ) → (others c (get_or c 0 0) ≡ 0 → ⊥) → d ≡ offset m c → s ≡ standalone c → k ≡ combination_cost m c d → s - k ≡ gain m c
-unfolding gain equal_entries
-gain_told m c d s k n ed es ek = rw (ne_eqb _ _ n, ← ed, ← es, ← ek)
 
 -- a column's cost in basis, and its offset
 pub ruleset costs = (below_values, all_below_is, cost_zero, cost_offset)
