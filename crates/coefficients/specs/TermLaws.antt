@@ -22,7 +22,8 @@ unfolding up_to
 up_to_cong f g zero h = refl
 up_to_cong f g (suc n) h = ap₂ (λ l x. l ++ (x ∷ [])) (up_to_cong f g n h) (h n)
 
-up_to_entries : (c : List ℕ) (n : ℕ) → n ≤ length c → up_to (λ i. get_or c i 0) n ≡ take n c
+-- the first n entries
+pub up_to_entries : (c : List ℕ) (n : ℕ) → n ≤ length c → up_to (λ i. get_or c i 0) n ≡ take n c
 unfolding up_to
 up_to_entries c zero h = refl
 up_to_entries c (suc n) h = ap (λ l. l ++ (get_or c n 0 ∷ [])) (up_to_entries c n (omega arith)) ∙ sym (take-suc c n 0 h)

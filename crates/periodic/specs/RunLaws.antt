@@ -66,6 +66,10 @@ pub then_entered : {A : Type 0} {b c : State} {m : Field → Builder A} {a : A} 
     → Ran b m c a → Entered c (λ field. f field a) e x → Entered b (λ field. m field >>= f field) e x
 then_entered f d q = record { ran = then_ran f d q.ran; inside = q.inside }
 
+pub enter_done : {b : State} {a : ℕ} → a < b.count → Entering b (λ field. done a) b (Ok a)
+unfolding done
+enter_done h = record { told = record { ran = record { prime_is = refl; longer = omega arith; list_is = refl; answer_is = refl }; inside = h } }
+
 -- a refusal is passed on
 pub refused : {b : State} {m : Field → Builder ℕ} (c : State) (r : Result ℕ Refusal) {x : Refusal} → IsErr r × IsErrAnd r (λ y. y ≡ x) → Overlong b m x → Entering b m c r
 refused c r h d = let p = err_from_is_err_and r h.1 in rw (p.1, p.2) (record { told = d })
@@ -185,6 +189,9 @@ module _ {A : Type 0} {b : State} {m q : Field → Builder A} {p : Prime} (e : b
 
   pub long_like : {r : Refusal} → Overlong b m r → Overlong b q r
   long_like d = record { reason = d.reason; long = subst (λ r. most_records < length r.list) (same_here b m q e same) d.long }
+
+pub entered_like : {b : State} {m q : Field → Builder ℕ} {p : Prime} → b.prime ≡ p → Same (m (field_of p)) (q (field_of p)) → {c : State} {a : ℕ} → Entered b m c a → Entered b q c a
+entered_like e same d = record { ran = ran_like e same d.ran; inside = d.inside }
 
 told_like : (b : State) (m q : Field → Builder ℕ) {p : Prime} → b.prime ≡ p → Same (m (field_of p)) (q (field_of p)) → (c : State) (r : Result ℕ Refusal) → Answered b m c r → Answered b q c r
 told_like b m q e same c (Ok a) d = record { ran = ran_like e same d.ran; inside = d.inside }

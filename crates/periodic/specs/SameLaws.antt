@@ -1,6 +1,6 @@
 -- Computations that do the same, request by request.
 use Prim.Native.Nat.{ℕ, zero, suc, ◌+◌, ◌-◌, ◌<◌}
-use mathlib.Core.List.{List, []}
+use mathlib.Core.List.{List, [], ◌∷◌}
 use Rattle.std.specs.Prelude.{◌≡◌, refl}
 use Rattle.std.proofs.Common.{subst, ap, arith}
 use Rattle.field.specs.Fields.{Field}
@@ -8,13 +8,16 @@ use Rattle.ring.specs.Ring.{Ops}
 use Rattle.field.specs.declared.QuadFelt.{QuadFelt}
 use Rattle.dag.specs.declared.NodeKind.{NodeKind}
 use Rattle.periodic.specs.Builder.{Builder, done, ◌>>=◌, turns, also, constant, mul, add}
-use Rattle.periodic.specs.Periodic.{sparse_turn, sparse_factor, sparse_term, sum_turn, sparse_sum, constants}
+use Rattle.periodic.specs.Periodic.{sparse_turn, sparse_factor, sparse_term, sum_turn, sparse_sum, constants, chain}
 
 pub record Same {A : Type 0} (m q : Builder A) : Type 0 where
   pub runs : (l : List NodeKind) → m.run l ≡ q.run l
 
 pub same_refl : {A : Type 0} (m : Builder A) → Same m m
 same_refl m = record { runs = λ l. refl }
+
+pub same_is : {A : Type 0} {m q : Builder A} → m ≡ q → Same m q
+same_is {m = m} e = subst (λ x. Same m x) e (same_refl m)
 
 pub same_bind : {A B : Type 0} (m q : Builder A) (f g : A → Builder B) → Same m q → ((a : A) → Same (f a) (g a)) → Same (m >>= f) (q >>= g)
 unfolding ◌>>=◌
@@ -56,6 +59,14 @@ module _ (F : Ops QuadFelt) where
       (λ a. same_turns (sum_turn F zpow f n v) (sum_turn F zpow g n w) t a
       (λ k j b. same_bind (sparse_term F zpow (f (k + 1)) n (v (k + 1))) (sparse_term F zpow (g (k + 1)) n (w (k + 1))) _ _ (same_term zpow (f (k + 1)) (g (k + 1)) n (v (k + 1)) (w (k + 1)) (h (k + 1) (omega arith)) (e (k + 1) (omega arith)))
       (λ x. same_refl (add F b x))))
+
+  -- a chain over the first of these factors
+  pub chain_front : (first : ℕ) (fs gs : List ℕ) (k : ℕ) → ((i : ℕ) → i < k → lib.ListN.get_or gs i 0 ≡ lib.ListN.get_or fs i 0) → lib.ListN.length gs ≡ k → Same (chain F first gs (lib.ListN.length gs)) (chain F first fs k)
+  unfolding chain
+  chain_front first fs gs k h e =
+      rw e
+      (same_turns (λ i ps. also ps (mul F (lib.ListN.get_or ps i 0) (lib.ListN.get_or gs i 0))) (λ i ps. also ps (mul F (lib.ListN.get_or ps i 0) (lib.ListN.get_or fs i 0))) k (first ∷ [])
+      (λ i j ps. rw (h i j) (same_refl (also ps (mul F (lib.ListN.get_or ps i 0) (lib.ListN.get_or fs i 0))))))
 
 -- the sum of sparse terms, by the number of terms
 module _ (zpow : List ℕ) (f : ℕ → ℕ → ℕ) (n : ℕ) (v : ℕ → ℕ) where
