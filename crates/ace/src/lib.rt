@@ -6,14 +6,12 @@ ghost use Rattle.std.specs.Prelude.{◌≡◌, ◌∷◌};
 ghost use Rattle.ace.specs.Answers as Answers;
 ghost use Rattle.ace.specs.Calls as Calls;
 
-use builder::{BuildAnswer, StepAnswer};
-use columns::PrepareAnswer;
-use compact::CompactAnswer;
-use dag::{Checked, Refusal, Roots};
-use evaluate::EvaluateAnswer;
-use field::FieldNumber;
-use lower::LowerAnswer;
-use normalize::NormalizeAnswer;
+use builder::{BuiltDag, Entered};
+use columns::Prepared;
+use compact::Kept;
+use dag::{Refusal, Roots, Words};
+use field::QuadFelt;
+use normalize::NormalEnd;
 
 // The interface that include/ace.h names: a caller built against another number is wrong.
 const INTERFACE: u64 = 2;
@@ -22,70 +20,68 @@ const INTERFACE: u64 = 2;
 fn refused_words(r: Refusal) -> [u64; 4]
     ensures { result ≡ Answers.refused_words r }
 {
-    [dag::number_of(r), dag::place_of(r) as u64, 0, 0]
+    [r.number(), r.place() as u64, 0, 0]
+}
+
+// The words of a list's count, root and rounds.
+fn list_words(count: usize, roots: Roots, rounds: usize) -> [u64; 4]
+    ensures { result ≡ Answers.list_words count roots rounds }
+{
+    [0, count as u64, roots.first(), rounds as u64]
 }
 
 // The words of Step's answer.
-fn step_words(a: StepAnswer) -> [u64; 4]
-    ensures { result ≡ Answers.step_words a }
+fn step_words(answer: Result<Entered, Refusal>) -> [u64; 4]
+    ensures { result ≡ Answers.step_words answer }
 {
-    match a {
-        StepAnswer::Done { place, count } => [0, place as u64, count as u64, 0],
-        StepAnswer::Refused(r) => refused_words(r),
+    match answer {
+        Ok(Entered { place, count }) => [0, place as u64, count as u64, 0],
+        Err(r) => refused_words(r),
     }
-}
-
-// 0 and three values, or the refusal's words.
-fn answer_words(checked: Checked, a: u64, b: u64, c: u64) -> [u64; 4]
-    ensures { result ≡ Answers.answer_words checked a b c }
-{
-    match checked {
-        Checked::Good => [0, a, b, c],
-        Checked::Refused(r) => refused_words(r),
-    }
-}
-
-// The words of an answer of a count, roots and rounds.
-fn list_words(checked: Checked, count: usize, roots: Roots, rounds: usize) -> [u64; 4]
-    ensures { result ≡ Answers.list_words checked count roots rounds }
-{
-    answer_words(checked, count as u64, dag::first_root(roots), rounds as u64)
 }
 
 // The words of Build's answer.
-fn build_words(a: BuildAnswer) -> [u64; 4]
-    ensures { result ≡ Answers.build_words a }
+fn build_words(answer: Result<BuiltDag, Refusal>) -> [u64; 4]
+    ensures { result ≡ Answers.build_words answer }
 {
-    let checked = a.checked;
-    let roots = a.roots;
-    list_words(checked, a.count, roots, 0)
+    match answer {
+        Ok(BuiltDag { count, roots }) => list_words(count, roots, 0),
+        Err(r) => refused_words(r),
+    }
 }
 
 // The words of Compact's answer.
-fn compact_words(a: CompactAnswer) -> [u64; 4]
-    ensures { result ≡ Answers.compact_words a }
+fn compact_words(answer: Result<Kept, Refusal>) -> [u64; 4]
+    ensures { result ≡ Answers.compact_words answer }
 {
-    let checked = a.checked;
-    let roots = a.roots;
-    list_words(checked, a.count, roots, 0)
+    match answer {
+        Ok(Kept { count, roots }) => list_words(count, roots, 0),
+        Err(r) => refused_words(r),
+    }
 }
 
 // The words of Normalise's answer.
-fn normalize_words(a: NormalizeAnswer) -> [u64; 4]
-    ensures { result ≡ Answers.normalize_words a }
+fn normalize_words(answer: Result<NormalEnd, Refusal>) -> [u64; 4]
+    ensures { result ≡ Answers.normalize_words answer }
 {
-    let checked = a.checked;
-    let roots = a.roots;
-    list_words(checked, a.count, roots, a.rounds)
+    match answer {
+        Ok(NormalEnd {
+            count,
+            roots,
+            rounds,
+        }) => list_words(count, roots, rounds),
+        Err(r) => refused_words(r),
+    }
 }
 
 // The words of Evaluate's answer.
-fn evaluate_words(a: EvaluateAnswer) -> [u64; 4]
-    ensures { result ≡ Answers.evaluate_words a }
+fn evaluate_words(answer: Result<QuadFelt, Refusal>) -> [u64; 4]
+    ensures { result ≡ Answers.evaluate_words answer }
 {
-    let checked = a.checked;
-    let value = a.value;
-    answer_words(checked, value.c0, value.c1, 0)
+    match answer {
+        Ok(value) => [0, value.c0, value.c1, 0],
+        Err(r) => refused_words(r),
+    }
 }
 
 // Two words and a form for each column.
@@ -95,11 +91,7 @@ fn form_words(first: u64, second: u64, forms: [u64; 16]) -> [u64; 18]
     let mut words = [0u64; 18];
     words[0] = first;
     words[1] = second;
-    let mut i = 0;
-    while i < 16 {
-        words[2 + i] = forms[i];
-        i += 1;
-    }
+    words[2..].copy_from_slice(&forms);
     words
 }
 
@@ -107,28 +99,26 @@ fn form_words(first: u64, second: u64, forms: [u64; 16]) -> [u64; 18]
 fn refused_forms(r: Refusal) -> [u64; 18]
     ensures { result ≡ Answers.refused_forms r }
 {
-    form_words(dag::number_of(r), dag::place_of(r) as u64, [0u64; 16])
+    form_words(r.number(), r.place() as u64, [0; 16])
 }
 
 // The words of Prepare's answer.
-fn prepare_words(a: PrepareAnswer) -> [u64; 18]
-    ensures { result ≡ Answers.prepare_words a }
+fn prepare_words(answer: Result<Prepared, Refusal>) -> [u64; 18]
+    ensures { result ≡ Answers.prepare_words answer }
 {
-    let checked = a.checked;
-    let forms = a.forms;
-    match checked {
-        Checked::Good => form_words(0, a.count as u64, forms),
-        Checked::Refused(r) => refused_forms(r),
+    match answer {
+        Ok(Prepared { count, forms }) => form_words(0, count as u64, forms),
+        Err(r) => refused_forms(r),
     }
 }
 
 // The words of Lower's answer.
-fn lower_words(a: LowerAnswer) -> [u64; 4]
-    ensures { result ≡ Answers.lower_words a }
+fn lower_words(answer: Result<usize, Refusal>) -> [u64; 4]
+    ensures { result ≡ Answers.lower_words answer }
 {
-    match a {
-        LowerAnswer::Done { count } => [0, count as u64, 0, 0],
-        LowerAnswer::Refused(r) => refused_words(r),
+    match answer {
+        Ok(count) => [0, count as u64, 0, 0],
+        Err(r) => refused_words(r),
     }
 }
 
@@ -145,14 +135,9 @@ pub fn ace_step(
     ensures store { list.new ≡ Calls.step_list field list.old n tag first second }
     ensures answer { answer.new ≡ Calls.step_answer field list.old n tag first second }
 {
-    let known = field::numbered(field);
-    match known {
-        FieldNumber::Known(prime) => {
-            *answer = step_words(builder::step(prime, list, n, tag, first, second));
-        }
-        FieldNumber::Unknown => {
-            *answer = refused_words(Refusal::FieldNumber);
-        }
+    match field::numbered(field) {
+        Some(prime) => *answer = step_words(builder::step(prime, list, n, tag, first, second)),
+        None => *answer = refused_words(Refusal::FieldNumber),
     }
 }
 
@@ -170,14 +155,9 @@ pub fn ace_build(
     ensures map { map.new ≡ Calls.build_map field list.now n root res.old map.old }
     ensures answer { answer.new ≡ Calls.build_answer field list.now n root res.old map.old }
 {
-    let known = field::numbered(field);
-    match known {
-        FieldNumber::Known(prime) => {
-            *answer = build_words(builder::build(prime, list, n, root, res, map));
-        }
-        FieldNumber::Unknown => {
-            *answer = refused_words(Refusal::FieldNumber);
-        }
+    match field::numbered(field) {
+        Some(prime) => *answer = build_words(builder::build(prime, list, n, root, res, map)),
+        None => *answer = refused_words(Refusal::FieldNumber),
     }
 }
 
@@ -193,14 +173,9 @@ pub fn ace_compact(
     ensures res { res.new ≡ Calls.compact_result field list.now n root res.old }
     ensures answer { answer.new ≡ Calls.compact_answer field list.now n root res.old }
 {
-    let known = field::numbered(field);
-    match known {
-        FieldNumber::Known(prime) => {
-            *answer = compact_words(compact::compact(prime, list, n, root, res));
-        }
-        FieldNumber::Unknown => {
-            *answer = refused_words(Refusal::FieldNumber);
-        }
+    match field::numbered(field) {
+        Some(prime) => *answer = compact_words(compact::compact(prime, list, n, root, res)),
+        None => *answer = refused_words(Refusal::FieldNumber),
     }
 }
 
@@ -218,14 +193,9 @@ pub fn ace_normalize(
     ensures work { work.new ≡ Calls.normalize_work field list.now n root res.old work.old }
     ensures answer { answer.new ≡ Calls.normalize_answer field list.now n root res.old work.old }
 {
-    let known = field::numbered(field);
-    match known {
-        FieldNumber::Known(prime) => {
-            *answer = normalize_words(normalize::normalize(prime, list, n, root, res, work));
-        }
-        FieldNumber::Unknown => {
-            *answer = refused_words(Refusal::FieldNumber);
-        }
+    match field::numbered(field) {
+        Some(prime) => *answer = normalize_words(normalize::normalize(prime, list, n, root, res, work)),
+        None => *answer = refused_words(Refusal::FieldNumber),
     }
 }
 
@@ -241,14 +211,9 @@ pub fn ace_evaluate(
 )
     ensures answer { answer.new ≡ Calls.evaluate_answer field list.now n root assignment.now m }
 {
-    let known = field::numbered(field);
-    match known {
-        FieldNumber::Known(prime) => {
-            *answer = evaluate_words(evaluate::evaluate(prime, list, n, root, assignment, m));
-        }
-        FieldNumber::Unknown => {
-            *answer = refused_words(Refusal::FieldNumber);
-        }
+    match field::numbered(field) {
+        Some(prime) => *answer = evaluate_words(evaluate::evaluate(prime, list, n, root, assignment, m)),
+        None => *answer = refused_words(Refusal::FieldNumber),
     }
 }
 
@@ -256,14 +221,9 @@ pub fn ace_evaluate(
 pub fn ace_prepare(field: u64, lengths: &[u64], entries: &[u64], answer: &mut [u64; 18])
     ensures answer { answer.new ≡ Calls.prepare_answer field lengths.now entries.now }
 {
-    let known = field::numbered(field);
-    match known {
-        FieldNumber::Known(prime) => {
-            *answer = prepare_words(columns::prepare(prime, lengths, entries));
-        }
-        FieldNumber::Unknown => {
-            *answer = refused_forms(Refusal::FieldNumber);
-        }
+    match field::numbered(field) {
+        Some(prime) => *answer = prepare_words(columns::prepare(prime, lengths, entries)),
+        None => *answer = refused_forms(Refusal::FieldNumber),
     }
 }
 
@@ -285,16 +245,11 @@ pub fn ace_lower(
     ensures places { places.new ≡ Calls.lower_places field list.now n lengths.now entries.now period res.old work.old places.old }
     ensures answer { answer.new ≡ Calls.lower_answer field list.now n lengths.now entries.now period res.old work.old places.old }
 {
-    let known = field::numbered(field);
-    match known {
-        FieldNumber::Known(prime) => {
-            *answer = lower_words(lower::lower(
+    match field::numbered(field) {
+        Some(prime) => *answer = lower_words(lower::lower(
                 prime, list, n, lengths, entries, period, res, work, places,
-            ));
-        }
-        FieldNumber::Unknown => {
-            *answer = refused_words(Refusal::FieldNumber);
-        }
+            )),
+        None => *answer = refused_words(Refusal::FieldNumber),
     }
 }
 

@@ -1,19 +1,17 @@
--- Step and Build (document 01, 'Each call and when it says no'): the answer, and every word of every lent store, on all inputs.
-use Rattle.std.specs.Prelude.{ℕ, Bool, ◌&&◌, ◌||◌, List, [], ◌∷◌, leb, ltb, length}
+-- Step and Build: the answer, and every word of every lent store, on all inputs.
+use Rattle.std.specs.Prelude.{ℕ, Bool, ◌&&◌, ◌||◌, Result, Ok, Err, List, [], ◌∷◌, leb, ltb, length}
 use Rattle.field.specs.Fields.{Field}
 use Rattle.dag.specs.View.{View, interleaved}
 use Rattle.dag.specs.Nodes.{most_records, decode, nodes, filled}
-use Rattle.dag.specs.Refusals.{need, ◌then◌, unless_refused}
+use Rattle.dag.specs.Refusals.{Checked, need, ◌then◌, unless_refused}
 use Rattle.dag.specs.Check.{record_check, room_check, rootless_check, list_check}
 use Rattle.dag.specs.Store.{written, stored}
 use Rattle.dag.specs.declared.Refusal.TheVariants.{NoRoom}
 use Rattle.dag.specs.Roots.{roots_from}
-use Rattle.dag.specs.declared.Checked.{Checked}
-use Rattle.dag.specs.declared.Checked.TheVariants.{Good, Refused}
+use Rattle.dag.specs.declared.Refusal.{Refusal}
 use Rattle.builder.specs.Steps.{Built, step, replay, place_of}
-use Rattle.builder.specs.declared.StepAnswer.{StepAnswer}
-use Rattle.builder.specs.declared.StepAnswer.TheVariants as StepAnswer'
-use Rattle.builder.specs.declared.BuildAnswer.{BuildAnswer}
+use Rattle.builder.specs.declared.Entered.{Entered}
+use Rattle.builder.specs.declared.BuiltDag.{BuiltDag}
 
 -- a store of n records has room for one more
 unfoldable pub has_room : View → ℕ → Bool
@@ -41,10 +39,10 @@ module _ (field : Field) where
   step_whole_check s n t a b = step_check s n t a b then step_room_check s n (stepped s n t a b)
 
   -- the result's place and the new n
-  unfoldable pub step_answer : View → ℕ → ℕ → ℕ → ℕ → StepAnswer
+  unfoldable pub step_answer : View → ℕ → ℕ → ℕ → ℕ → Result Entered Refusal
   step_answer s n t a b =
       let r = stepped s n t a b in
-      unless_refused (step_whole_check s n t a b) StepAnswer'.Refused (StepAnswer'.Done r.place (length r.list))
+      unless_refused (step_whole_check s n t a b) Err (Ok (record { place = r.place; count = length r.list }))
 
   -- the list with the appended record, if there is one; the words behind it stay
   unfoldable pub step_store : List ℕ → ℕ → ℕ → ℕ → ℕ → List ℕ
@@ -56,12 +54,10 @@ module _ (field : Field) where
   build_check s n root result_room map_words = list_check field.bounds s n root then build_stores n result_room map_words
 
   -- the count, and the place that the root's request got
-  unfoldable pub build_answer : View → ℕ → ℕ → ℕ → ℕ → BuildAnswer
+  unfoldable pub build_answer : View → ℕ → ℕ → ℕ → ℕ → Result BuiltDag Refusal
   build_answer s n root result_room map_words =
       let r = replay field.elements (nodes s n) n in
-      unless_refused (build_check s n root result_room map_words)
-      (λ c. record { checked = Refused c; count = 0; roots = roots_from [] })
-      (record { checked = Good; count = length r.list; roots = roots_from (place_of r root ∷ []) })
+      unless_refused (build_check s n root result_room map_words) Err (Ok (record { count = length r.list; roots = roots_from (place_of r root ∷ []) }))
 
   -- the list built, blanks behind it
   unfoldable pub build_result : View → ℕ → ℕ → List ℕ → ℕ → List ℕ

@@ -1,33 +1,58 @@
 -- What the builder's functions ask and say of their stores.
-use Rattle.std.specs.Prelude.{ℕ, ◌+◌, ◌<◌, ◌≤◌, true, List, [], ◌∷◌, ◌++◌, ◌≡◌, length, get_or, take}
+use Rattle.std.specs.Prelude.{ℕ, ◌+◌, ◌<◌, ◌≤◌, true, cond, ◌&&◌, eqb, Option, Some, None, Result, Ok, Err, List, [], ◌∷◌, ◌++◌, ◌≡◌, length, get_or, take}
 use mathlib.Core.List as Lists
 use Rattle.field.specs.Fields.{Field, Low}
+use Rattle.field.specs.declared.Prime.{Prime}
+use Rattle.field.specs.declared.QuadFelt.{QuadFelt}
 use Rattle.dag.specs.Store.{Sound, written, stored}
 use Rattle.dag.specs.Refusals.{unless_refused}
 use Rattle.dag.specs.View.{View, interleaved}
-use Rattle.dag.specs.Nodes.{nodes, most_records, filled}
+use Rattle.dag.specs.Nodes.{first, second, nodes, most_records, filled}
 use Rattle.dag.specs.Lookup.{lookup}
 use Rattle.dag.specs.Roots.{roots_of, roots_from, Inside}
 use Rattle.dag.specs.WellFormed.{Fine}
 use Rattle.index.specs.Index.{half, NodeIndex}
 use Rattle.dag.specs.declared.NodeKind.{NodeKind}
+use Rattle.dag.specs.declared.NodeKind.TheVariants.{Add, Mul}
 use Rattle.dag.specs.declared.Roots.{Roots}
-use Rattle.dag.specs.declared.Checked.TheVariants.{Good}
-use Rattle.dag.specs.declared.Found.{Found}
-use Rattle.dag.specs.declared.Found.TheVariants.{At, Missing}
-use Rattle.builder.specs.Steps.{is_constant, element, outcome, Built, step, Replay, place_of}
+use Rattle.dag.specs.declared.Refusal.{Refusal}
+use Rattle.builder.specs.Steps.{is_constant, is_add, is_sub, element, outcome, Built, step, Replay, place_of}
 use Rattle.builder.specs.Calls.{step_room_check}
 use Rattle.builder.specs.declared.Outcome.{Outcome}
 use Rattle.builder.specs.declared.Outcome.TheVariants.{Place, Node}
+use Rattle.builder.specs.declared.AssociativeOp.{AssociativeOp}
+use Rattle.builder.specs.declared.DagBuilder.{DagBuilder}
 use Rattle.builder.specs.declared.Entered.{Entered}
-use Rattle.builder.specs.declared.StepAnswer.{StepAnswer}
-use Rattle.builder.specs.declared.StepAnswer.TheVariants as StepAnswer'
-use Rattle.builder.specs.declared.BuildAnswer.{BuildAnswer}
+use Rattle.builder.specs.declared.BuiltDag.{BuiltDag}
+
+-- the operation that a name stands for
+abbrev pub operation : AssociativeOp → ℕ → ℕ → NodeKind
+operation AssociativeOp.Add a b = Add a b
+operation AssociativeOp.Mul a b = Mul a b
+
+-- the elements of two constants
+abbrev pub constants : NodeKind → NodeKind → Option (QuadFelt × QuadFelt)
+constants x y = cond (is_constant x && is_constant y) (Some (element x, element y)) None
+
+-- what is left of a sum with a difference that takes its other operand away
+abbrev pub cancel_add : NodeKind → NodeKind → ℕ → ℕ → Option ℕ
+cancel_add x y a b =
+    cond (is_sub x && eqb (second x) b) (Some (first x))
+    (cond (is_sub y && eqb (second y) a) (Some (first y))
+    None)
+
+-- what is left of a difference that takes away what a sum added, or leaves what a difference took away
+abbrev pub cancel_sub : NodeKind → NodeKind → ℕ → ℕ → Option ℕ
+cancel_sub x y a b =
+    cond (is_add x && eqb (first x) b) (Some (second x))
+    (cond (is_add x && eqb (second x) b) (Some (first x))
+    (cond (is_sub y && eqb (first y) a) (Some (second y))
+    None))
 
 -- a search's answer: a place, or x that is new
-abbrev pub new_unless : NodeKind → Found → Outcome
-new_unless x (At i) = Place i
-new_unless x Missing = Node x
+abbrev pub new_unless : NodeKind → Option ℕ → Outcome
+new_unless x (Some i) = Place i
+new_unless x None = Node x
 
 -- the place of x among the first n records, or x where it is new
 unfoldable pub found_or_new : List NodeKind → ℕ → NodeKind → Outcome
@@ -44,8 +69,8 @@ appended l (Place i) = record { list = l; place = i }
 appended l (Node y) = record { list = l ++ (y ∷ []); place = length l }
 
 -- an answer and a store, by the list and the place that a request comes to
-pub record Stepped (s : List ℕ) (n : ℕ) (b : Built) (r : StepAnswer) (after : List ℕ) : Type 0 where
-  pub answer : r ≡ unless_refused (step_room_check (interleaved s) n b) StepAnswer'.Refused (StepAnswer'.Done b.place (length b.list))
+pub record Stepped (s : List ℕ) (n : ℕ) (b : Built) (r : Result Entered Refusal) (after : List ℕ) : Type 0 where
+  pub answer : r ≡ unless_refused (step_room_check (interleaved s) n b) Err (Ok (record { place = b.place; count = length b.list }))
   pub store : after ≡ unless_refused (step_room_check (interleaved s) n b) (λ _. s) (written s b.list)
 
 -- a store of n records and its index, with room for one record more
@@ -59,8 +84,8 @@ abbrev pub read : List ℕ → ℕ → ℕ
 read map j = get_or map j 0
 
 -- the answer and the stores of a replay r
-pub record Finished (r : Replay) (roots : Roots) (result map : List ℕ) (a : BuildAnswer) (after places : List ℕ) : Type 0 where
-  pub answer : a ≡ record { checked = Good; count = length r.list; roots = roots_from (Lists.map (place_of r) (roots_of roots)) }
+pub record Finished (r : Replay) (roots : Roots) (result map : List ℕ) (a : BuiltDag) (after places : List ℕ) : Type 0 where
+  pub answer : a ≡ record { count = length r.list; roots = roots_from (Lists.map (place_of r) (roots_of roots)) }
   pub list_is : after ≡ stored result r.list
   pub places_are : places ≡ filled (length map) r.map
 
@@ -115,3 +140,19 @@ module _ (field : Field) where
     pub map_room : n ≤ map_words
     pub inside : Inside n roots
     pub most : n ≤ most_records
+
+-- a list that is built, over the same stores as before
+pub record SameStores (before after : DagBuilder) : Type 0 where
+  pub prime : after.prime ≡ before.prime
+  pub list : after.list.ghost_name ≡ before.list.ghost_name
+  pub links : after.links.ghost_name ≡ before.links.ghost_name
+  pub list_words : length after.list.now ≡ length before.list.now
+  pub link_words : length after.links.now ≡ length before.links.now
+
+-- an empty list that is built, over stores that were `list` and `links`
+pub record Empty (prime : Prime) (list links : List ℕ) (b : DagBuilder) : Type 0 where
+  pub prime_is : b.prime ≡ prime
+  pub list_is : b.list.now ≡ list
+  pub none : b.count ≡ 0
+  pub index : NodeIndex [] b.links.now
+  pub link_words : length b.links.now ≡ length links

@@ -1,7 +1,7 @@
 -- Requests on a store: what each kind asks of its operands, what it comes to, and what entering it leaves.
-use Rattle.std.specs.Prelude.{ℕ, ◌+◌, ◌<◌, List, [], ◌∷◌, ◌++◌, ◌≡◌, length}
+use Rattle.std.specs.Prelude.{Option, Some, None, ℕ, ◌+◌, ◌<◌, ◌⊎◌, List, [], ◌∷◌, ◌++◌, ◌≡◌, length}
 use Rattle.std.proofs.Math.Path.{refl, ap}
-use Rattle.std.proofs.Common.{sym, ◌∙◌, subst, add-one, arith}
+use Rattle.std.proofs.Common.{inl, inr, sym, ◌∙◌, subst, add-one, arith}
 use Rattle.field.specs.Fields.{Field, Low, element_laws}
 use Rattle.field.specs.declared.QuadFelt.{QuadFelt}
 use Rattle.dag.specs.View.{View, interleaved}
@@ -13,8 +13,6 @@ use Rattle.dag.specs.StoreLaws.{length_put, nodes_put, sound_put}
 use Rattle.dag.specs.WellFormed.{Fine}
 use Rattle.dag.specs.declared.NodeKind.{NodeKind}
 use Rattle.dag.specs.declared.NodeKind.TheVariants.{Input, Constant, Add, Sub, Mul, Neg}
-use Rattle.dag.specs.declared.Found.{Found}
-use Rattle.dag.specs.declared.Found.TheVariants.{At, Missing}
 use Rattle.index.specs.Index.{half, noted, node_bucket}
 use Rattle.index.specs.NodeIndexLaws.{index_more}
 use Rattle.builder.specs.Steps.{outcome, mul_outcome, neg_outcome, add_outcome, sub_outcome, interned, intern, enter, step}
@@ -25,15 +23,15 @@ use Rattle.builder.specs.declared.Outcome.{Outcome}
 use Rattle.builder.specs.declared.Outcome.TheVariants.{Place, Node}
 
 -- the step's list and place, by what was resolved
-interned_appended : (l : List NodeKind) (y : NodeKind) (f : Found) → interned l y f ≡ appended l (new_unless y f)
+interned_appended : (l : List NodeKind) (y : NodeKind) (f : Option ℕ) → interned l y f ≡ appended l (new_unless y f)
 unfolding interned
-interned_appended l y (At i) = refl
-interned_appended l y Missing = refl
+interned_appended l y (Some i) = refl
+interned_appended l y None = refl
 
 -- what a search says of a record that is interned
-pub intern_found : (s : View) (n : ℕ) (y : NodeKind) (f q : Found) → f ≡ lookup (nodes s n) y n → f ≡ q → intern (nodes s n) y ≡ appended (nodes s n) (new_unless y q)
+pub intern_found : (s : View) (n : ℕ) (y : NodeKind) (f : Option ℕ) → f ≡ lookup (nodes s n) y n → intern (nodes s n) y ≡ appended (nodes s n) (new_unless y f)
 unfolding intern
-intern_found s n y f q e h = rw (length_nodes s n, ← e, h) (interned_appended (nodes s n) y q)
+intern_found s n y f e = rw (length_nodes s n, ← e) (interned_appended (nodes s n) y f)
 
 entered_appended : (l : List NodeKind) (n : ℕ) → n ≡ length l → (o : Outcome) → enter l o ≡ appended l (searched l n o)
 unfolding enter intern found_or_new
@@ -41,9 +39,9 @@ entered_appended l n e (Place i) = refl
 entered_appended l n e (Node y) = rw e (interned_appended l y (lookup l y (length l)))
 
 -- what is resolved may stand at the list's end
-new_unless_fine : (n : ℕ) (y : NodeKind) (f : Found) (z : NodeKind) → new_unless y f ≡ Node z → y ≡ z
-new_unless_fine n y (At i) z e = let q : ◌≡◌ {A = ℕ} 0 1 = cc in absurd (omega arith)
-new_unless_fine n y Missing z e = cc
+new_unless_fine : (n : ℕ) (y : NodeKind) (f : Option ℕ) (z : NodeKind) → new_unless y f ≡ Node z → y ≡ z
+new_unless_fine n y (Some i) z e = let q : ◌≡◌ {A = ℕ} 0 1 = cc in absurd (omega arith)
+new_unless_fine n y None z e = cc
 
 searched_node : (l : List NodeKind) (n : ℕ) (o : Outcome) (z : NodeKind) → searched l n o ≡ Node z → o ≡ Node z
 unfolding found_or_new
@@ -77,13 +75,10 @@ module _ (field : Field) where
     is_outcome : (y : NodeKind) (o : Outcome) → x ≡ y → o ≡ outcome field.elements (nodes s n) y → o ≡ outcome field.elements (nodes s n) x
     is_outcome y o e h = rw e h
 
-    pub input_outcome : (k : ℕ) → x ≡ Input k → Node (Input k) ≡ outcome field.elements (nodes s n) x
+    pub leaf_outcome : ((k : ℕ) × (x ≡ Input k)) ⊎ ((v : QuadFelt) × (x ≡ Constant v)) → Node x ≡ outcome field.elements (nodes s n) x
     unfolding outcome
-    input_outcome k e = is_outcome (Input k) (Node (Input k)) e refl
-
-    pub constant_outcome : (v : QuadFelt) → x ≡ Constant v → Node (Constant v) ≡ outcome field.elements (nodes s n) x
-    unfolding outcome
-    constant_outcome v e = is_outcome (Constant v) (Node (Constant v)) e refl
+    leaf_outcome (inl p) = rw p.1
+    leaf_outcome (inr p) = rw p.1
 
     pub add_outcome_lem : (a b : ℕ) (o : Outcome) → x ≡ Add a b → o ≡ add_outcome field.elements (nodes s n) a b → o ≡ outcome field.elements (nodes s n) x
     unfolding outcome
@@ -103,19 +98,6 @@ module _ (field : Field) where
     pub neg_outcome_lem : (a : ℕ) (y : NodeKind) (o : Outcome) → x ≡ Neg a → y ≡ record_at s a → o ≡ neg_outcome field.elements y a → o ≡ outcome field.elements (nodes s n) x
     unfolding outcome
     neg_outcome_lem a y o e ey h = is_outcome (Neg a) o e (rw (at_nodes s n a (asks_neg a e), ← ey) h)
-
-  -- the search made, by what the outcome and the search said
-  pub resolved_place : (l : List NodeKind) (n : ℕ) (x : NodeKind) (o : Outcome) (i : ℕ) → o ≡ outcome field.elements l x → o ≡ Place i → Place i ≡ resolved field l n x
-  unfolding resolved
-  resolved_place l n x o i e h = ap (searched l n) (sym h ∙ e)
-
-  resolved_node : (l : List NodeKind) (n : ℕ) (x : NodeKind) (o : Outcome) (y : NodeKind) (r : Outcome) → o ≡ outcome field.elements l x → o ≡ Node y → r ≡ found_or_new l n y → r ≡ resolved field l n x
-  unfolding resolved
-  resolved_node l n x o y r e h k = k ∙ ap (searched l n) (sym h ∙ e)
-
-  pub resolved_found : (l : List NodeKind) (n : ℕ) (x : NodeKind) (o : Outcome) (y : NodeKind) (f : Found) (r : Outcome) → o ≡ outcome field.elements l x → o ≡ Node y → f ≡ lookup l y n → r ≡ new_unless y f → r ≡ resolved field l n x
-  unfolding found_or_new
-  resolved_found l n x o y f r e h k q = resolved_node l n x o y r e h (q ∙ ap (new_unless y) k)
 
   pub step_appended : (s : View) (n : ℕ) (x : NodeKind) → step field.elements (nodes s n) x ≡ appended (nodes s n) (resolved field (nodes s n) n x)
   unfolding step resolved

@@ -1,5 +1,5 @@
 -- Steps on well-formed lists, over any ring: what they answer may stand in the list, and the chain of hand-overs ends.
-use Rattle.std.specs.Prelude.{ℕ, zero, suc, ◌+◌, ◌<◌, ◌≤◌, true, List, [], ◌∷◌, ◌++◌, ◌≡◌, ◌⊎◌, length}
+use Rattle.std.specs.Prelude.{Option, Some, None, ℕ, zero, suc, ◌+◌, ◌<◌, ◌≤◌, true, List, [], ◌∷◌, ◌++◌, ◌≡◌, ◌⊎◌, length}
 use Rattle.std.proofs.Math.Path.{refl, subst}
 use Rattle.std.proofs.Common.{inl, arith}
 use Rattle.std.proofs.Math.Logic.{inr}
@@ -13,8 +13,6 @@ use Rattle.dag.specs.WellFormed.{Fine, WellFormed}
 use Rattle.dag.specs.WellFormedLaws.{well_formed_snoc}
 use Rattle.dag.specs.declared.NodeKind.{NodeKind}
 use Rattle.dag.specs.declared.NodeKind.TheVariants.{Input, Constant, Add, Sub, Mul, Neg}
-use Rattle.dag.specs.declared.Found.{Found}
-use Rattle.dag.specs.declared.Found.TheVariants.{At, Missing}
 use Rattle.builder.specs.Steps.{is_add, is_sub, is_neg, element, add_rule, sub_rule, mul_outcome, neg_outcome, follow, add_within, sub_within, add_outcome, sub_outcome, outcome, Built, interned, intern, enter, step}
 use Rattle.builder.specs.RuleLaws.{add_is, sub_is, neg_is, low_first_lem, add_cases, sub_cases, mul_cases, neg_cases}
 use Rattle.builder.specs.declared.Rule.{Rule}
@@ -181,10 +179,10 @@ module _ (Low : QuadFelt → Type 0) (l : List NodeKind) (w : WellFormed Low l) 
   stays : (i : ℕ) → i < length l → Grown Low l (record { list = l; place = i })
   stays i h = record { well_formed = w; inside = h; grows = inl refl; longer = omega arith; by_one = omega arith }
 
-  pub interned_grown : (x : NodeKind) (f : Found) → Fine Low (length l) x → Says l x (length l) f → Grown Low l (interned l x f)
+  pub interned_grown : (x : NodeKind) (f : Option ℕ) → Fine Low (length l) x → Says l x (length l) f → Grown Low l (interned l x f)
   unfolding interned
-  interned_grown x (At i) f s = stays i s.0
-  interned_grown x Missing f s =
+  interned_grown x (Some i) f s = stays i s.0
+  interned_grown x None f s =
       record {
         well_formed = well_formed_snoc Low l x w f;
         inside = omega (arith, length_snoc l x);

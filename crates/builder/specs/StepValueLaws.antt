@@ -1,5 +1,5 @@
 -- What a step's answer is worth: the operation on its operands' values, over any ring and any element given to each key.
-use Rattle.std.specs.Prelude.{ℕ, zero, suc, ◌+◌, ◌<◌, true, List, ◌≡◌, ◌⊎◌, length}
+use Rattle.std.specs.Prelude.{Option, Some, None, ℕ, zero, suc, ◌+◌, ◌<◌, true, List, ◌≡◌, ◌⊎◌, length}
 use Rattle.std.proofs.Math.Path.{refl, ap, ap₂}
 use Rattle.std.proofs.Common.{sym, ◌∙◌, inl, inr}
 use Rattle.ring.specs.Ring.{Ops, Laws}
@@ -11,8 +11,6 @@ use Rattle.dag.specs.LookupLaws.{Says, lookup_says}
 use Rattle.dag.specs.WellFormed.{Fine, WellFormed}
 use Rattle.dag.specs.declared.NodeKind.{NodeKind}
 use Rattle.dag.specs.declared.NodeKind.TheVariants.{Input, Constant, Add, Sub, Mul, Neg}
-use Rattle.dag.specs.declared.Found.{Found}
-use Rattle.dag.specs.declared.Found.TheVariants.{At, Missing}
 use Rattle.meaning.specs.Values.{value_of, value}
 use Rattle.meaning.specs.ValueLaws.{value_at, value_snoc, value_last, value_low}
 use Rattle.builder.specs.Steps.{is_constant, is_add, is_sub, is_neg, is_the, element, add_rule, sub_rule, mul_outcome, neg_outcome, follow, add_within, sub_within, add_outcome, sub_outcome, outcome, Built, interned, intern, enter, step}
@@ -158,11 +156,11 @@ pub record Worth (F : Ops QuadFelt) (given : ℕ → QuadFelt) (l : List NodeKin
   pub worth : value F given b.list b.place ≡ z
 
 module _ (F : Ops QuadFelt) (given : ℕ → QuadFelt) (Low : QuadFelt → Type 0) (l : List NodeKind) (w : WellFormed Low l) where
-  interned_worth : (x : NodeKind) (f : Found) → Says l x (length l) f → Worth F given l (interned l x f) (value_of F given (value F given l) x)
+  interned_worth : (x : NodeKind) (f : Option ℕ) → Says l x (length l) f → Worth F given l (interned l x f) (value_of F given (value F given l) x)
   unfolding interned
-  interned_worth x (At i) s =
+  interned_worth x (Some i) s =
       record { keeps = λ j h. refl; worth = value_at F given Low l w i s.0 ∙ ap (value_of F given (value F given l)) s.1 }
-  interned_worth x Missing s = record { keeps = value_snoc F given l x; worth = value_last F given l x }
+  interned_worth x None s = record { keeps = value_snoc F given l x; worth = value_last F given l x }
 
   pub enter_worth : (o : Outcome) → Worth F given l (enter l o) (outcome_value F given (value F given l) o)
   unfolding enter intern

@@ -1,5 +1,5 @@
--- The steps (document 01, 'Steps'; `DagBuilder` of builder.rs) on decoded lists, over any ring.
-use Rattle.std.specs.Prelude.{ℕ, zero, suc, ◌+◌, Bool, cond, not, ◌&&◌, ◌||◌, List, [], ◌∷◌, ◌++◌, leb, eqb, get_or, length}
+-- The steps (`DagBuilder` of builder.rs) on decoded lists, over any ring.
+use Rattle.std.specs.Prelude.{ℕ, zero, suc, ◌+◌, Bool, cond, not, ◌&&◌, ◌||◌, Option, Some, None, List, [], ◌∷◌, ◌++◌, leb, eqb, get_or, length}
 use Rattle.ring.specs.Ring.{Ops}
 use Rattle.field.specs.Field.{same}
 use Rattle.field.specs.declared.QuadFelt.{QuadFelt}
@@ -7,8 +7,6 @@ use Rattle.dag.specs.Nodes.{tag, first, second, at, rename}
 use Rattle.dag.specs.Lookup.{lookup}
 use Rattle.dag.specs.declared.NodeKind.{NodeKind}
 use Rattle.dag.specs.declared.NodeKind.TheVariants.{Input, Constant, Add, Sub, Mul, Neg}
-use Rattle.dag.specs.declared.Found.{Found}
-use Rattle.dag.specs.declared.Found.TheVariants.{At, Missing}
 use Rattle.builder.specs.declared.Rule.{Rule}
 use Rattle.builder.specs.declared.Rule.TheVariants.{Use, Make, HandOver}
 use Rattle.builder.specs.declared.Outcome.{Outcome}
@@ -118,9 +116,9 @@ pub record Built : Type 0 where
   pub place : ℕ
 
 -- the record x where the search for it said so: at its greatest place, else appended
-unfoldable pub interned : List NodeKind → NodeKind → Found → Built
-interned l x (At i) = record { list = l; place = i }
-interned l x Missing = record { list = l ++ (x ∷ []); place = length l }
+unfoldable pub interned : List NodeKind → NodeKind → Option ℕ → Built
+interned l x (Some i) = record { list = l; place = i }
+interned l x None = record { list = l ++ (x ∷ []); place = length l }
 
 unfoldable pub intern : List NodeKind → NodeKind → Built
 intern l x = interned l x (lookup l x (length l))

@@ -1,7 +1,7 @@
 // builder.rs: what a request comes to, interning, Step and Build.
 #![tactic(auto)]
 
-ghost use Rattle.std.specs.Prelude.{◌≡◌, ◌&&◌, not, ◌<◌, ◌≤◌, eqb, length};
+ghost use Rattle.std.specs.Prelude.{◌≡◌, ◌/◌, ◌<◌, ◌≤◌, length};
 ghost use Rattle.field.specs.Fields.{field_of};
 ghost use Rattle.field.specs.Field.{elements};
 ghost use Rattle.dag.specs.View.{interleaved};
@@ -12,20 +12,14 @@ ghost use Rattle.builder.specs.Steps as Steps;
 ghost use Rattle.builder.specs.Promises as Promises;
 ghost use Rattle.builder.specs.Calls as Calls;
 
-use dag::{Checked, Found, NodeKind, Refusal, Roots};
+use dag::{NodeKind, Refusal, Roots, Words};
 use field::{Prime, QuadFelt};
 
-// A constant's tag.
-const CONSTANT: u64 = 1;
+// The links of a short list's index.
+const FEW_LINKS: usize = 2 * dag::FEW_RECORDS;
 
-// A sum's tag.
-const ADD: u64 = 2;
-
-// A difference's tag.
-const SUB: u64 = 3;
-
-// A negation's tag.
-const NEG: u64 = 5;
+// The links of the longest list's index.
+const MOST_LINKS: usize = 2 * dag::MOST_RECORDS;
 
 // What a rule of a step says: a place, a record to intern, or operands handed to the other of add and sub.
 #[derive(Clone, Copy)]
@@ -49,205 +43,161 @@ pub struct Entered {
     pub count: usize,
 }
 
-// Step's answer.
+// A list that is built: its count and its roots.
 #[derive(Clone, Copy)]
-pub enum StepAnswer {
-    Done { place: usize, count: usize },
-    Refused(Refusal),
-}
-
-// Build's answer.
-#[derive(Clone, Copy)]
-pub struct BuildAnswer {
-    pub checked: Checked,
+pub struct BuiltDag {
     pub count: usize,
     pub roots: Roots,
 }
 
-// A constant's element.
-fn element(x: NodeKind) -> QuadFelt
-    ensures { result ≡ Steps.element x }
+// The operations whose operands may be swapped.
+#[derive(Clone, Copy)]
+pub enum AssociativeOp {
+    Add,
+    Mul,
+}
+
+// The record of an operation on places a and b, lower place first.
+#[tactic(auto, unfolding(crate::specs::Steps::low_first))]
+pub fn canonical(op: AssociativeOp, a: usize, b: usize) -> NodeKind
+    ensures { result ≡ Steps.low_first (Promises.operation op) a b }
 {
-    QuadFelt {
-        c0: dag::first_of(x),
-        c1: dag::second_of(x),
+    let (low, high) = if a <= b { (a, b) } else { (b, a) };
+    match op {
+        AssociativeOp::Add => NodeKind::Add(low, high),
+        AssociativeOp::Mul => NodeKind::Mul(low, high),
     }
 }
 
-// Whether x has this tag.
-fn has_tag(x: NodeKind, t: u64) -> bool
-    ensures { result ≡ eqb (Nodes.tag x) t }
+// The elements of two constants.
+#[tactic(auto, unfolding(crate::specs::Steps::is_constant, crate::specs::Steps::element))]
+fn constants(x: NodeKind, y: NodeKind) -> Option<(QuadFelt, QuadFelt)>
+    ensures { result ≡ Promises.constants x y }
 {
-    dag::tag_of(x) == t
-}
-
-// Whether x and y are constants.
-fn both_constant(x: NodeKind, y: NodeKind) -> bool
-    ensures { result ≡ (Steps.is_constant x && Steps.is_constant y) }
-{
-    if has_tag(x, CONSTANT) {
-        has_tag(y, CONSTANT)
-    } else {
-        false
+    match (x, y) {
+        (NodeKind::Constant(c), NodeKind::Constant(d)) => Some((c, d)),
+        _ => None,
     }
 }
 
-// Whether x is the constant c.
-fn is_the(c: QuadFelt, x: NodeKind) -> bool
-    ensures { result ≡ Steps.is_the c x }
+// What is left of a sum with a difference that takes its other operand away.
+#[tactic(auto, unfolding(crate::specs::Steps::is_sub))]
+fn cancel_add(x: NodeKind, y: NodeKind, a: usize, b: usize) -> Option<usize>
+    ensures { result ≡ Promises.cancel_add x y a b }
 {
-    if has_tag(x, CONSTANT) {
-        element(x).same(c)
-    } else {
-        false
+    if let NodeKind::Sub(left, right) = x
+        && right == b
+    {
+        return Some(left);
     }
+    if let NodeKind::Sub(left, right) = y
+        && right == a
+    {
+        return Some(left);
+    }
+    None
 }
 
-// Whether x has tag t and first operand a.
-fn with_first(x: NodeKind, t: u64, a: usize) -> bool
-    ensures { result ≡ (eqb (Nodes.tag x) t && eqb (Nodes.first x) a) }
+// What is left of a difference that takes away what a sum added, or leaves what a difference took away.
+#[tactic(auto, unfolding(crate::specs::Steps::is_sub, crate::specs::Steps::is_add))]
+fn cancel_sub(x: NodeKind, y: NodeKind, a: usize, b: usize) -> Option<usize>
+    ensures { result ≡ Promises.cancel_sub x y a b }
 {
-    if has_tag(x, t) {
-        dag::first_of(x) == a as u64
-    } else {
-        false
+    if let NodeKind::Add(left, right) = x {
+        if left == b {
+            return Some(right);
+        }
+        if right == b {
+            return Some(left);
+        }
     }
-}
-
-// Whether x has tag t and second operand b.
-fn with_second(x: NodeKind, t: u64, b: usize) -> bool
-    ensures { result ≡ (eqb (Nodes.tag x) t && eqb (Nodes.second x) b) }
-{
-    if has_tag(x, t) {
-        dag::second_of(x) == b as u64
-    } else {
-        false
-    }
-}
-
-// Whether of x and y only x is a negation.
-fn only_neg(x: NodeKind, y: NodeKind) -> bool
-    ensures { result ≡ (Steps.is_neg x && not (Steps.is_neg y)) }
-{
-    if has_tag(x, NEG) {
-        !has_tag(y, NEG)
-    } else {
-        false
-    }
-}
-
-// The places a and b as operands of a sum, lower place first.
-pub fn low_add(a: usize, b: usize) -> NodeKind
-    ensures { result ≡ Steps.low_first NodeKind.Add a b }
-{
-    if a <= b {
-        NodeKind::Add(a, b)
-    } else {
-        NodeKind::Add(b, a)
-    }
-}
-
-// The places a and b as operands of a product, lower place first.
-pub fn low_mul(a: usize, b: usize) -> NodeKind
-    ensures { result ≡ Steps.low_first NodeKind.Mul a b }
-{
-    if a <= b {
-        NodeKind::Mul(a, b)
-    } else {
-        NodeKind::Mul(b, a)
+    match y {
+        NodeKind::Sub(left, right) if left == a => Some(right),
+        _ => None,
     }
 }
 
 // add(a, b), where places a and b hold x and y.
+#[tactic(auto, using(crate::proofs::Rules::add_rules), unfolding(crate::specs::Steps::is_neg, field::specs::Field::elements))]
 fn add_rule(prime: Prime, x: NodeKind, y: NodeKind, a: usize, b: usize) -> Rule
     requires { Promises.ConstantsBelow (field_of prime) x y }
     ensures { result ≡ Steps.add_rule (elements prime) x y a b }
 {
-    if both_constant(x, y) {
-        return Rule::Make(NodeKind::Constant(element(x).add(prime, element(y))));
+    if let Some((c, d)) = constants(x, y) {
+        return Rule::Make(NodeKind::Constant(c.add(prime, d)));
     }
-    if is_the(QuadFelt::ZERO, x) {
+    if x == NodeKind::Constant(QuadFelt::ZERO) {
         return Rule::Use(b);
     }
-    if is_the(QuadFelt::ZERO, y) {
+    if y == NodeKind::Constant(QuadFelt::ZERO) {
         return Rule::Use(a);
     }
-    if with_second(x, SUB, b) {
-        return Rule::Use(dag::first_of(x) as usize);
+    if let Some(i) = cancel_add(x, y, a, b) {
+        return Rule::Use(i);
     }
-    if with_second(y, SUB, a) {
-        return Rule::Use(dag::first_of(y) as usize);
+    match (x, y) {
+        (NodeKind::Neg(_), NodeKind::Neg(_)) => Rule::Make(canonical(AssociativeOp::Add, a, b)),
+        (NodeKind::Neg(c), _) => Rule::HandOver(b, c),
+        (_, NodeKind::Neg(d)) => Rule::HandOver(a, d),
+        _ => Rule::Make(canonical(AssociativeOp::Add, a, b)),
     }
-    if only_neg(x, y) {
-        return Rule::HandOver(b, dag::first_of(x) as usize);
-    }
-    if only_neg(y, x) {
-        return Rule::HandOver(a, dag::first_of(y) as usize);
-    }
-    Rule::Make(low_add(a, b))
 }
 
 // sub(a, b), where places a and b hold x and y.
+#[tactic(auto, using(crate::proofs::Rules::sub_rules), unfolding(crate::specs::Steps::is_neg, field::specs::Field::elements))]
 fn sub_rule(prime: Prime, x: NodeKind, y: NodeKind, a: usize, b: usize) -> Rule
     requires { Promises.ConstantsBelow (field_of prime) x y }
     ensures { result ≡ Steps.sub_rule (elements prime) x y a b }
 {
-    if both_constant(x, y) {
-        return Rule::Make(NodeKind::Constant(element(x).sub(prime, element(y))));
+    if let Some((c, d)) = constants(x, y) {
+        return Rule::Make(NodeKind::Constant(c.sub(prime, d)));
     }
-    if is_the(QuadFelt::ZERO, y) {
+    if y == NodeKind::Constant(QuadFelt::ZERO) {
         return Rule::Use(a);
     }
     if a == b {
         return Rule::Make(NodeKind::Constant(QuadFelt::ZERO));
     }
-    if with_first(x, ADD, b) {
-        return Rule::Use(dag::second_of(x) as usize);
+    if let Some(i) = cancel_sub(x, y, a, b) {
+        return Rule::Use(i);
     }
-    if with_second(x, ADD, b) {
-        return Rule::Use(dag::first_of(x) as usize);
+    match y {
+        NodeKind::Neg(d) => Rule::HandOver(a, d),
+        _ => Rule::Make(NodeKind::Sub(a, b)),
     }
-    if with_first(y, SUB, a) {
-        return Rule::Use(dag::second_of(y) as usize);
-    }
-    if has_tag(y, NEG) {
-        return Rule::HandOver(a, dag::first_of(y) as usize);
-    }
-    Rule::Make(NodeKind::Sub(a, b))
 }
 
 // mul(a, b), where places a and b hold x and y.
+#[tactic(auto, using(crate::proofs::Rules::mul_rules), unfolding(field::specs::Field::elements))]
 fn mul_outcome(prime: Prime, x: NodeKind, y: NodeKind, a: usize, b: usize) -> Outcome
     requires { Promises.ConstantsBelow (field_of prime) x y }
     ensures { result ≡ Steps.mul_outcome (elements prime) x y a b }
 {
-    if both_constant(x, y) {
-        return Outcome::Node(NodeKind::Constant(element(x).mul(prime, element(y))));
+    if let Some((c, d)) = constants(x, y) {
+        return Outcome::Node(NodeKind::Constant(c.mul(prime, d)));
     }
-    if is_the(QuadFelt::ZERO, x) {
+    if x == NodeKind::Constant(QuadFelt::ZERO) || y == NodeKind::Constant(QuadFelt::ZERO) {
         return Outcome::Node(NodeKind::Constant(QuadFelt::ZERO));
     }
-    if is_the(QuadFelt::ZERO, y) {
-        return Outcome::Node(NodeKind::Constant(QuadFelt::ZERO));
-    }
-    if is_the(QuadFelt::ONE, x) {
+    if x == NodeKind::Constant(QuadFelt::ONE) {
         return Outcome::Place(b);
     }
-    if is_the(QuadFelt::ONE, y) {
+    if y == NodeKind::Constant(QuadFelt::ONE) {
         return Outcome::Place(a);
     }
-    Outcome::Node(low_mul(a, b))
+    Outcome::Node(canonical(AssociativeOp::Mul, a, b))
 }
 
 // neg(a), where place a holds x.
+#[tactic(auto, unfolding(crate::specs::Steps::neg_outcome, crate::specs::Steps::is_constant, crate::specs::Steps::element))]
 fn neg_outcome(prime: Prime, x: NodeKind, a: usize) -> Outcome
     requires { Promises.ConstantBelow (field_of prime) x }
     ensures { result ≡ Steps.neg_outcome (elements prime) x a }
 {
-    if has_tag(x, CONSTANT) {
-        return Outcome::Node(NodeKind::Constant(element(x).neg(prime)));
+    match x {
+        NodeKind::Constant(c) => Outcome::Node(NodeKind::Constant(c.neg(prime))),
+        _ => Outcome::Node(NodeKind::Neg(a)),
     }
-    Outcome::Node(NodeKind::Neg(a))
 }
 
 // What add(a, b) on the first n records comes to.
@@ -284,8 +234,7 @@ fn request_outcome(prime: Prime, list: &[u64], n: usize, x: NodeKind) -> Outcome
     ensures { result ≡ Steps.outcome (elements prime) (Nodes.nodes (interleaved list.now) n) x }
 {
     match x {
-        NodeKind::Input(k) => Outcome::Node(NodeKind::Input(k)),
-        NodeKind::Constant(v) => Outcome::Node(NodeKind::Constant(v)),
+        NodeKind::Input(_) | NodeKind::Constant(_) => Outcome::Node(x),
         NodeKind::Add(a, b) => add_outcome(prime, list, n, a, b),
         NodeKind::Sub(a, b) => sub_outcome(prime, list, n, a, b),
         NodeKind::Mul(a, b) => mul_outcome(
@@ -299,25 +248,18 @@ fn request_outcome(prime: Prime, list: &[u64], n: usize, x: NodeKind) -> Outcome
     }
 }
 
-// A search's answer: a place, or the record itself where it is new.
-fn found_or_new(found: Found, x: NodeKind) -> Outcome
-    ensures { result ≡ Promises.new_unless x found }
-{
-    match found {
-        Found::At(i) => Outcome::Place(i),
-        Found::Missing => Outcome::Node(x),
-    }
-}
-
 // The place of a request's result among the first n records, or the new record that it needs, by the list's index.
+#[tactic(auto, unfolding(crate::specs::Promises::resolved, crate::specs::Promises::found_or_new))]
 pub fn resolve(prime: Prime, list: &[u64], n: usize, links: &[u64], x: NodeKind) -> Outcome
     requires { Promises.Request (field_of prime) (interleaved list.now) n x × NodeIndex (Nodes.nodes (interleaved list.now) n) links.now }
     ensures { result ≡ Promises.resolved (field_of prime) (Nodes.nodes (interleaved list.now) n) n x }
 {
-    let first = request_outcome(prime, list, n, x);
-    match first {
+    match request_outcome(prime, list, n, x) {
         Outcome::Place(i) => Outcome::Place(i),
-        Outcome::Node(y) => found_or_new(index::find(list, n, links, y), y),
+        Outcome::Node(y) => match index::find(list, n, links, y) {
+            Some(i) => Outcome::Place(i),
+            None => Outcome::Node(y),
+        },
     }
 }
 
@@ -326,104 +268,114 @@ pub fn note(links: &mut [u64], n: usize, y: NodeKind)
     requires { Usable links.old × (n < half links.old) }
     ensures { links.new ≡ noted links.old n (node_bucket (half links.old) y) }
 {
-    index::note(
-        links,
-        n,
-        dag::tag_of(y),
-        dag::first_of(y),
-        dag::second_of(y),
-    );
+    index::note(links, n, Words::from(y));
 }
 
-// Enters one request into a list of n records and its index, which have room for one more.
-pub fn push(prime: Prime, list: &mut [u64], n: usize, links: &mut [u64], x: NodeKind) -> Entered
-    requires { Promises.Request (field_of prime) (interleaved list.old) n x × Promises.Room list.old n links.old }
-    ensures { Promises.Noted (field_of prime) list.old n x list.new links.new result }
-{
-    let result = resolve(prime, list, n, links, x);
-    match result {
-        Outcome::Place(i) => Entered { place: i, count: n },
-        Outcome::Node(y) => {
-            dag::put_node(list, n, y);
-            note(links, n, y);
-            Entered {
-                place: n,
-                count: n + 1,
+// A list that is built: its first `count` records, and their index.
+#[derive(Drop)]
+pub struct DagBuilder<'list, 'links> {
+    pub prime: Prime,
+    pub list: &'list mut [u64],
+    pub links: &'links mut [u64],
+    pub count: usize,
+}
+
+impl<'list, 'links> DagBuilder<'list, 'links> {
+    // An empty list.
+    pub fn new(
+        prime: Prime,
+        list: &'list mut [u64],
+        links: &'links mut [u64],
+    ) -> DagBuilder<'list, 'links>
+        requires { Usable links.old }
+        ensures same_list { result.list.ghost_name ≡ list.entry.ghost_name }
+        ensures same_links { result.links.ghost_name ≡ links.entry.ghost_name }
+        ensures empty { Promises.Empty prime list.old links.old result }
+    {
+        index::clear(links);
+        DagBuilder {
+            prime,
+            list,
+            links,
+            count: 0,
+        }
+    }
+
+    // Enters one request; answers its place.
+    pub fn push(&mut self, x: NodeKind) -> usize
+        requires { Promises.Request (field_of self.old.prime) (interleaved self.old.list.now) self.old.count x × Promises.Room self.old.list.now self.old.count self.old.links.now }
+        ensures same { Promises.SameStores self.old self.new }
+        ensures noted { Promises.Noted (field_of self.old.prime) self.old.list.now self.old.count x self.new.list.now self.new.links.now (record { place = result; count = self.new.count }) }
+    {
+        let n = self.count;
+        let list = &mut *self.list;
+        let links = &mut *self.links;
+        match resolve(self.prime, list, n, links, x) {
+            Outcome::Place(i) => i,
+            Outcome::Node(y) => {
+                dag::put_node(list, n, y);
+                note(links, n, y);
+                self.count += 1;
+                n
             }
         }
     }
 }
 
 // Step's tests.
-fn step_check(prime: Prime, list: &[u64], n: usize, tag: u64, first: u64, second: u64) -> Checked
-    ensures { result ≡ Calls.step_check (field_of prime) (interleaved list.now) n tag first second }
+#[tactic(auto, unfolding(crate::specs::Calls::step_check))]
+fn step_check(prime: Prime, list: &[u64], n: usize, words: Words) -> Result<(), Refusal>
+    ensures { result ≡ Calls.step_check (field_of prime) (interleaved list.now) n words.tag words.first words.second }
 {
-    let checked = dag::rootless_check(prime, list, n, 0);
-    if dag::is_refused(checked) {
-        return checked;
-    }
-    dag::record_check(prime, tag, first, second, n)
+    dag::rootless_check(prime, list, n, 0)?;
+    dag::record_check(prime, words, n)
 }
 
 // Appends a new record where there is room.
-fn append(list: &mut [u64], n: usize, y: NodeKind) -> StepAnswer
+fn append(list: &mut [u64], n: usize, y: NodeKind) -> Result<Entered, Refusal>
     requires { Store.Records (interleaved list.old) n × (n ≤ Nodes.most_records) }
     ensures { Promises.Stepped list.old n (Promises.appended (Nodes.nodes (interleaved list.old) n) (Outcome.Node y)) result list.new }
 {
-    if dag::MOST_RECORDS <= n {
-        return StepAnswer::Refused(Refusal::NoRoom);
-    }
-    if dag::room(list) <= n {
-        return StepAnswer::Refused(Refusal::NoRoom);
+    let room = dag::room(list);
+    if dag::MOST_RECORDS <= n || room <= n {
+        return Err(Refusal::NoRoom);
     }
     dag::put_node(list, n, y);
-    StepAnswer::Done {
+    Ok(Entered {
         place: n,
         count: n + 1,
-    }
+    })
 }
 
 // Interns a record by the plain search.
-fn intern(list: &mut [u64], n: usize, y: NodeKind) -> StepAnswer
+fn intern(list: &mut [u64], n: usize, y: NodeKind) -> Result<Entered, Refusal>
     requires { Store.Records (interleaved list.old) n × (n ≤ Nodes.most_records) }
     ensures { Promises.Stepped list.old n (Steps.intern (Nodes.nodes (interleaved list.old) n) y) result list.new }
 {
-    let found = dag::lookup(list, n, y);
-    match found {
-        Found::At(i) => StepAnswer::Done { place: i, count: n },
-        Found::Missing => append(list, n, y),
+    match dag::lookup(list, n, y) {
+        Some(place) => Ok(Entered { place, count: n }),
+        None => append(list, n, y),
     }
 }
 
 // Step past its tests.
-fn enter(prime: Prime, list: &mut [u64], n: usize, x: NodeKind) -> StepAnswer
+fn enter(prime: Prime, list: &mut [u64], n: usize, x: NodeKind) -> Result<Entered, Refusal>
     requires { Promises.Request (field_of prime) (interleaved list.old) n x × (n ≤ Nodes.most_records) }
     ensures { Promises.Stepped list.old n (Steps.step (elements prime) (Nodes.nodes (interleaved list.old) n) x) result list.new }
 {
-    let result = request_outcome(prime, list, n, x);
-    match result {
-        Outcome::Place(i) => StepAnswer::Done { place: i, count: n },
+    match request_outcome(prime, list, n, x) {
+        Outcome::Place(place) => Ok(Entered { place, count: n }),
         Outcome::Node(y) => intern(list, n, y),
     }
 }
 
 // Step: one request on a list.
-pub fn step(
-    prime: Prime,
-    list: &mut [u64],
-    n: usize,
-    tag: u64,
-    first: u64,
-    second: u64,
-) -> StepAnswer
-    ensures answer { result ≡ Calls.step_answer (field_of prime) (interleaved list.old) n tag first second }
-    ensures store { list.new ≡ Calls.step_store (field_of prime) list.old n tag first second }
+pub fn step(prime: Prime, list: &mut [u64], n: usize, words: Words) -> Result<Entered, Refusal>
+    ensures answer { result ≡ Calls.step_answer (field_of prime) (interleaved list.old) n words.tag words.first words.second }
+    ensures store { list.new ≡ Calls.step_store (field_of prime) list.old n words.tag words.first words.second }
 {
-    let checked = step_check(prime, list, n, tag, first, second);
-    match checked {
-        Checked::Refused(r) => StepAnswer::Refused(r),
-        Checked::Good => enter(prime, list, n, dag::decode(tag, first, second)),
-    }
+    step_check(prime, list, n, words)?;
+    enter(prime, list, n, NodeKind::from(words))
 }
 
 // Replays the requests one after the other into an empty list; answers its count.
@@ -438,31 +390,16 @@ fn replay(
     requires { Store.Sound (field_of prime).bounds (interleaved list.now) n × (n ≤ (interleaved res.old).room) × (n ≤ length map.old) × Usable links.old × (n ≤ half links.old) }
     ensures { Promises.Holds (field_of prime) (Steps.replay (elements prime) (Nodes.nodes (interleaved list.now) n) n) n res.new map.new result }
 {
-    index::clear(links);
-    let mut count = 0;
-    let mut i = 0;
-    while i < n {
-        let x = dag::renamed(map, dag::node_at(list, i));
-        let entered = push(prime, res, count, links, x);
-        map[i] = entered.place as u64;
-        count = entered.count;
-        i += 1;
+    let mut builder = DagBuilder::new(prime, res, links);
+    for i in 0..n {
+        let x = dag::node_at(list, i).renamed(map);
+        map[i] = builder.push(x) as u64;
     }
-    count
-}
-
-// The tests of Build's stores.
-fn build_stores(n: usize, result_room: usize, map_words: usize) -> Checked
-    ensures { result ≡ Calls.build_stores n result_room map_words }
-{
-    let checked = dag::room_check(n, result_room);
-    if dag::is_refused(checked) {
-        return checked;
-    }
-    dag::room_check(n, map_words)
+    builder.count
 }
 
 // Build's tests.
+#[tactic(auto, unfolding(crate::specs::Calls::build_check, crate::specs::Calls::build_stores))]
 fn build_check(
     prime: Prime,
     list: &[u64],
@@ -470,40 +407,37 @@ fn build_check(
     root: usize,
     result_room: usize,
     map_words: usize,
-) -> Checked
+) -> Result<(), Refusal>
     ensures { result ≡ Calls.build_check (field_of prime) (interleaved list.now) n root result_room map_words }
 {
-    let checked = dag::list_check(prime, list, n, root);
-    if dag::is_refused(checked) {
-        return checked;
-    }
-    build_stores(n, result_room, map_words)
+    dag::list_check(prime, list, n, root)?;
+    dag::room_check(n, result_room)?;
+    dag::room_check(n, map_words)
 }
 
-// Build past its tests, with the links of an index lent.
-fn build_in(
+// Build past its tests, with an index of so many links.
+fn build_with<const LINKS: usize>(
     prime: Prime,
     list: &[u64],
     n: usize,
     roots: Roots,
     res: &mut [u64],
     map: &mut [u64],
-    links: &mut [u64],
-) -> BuildAnswer
-    requires { Promises.Ready (field_of prime) (interleaved list.now) n roots (interleaved res.old).room (length map.old) × Usable links.old × (n ≤ half links.old) }
+) -> BuiltDag
+    requires { Promises.Ready (field_of prime) (interleaved list.now) n roots (interleaved res.old).room (length map.old) × (2 ≤ LINKS) × (LINKS ≤ 8192) × (n ≤ LINKS / 2) }
     ensures { Promises.Finished (Steps.replay (elements prime) (Nodes.nodes (interleaved list.now) n) n) roots res.old map.old result res.new map.new }
 {
-    let count = replay(prime, list, n, res, map, links);
+    let mut links = [0u64; LINKS];
+    let count = replay(prime, list, n, res, map, &mut links);
     dag::blank_records(res, count);
     dag::blank_from(map, n);
-    BuildAnswer {
-        checked: Checked::Good,
+    BuiltDag {
         count,
-        roots: dag::renamed_roots(map, roots),
+        roots: roots.renamed(map),
     }
 }
 
-// The same, with the links for the list's length.
+// Build past its tests, with links for the list's length.
 fn build_sized(
     prime: Prime,
     list: &[u64],
@@ -511,16 +445,15 @@ fn build_sized(
     roots: Roots,
     res: &mut [u64],
     map: &mut [u64],
-) -> BuildAnswer
+) -> BuiltDag
     requires { Promises.Ready (field_of prime) (interleaved list.now) n roots (interleaved res.old).room (length map.old) }
     ensures { Promises.Finished (Steps.replay (elements prime) (Nodes.nodes (interleaved list.now) n) n) roots res.old map.old result res.new map.new }
 {
     if n <= dag::FEW_RECORDS {
-        let mut few = [0u64; 2 * dag::FEW_RECORDS];
-        return build_in(prime, list, n, roots, res, map, &mut few);
+        build_with::<FEW_LINKS>(prime, list, n, roots, res, map)
+    } else {
+        build_with::<MOST_LINKS>(prime, list, n, roots, res, map)
     }
-    let mut links = [0u64; 2 * dag::MOST_RECORDS];
-    build_in(prime, list, n, roots, res, map, &mut links)
 }
 
 // Build: a list of requests with a root, one after the other into an empty list.
@@ -531,18 +464,11 @@ pub fn build(
     root: usize,
     res: &mut [u64],
     map: &mut [u64],
-) -> BuildAnswer
+) -> Result<BuiltDag, Refusal>
     ensures answer { result ≡ Calls.build_answer (field_of prime) (interleaved list.now) n root (interleaved res.old).room (length map.old) }
     ensures res { res.new ≡ Calls.build_result (field_of prime) (interleaved list.now) n root res.old (length map.old) }
     ensures map { map.new ≡ Calls.build_map (field_of prime) (interleaved list.now) n root (interleaved res.old).room map.old }
 {
-    let checked = build_check(prime, list, n, root, dag::room(res), map.len());
-    if dag::is_refused(checked) {
-        return BuildAnswer {
-            checked,
-            count: 0,
-            roots: dag::no_roots(),
-        };
-    }
-    build_sized(prime, list, n, dag::one_root(root), res, map)
+    build_check(prime, list, n, root, dag::room(res), map.len())?;
+    Ok(build_sized(prime, list, n, Roots::one(root), res, map))
 }

@@ -2,7 +2,15 @@
 use Rattle.std.specs.Prelude.{ℕ, zero, suc, ◌+◌, ◌<◌, ◌≤◌, Bool, true, cond, ◌&&◌, List, ◌≡◌, leb, ltb, eqb, get_or, length}
 use Rattle.columns.specs.Columns.{is_power, values, column, gain, is_among, saving, threshold}
 use Rattle.columns.specs.Prepare.{total, columns, all_below, most_columns}
+use Rattle.std.specs.Prelude.{Result, Ok, Err}
 use Rattle.dag.specs.Arrays.{up_to, padded}
+use Rattle.dag.specs.Refusals.{Checked}
+use Rattle.dag.specs.declared.Refusal.{Refusal}
+
+-- what a result says of the tests before it
+abbrev pub outcome : {A : Type 0} → Result A Refusal → Checked
+outcome (Ok x) = Ok tt
+outcome (Err r) = Err r
 
 -- a column that was tested
 pub record Column (m : ℕ) (c : List ℕ) : Type 0 where

@@ -1,5 +1,5 @@
 -- Small steps that proofs of branching code share.
-use Rattle.std.specs.Prelude.{Bool, true, false, cond, ◌&&◌, ◌||◌, ◌≡◌}
+use Rattle.std.specs.Prelude.{Bool, true, false, cond, ◌&&◌, ◌||◌, ◌≡◌, refl}
 use Rattle.std.proofs.Common.{sym, ◌∙◌}
 
 -- what a result is, where it is v and a definition equals it
@@ -27,3 +27,8 @@ or_second p q = rw (p, q)
 
 pub or_none : {a b : Bool} → a ≡ false → b ≡ false → (a || b) ≡ false
 or_none p q = rw (p, q)
+
+-- three tests in a row, however they are paired
+pub and_both : (a b c : Bool) → a && (b && c) ≡ (a && b) && c
+and_both true b c = refl
+and_both false b c = refl

@@ -4,9 +4,8 @@ use Rattle.field.specs.Fields.{Bounds}
 use Rattle.dag.specs.View.{View}
 use Rattle.dag.specs.Keys.{is_key}
 use Rattle.dag.specs.Nodes.{most_records}
-use Rattle.dag.specs.Refusals.{need, ◌then◌, first_refused}
+use Rattle.dag.specs.Refusals.{need, ◌then◌, first_refused, Checked}
 use Rattle.dag.specs.declared.Refusal.TheVariants.{CountOutOfRange, StoreTooShort, UnknownTag, Malformed, OperandNotEarlier, RootOutside}
-use Rattle.dag.specs.declared.Checked.{Checked}
 
 -- an element's coordinates in lowest form
 abbrev pub lowest : Bounds → ℕ → ℕ → Bool

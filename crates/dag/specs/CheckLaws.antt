@@ -1,6 +1,6 @@
 -- What the list check gives: each record's words are its node's words, and the list is well-formed.
 use Prim.Native.Nat.{ℕ, zero, suc, ◌+◌, ◌≤◌, ◌<◌}
-use Rattle.std.specs.Prelude.{Bool, true, false, ◌⊎◌, ◌≡◌, leb, ltb, eqb}
+use Rattle.std.specs.Prelude.{Bool, true, false, ◌⊎◌, ◌≡◌, leb, ltb, eqb, Ok, Err}
 use Rattle.std.proofs.Common.{true≢false, inl, inr, sym, ◌∙◌, add-one, arith, lt-ltb, le-leb, eqb-true, leb-true, ltb-true}
 use Rattle.std.proofs.Math.Path.{refl, ap}
 use Rattle.field.specs.Fields.{Bounds, Within}
@@ -9,7 +9,7 @@ use Rattle.dag.specs.Keys.{is_key}
 use Rattle.dag.specs.Nodes.{tag, first, second, decode, record_at, nodes}
 use Rattle.dag.specs.NodeLaws.{length_nodes, at_nodes}
 use Rattle.dag.specs.CaseLaws.{and_true, below_suc, below_suc_elim}
-use Rattle.dag.specs.Refusals.{need, ◌then◌, is_refused, unless_refused, first_refused}
+use Rattle.dag.specs.Refusals.{need, ◌then◌, is_refused, unless_refused, first_refused, Checked}
 use Rattle.dag.specs.Check.{formed, earlier, record_check, check_at, records_check}
 use Rattle.dag.specs.WellFormed.{Fine, WellFormed}
 use Rattle.dag.specs.WellFormedLaws.{well_formed_below}
@@ -17,37 +17,35 @@ use Rattle.dag.specs.declared.NodeKind.{NodeKind}
 use Rattle.dag.specs.declared.NodeKind.TheVariants.{Input, Constant, Add, Sub, Mul, Neg}
 use Rattle.dag.specs.declared.Refusal.{Refusal}
 use Rattle.dag.specs.declared.Refusal.TheVariants.{UnknownTag, Malformed, OperandNotEarlier}
-use Rattle.dag.specs.declared.Checked.{Checked}
-use Rattle.dag.specs.declared.Checked.TheVariants.{Good, Refused}
 
-pub then_good : (c d : Checked) → c then d ≡ Good → (c ≡ Good) × (d ≡ Good)
-then_good Good d e = (refl, e)
-then_good (Refused r) d e = let z : ◌≡◌ {A = ℕ} 0 1 = cc in absurd (omega arith)
+pub then_good : (c d : Checked) → c then d ≡ Ok tt → (c ≡ Ok tt) × (d ≡ Ok tt)
+then_good (Ok u) d e = (refl, e)
+then_good (Err r) d e = let z : ◌≡◌ {A = ℕ} 0 1 = cc in absurd (omega arith)
 
-pub need_good : (t : Bool) (r : Refusal) → need t r ≡ Good → t ≡ true
+pub need_good : (t : Bool) (r : Refusal) → need t r ≡ Ok tt → t ≡ true
 need_good true r e = refl
 need_good false r e = let z : ◌≡◌ {A = ℕ} 0 1 = cc in absurd (omega arith)
 
-pub not_refused : (c : Checked) → is_refused c ≡ false → c ≡ Good
-not_refused Good e = refl
-not_refused (Refused r) e = absurd (true≢false e)
+pub not_refused : (c : Checked) → is_refused c ≡ false → c ≡ Ok tt
+not_refused (Ok u) e = refl
+not_refused (Err r) e = absurd (true≢false e)
 
 pub refused_then : (c d : Checked) → is_refused c ≡ true → c ≡ c then d
-refused_then Good d e = absurd (true≢false (sym e))
-refused_then (Refused r) d e = refl
+refused_then (Ok u) d e = absurd (true≢false (sym e))
+refused_then (Err r) d e = refl
 
 -- a test that refuses has a reason
-pub refused_is : (c : Checked) → is_refused c ≡ true → (r : Refusal) × (c ≡ Refused r)
-refused_is Good h = absurd (true≢false (sym h))
-refused_is (Refused r) h = (r, refl)
+pub refused_is : (c : Checked) → is_refused c ≡ true → (r : Refusal) × (c ≡ Err r)
+refused_is (Ok u) h = absurd (true≢false (sym h))
+refused_is (Err r) h = (r, refl)
 
 -- what a call gives where its tests refuse
-pub refused_gives : {A : Type 0} (f : Checked → A) (c : Checked) (given : A) → is_refused c ≡ true → f c ≡ unless_refused c (λ r. f (Refused r)) given
-refused_gives f Good given e = absurd (true≢false (sym e))
-refused_gives f (Refused r) given e = refl
+pub refused_gives : {A : Type 0} (f : Checked → A) (c : Checked) (given : A) → is_refused c ≡ true → f c ≡ unless_refused c (λ r. f (Err r)) given
+refused_gives f (Ok u) given e = absurd (true≢false (sym e))
+refused_gives f (Err r) given e = refl
 
 -- what a call of `is_refused` tells of a definition
-pub good_told : {r d : Checked} {b : Bool} → r ≡ d → b ≡ is_refused r → b ≡ false → d ≡ Good
+pub good_told : {r d : Checked} {b : Bool} → r ≡ d → b ≡ is_refused r → b ≡ false → d ≡ Ok tt
 good_told {r} e f g = sym e ∙ not_refused r (sym f ∙ g)
 
 pub bad_told : {r d : Checked} {b : Bool} → r ≡ d → b ≡ is_refused r → b ≡ true → is_refused d ≡ true
@@ -55,16 +53,16 @@ bad_told e f g = ap is_refused (sym e) ∙ (sym f ∙ g)
 
 -- a test at the places below n, one by one
 module _ (test : ℕ → Checked) where
-  pub first_none : first_refused test 0 ≡ Good
+  pub first_none : first_refused test 0 ≡ Ok tt
   unfolding first_refused
   first_none = refl
 
-  pub first_next : (i : ℕ) → first_refused test i ≡ Good → test i ≡ Good → first_refused test (i + 1) ≡ Good
+  pub first_next : (i : ℕ) → first_refused test i ≡ Ok tt → test i ≡ Ok tt → first_refused test (i + 1) ≡ Ok tt
   unfolding first_refused
   first_next i e f = rw (add-one i, e) f
 
   -- a refusal after good tests is the first of any longer run
-  pub first_bad : (i n : ℕ) → first_refused test i ≡ Good → is_refused (test i) ≡ true → i < n → test i ≡ first_refused test n
+  pub first_bad : (i n : ℕ) → first_refused test i ≡ Ok tt → is_refused (test i) ≡ true → i < n → test i ≡ first_refused test n
   unfolding first_refused
   first_bad i zero good bad h = absurd (omega arith)
   first_bad i (suc n) good bad h = go (λ k. first_bad i n good bad k) (below_suc i n h)
@@ -73,17 +71,17 @@ module _ (test : ℕ → Checked) where
       go before (inl k) = refused_then (test i) (test n) bad ∙ ap (λ c. c then test n) (before k)
       go before (inr e) = rw (← e, good)
 
-  pub first_stop : (i n : ℕ) (r : Refusal) → first_refused test i ≡ Good → test i ≡ Refused r → i < n → Refused r ≡ first_refused test n
+  pub first_stop : (i n : ℕ) (r : Refusal) → first_refused test i ≡ Ok tt → test i ≡ Err r → i < n → Err r ≡ first_refused test n
   first_stop i n r good bad h = sym bad ∙ first_bad i n good (rw bad) h
 
-  pub first_good : (n : ℕ) → first_refused test n ≡ Good → (i : ℕ) → i < n → test i ≡ Good
+  pub first_good : (n : ℕ) → first_refused test n ≡ Ok tt → (i : ℕ) → i < n → test i ≡ Ok tt
   unfolding first_refused
   first_good zero e i h = absurd (omega arith)
   first_good (suc n) e i h =
       let both = then_good (first_refused test n) (test n) e in
-      below_suc_elim (λ i. test i ≡ Good) n (first_good n both.0) both.1 i h
+      below_suc_elim (λ i. test i ≡ Ok tt) n (first_good n both.0) both.1 i h
 
-  pub first_all : (i n : ℕ) → first_refused test i ≡ Good → i ≤ n → n ≤ i → Good ≡ first_refused test n
+  pub first_all : (i n : ℕ) → first_refused test i ≡ Ok tt → i ≤ n → n ≤ i → Ok tt ≡ first_refused test n
   first_all i n e h k = let q : i ≡ n = omega arith in sym e ∙ ap (first_refused test) q
 
 -- the three tests of one record
@@ -92,7 +90,7 @@ pub record Passed (m : Bounds) (t a b i : ℕ) : Type 0 where
   pub form : formed m t a b ≡ true
   pub order : earlier t a b i ≡ true
 
-pub passed : (m : Bounds) (t a b i : ℕ) → record_check m t a b i ≡ Good → Passed m t a b i
+pub passed : (m : Bounds) (t a b i : ℕ) → record_check m t a b i ≡ Ok tt → Passed m t a b i
 unfolding record_check
 passed m t a b i e =
     let one = then_good (need (leb t 5) (UnknownTag i)) (need (formed m t a b) (Malformed i) then need (earlier t a b i) (OperandNotEarlier i)) e in
@@ -103,7 +101,7 @@ passed m t a b i e =
       order = need_good (earlier t a b i) (OperandNotEarlier i) two.1;
     }
 
-pub passes : (m : Bounds) (t a b i : ℕ) → Passed m t a b i → record_check m t a b i ≡ Good
+pub passes : (m : Bounds) (t a b i : ℕ) → Passed m t a b i → record_check m t a b i ≡ Ok tt
 unfolding record_check
 passes m t a b i h = simp (le-leb t 5 h.known, h.form, h.order)
 
@@ -146,7 +144,7 @@ fine_passes m i (Mul a b) f = record { known = omega arith; form = refl; order =
 fine_passes m i (Neg a) f = record { known = omega arith; form = refl; order = rw (lt-ltb a i f) }
 
 -- a list that passes is well-formed
-pub check_well_formed : (m : Bounds) (s : View) (n : ℕ) → records_check m s n ≡ Good → WellFormed (Within m) (nodes s n)
+pub check_well_formed : (m : Bounds) (s : View) (n : ℕ) → records_check m s n ≡ Ok tt → WellFormed (Within m) (nodes s n)
 unfolding check_at record_at
 check_well_formed m s n e =
     well_formed_below (Within m) (nodes s n) λ i h.

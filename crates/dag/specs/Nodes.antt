@@ -1,7 +1,8 @@
--- Records and lists (document 01, 'What is handed over'; `NodeKind` of ir.rs): a record's three words, and the list that words hold.
+-- Records and lists (`NodeKind` of ir.rs): a record's three words, and the list that words hold.
 use Rattle.std.specs.Prelude.{ℕ, zero, suc, ◌-◌, Bool, cond, ◌&&◌, List, [], ◌∷◌, ◌++◌, eqb, get_or, length, replicate}
 use Rattle.dag.specs.View.{View}
 use Rattle.dag.specs.declared.NodeKind.{NodeKind}
+use Rattle.dag.specs.declared.Words.{Words}
 use Rattle.dag.specs.declared.NodeKind.TheVariants.{Input, Constant, Add, Sub, Mul, Neg}
 
 -- the word behind the last one filled
@@ -42,6 +43,14 @@ second (Add a b) = b
 second (Sub a b) = b
 second (Mul a b) = b
 second (Neg a) = 0
+
+-- a record's three words
+abbrev pub three : NodeKind → Words
+three x = record { tag = tag x; first = first x; second = second x }
+
+-- the three words at place i of a store
+abbrev pub words_at : View → ℕ → Words
+words_at s i = record { tag = s.tag_word i; first = s.first_word i; second = s.second_word i }
 
 -- the record that three words stand for, where the tag is at most 5
 unfoldable pub decode : ℕ → ℕ → ℕ → NodeKind

@@ -1,11 +1,9 @@
 -- No refusal has number 0, so an answer begins with 0 exactly where the tests pass.
-use Rattle.std.specs.Prelude.{ℕ, ◌<◌, ◌↔◌, ◌≡◌, refl}
+use Rattle.std.specs.Prelude.{ℕ, ◌<◌, ◌↔◌, ◌≡◌, refl, Ok, Err}
 use Rattle.std.proofs.Common.{sym, ◌∙◌, arith}
-use Rattle.dag.specs.Refusals.{number, unless_refused}
+use Rattle.dag.specs.Refusals.{number, unless_refused, Checked}
 use Rattle.dag.specs.declared.Refusal.{Refusal}
 use Rattle.dag.specs.declared.Refusal.TheVariants.{CountOutOfRange, StoreTooShort, UnknownTag, Malformed, OperandNotEarlier, RootOutside, NoRoom, TooManyEntries, Unassigned, TooManyColumns, ColumnLength, SharedPeriod, FileTooShort, FileVersion, FileCount, FileLength, FieldNumber}
-use Rattle.dag.specs.declared.Checked.{Checked}
-use Rattle.dag.specs.declared.Checked.TheVariants.{Good, Refused}
 
 pub number_positive : (r : Refusal) → 0 < number r
 number_positive CountOutOfRange = omega arith
@@ -28,9 +26,9 @@ number_positive FieldNumber = omega arith
 
 -- `word` is an answer's first word: a refusal's number, and 0 for what is given
 module _ {A : Type 0} (word : A → ℕ) (refuse : Refusal → A) (given : A) (refused-word : (r : Refusal) → word (refuse r) ≡ number r) (given_word : word given ≡ 0) where
-  pub zero_accepts : (c : Checked) → (word (unless_refused c refuse given) ≡ 0) ↔ (c ≡ Good)
-  zero_accepts Good = (λ e. refl, λ e. given_word)
-  zero_accepts (Refused r) = (
+  pub zero_accepts : (c : Checked) → (word (unless_refused c refuse given) ≡ 0) ↔ (c ≡ Ok tt)
+  zero_accepts (Ok u) = (λ e. refl, λ e. given_word)
+  zero_accepts (Err r) = (
     λ e. absurd (omega (arith, number_positive r, sym (refused-word r) ∙ e)),
     λ e. let z : ◌≡◌ {A = ℕ} 0 1 = cc in absurd (omega arith),
   )

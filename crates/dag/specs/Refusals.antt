@@ -1,9 +1,7 @@
--- What a refusal tells (document 01, 'Each call and when it says no'): its number and its place.
-use Rattle.std.specs.Prelude.{ℕ, zero, suc, Bool, true, false}
+-- What a refusal tells: its number and its place; and what a test answers.
+use Rattle.std.specs.Prelude.{ℕ, zero, suc, Bool, true, false, Result, Ok, Err}
 use Rattle.dag.specs.declared.Refusal.{Refusal}
 use Rattle.dag.specs.declared.Refusal.TheVariants.{CountOutOfRange, StoreTooShort, UnknownTag, Malformed, OperandNotEarlier, RootOutside, NoRoom, TooManyEntries, Unassigned, TooManyColumns, ColumnLength, SharedPeriod, FileTooShort, FileVersion, FileCount, FileLength, FieldNumber}
-use Rattle.dag.specs.declared.Checked.{Checked}
-use Rattle.dag.specs.declared.Checked.TheVariants.{Good, Refused}
 
 abbrev pub number : Refusal → ℕ
 number CountOutOfRange = 1
@@ -44,28 +42,32 @@ place FileCount = 0
 place FileLength = 0
 place FieldNumber = 0
 
+-- what a test answers: nothing, or why it refuses
+abbrev pub Checked : Type 0
+Checked = Result (Unit {0}) Refusal
+
 -- r unless the test holds
 abbrev pub need : Bool → Refusal → Checked
-need true r = Good
-need false r = Refused r
+need true r = Ok tt
+need false r = Err r
 
 infixr 30 ◌then◌
 -- the first refusal of two tests
 abbrev pub ◌then◌ : Checked → Checked → Checked
-Good then d = d
-(Refused r) then d = Refused r
+(Ok u) then d = d
+(Err r) then d = Err r
 
 -- the first refusal of a test at the places below n
 unfoldable pub first_refused : (ℕ → Checked) → ℕ → Checked
-first_refused test zero = Good
+first_refused test zero = Ok tt
 first_refused test (suc n) = first_refused test n then test n
 
 -- a test refuses
 abbrev pub is_refused : Checked → Bool
-is_refused Good = false
-is_refused (Refused r) = true
+is_refused (Ok u) = false
+is_refused (Err r) = true
 
 -- a call's answer or store: by the refusal where the tests refuse, else what it gives
 abbrev pub unless_refused : {A : Type 0} → Checked → (Refusal → A) → A → A
-unless_refused Good refuse given = given
-unless_refused (Refused r) refuse given = refuse r
+unless_refused (Ok u) refuse given = given
+unless_refused (Err r) refuse given = refuse r

@@ -1,13 +1,12 @@
 -- Stores of records: what a store holds once a record or a list is written into it, and what the tests of a list give.
-use Rattle.std.specs.Prelude.{ℕ, ◌+◌, ◌*◌, ◌-◌, ◌≤◌, Bool, ◌&&◌, List, ◌++◌, eqb, ◌≡◌, length, set, take, drop, replicate}
+use Rattle.std.specs.Prelude.{ℕ, ◌+◌, ◌*◌, ◌-◌, ◌≤◌, Bool, ◌&&◌, List, ◌++◌, eqb, ◌≡◌, length, set, take, drop, replicate, Ok, Option}
 use Rattle.field.specs.Fields.{Bounds}
 use Rattle.dag.specs.View.{View, Agree}
-use Rattle.dag.specs.Nodes.{tag, first, second, words_of, filled, blank}
+use Rattle.dag.specs.Nodes.{tag, first, second, words_at, words_of, filled, blank}
 use Rattle.dag.specs.Check.{room_check, records_check}
 use Rattle.dag.specs.Lookup.{greatest}
 use Rattle.dag.specs.declared.NodeKind.{NodeKind}
-use Rattle.dag.specs.declared.Found.{Found}
-use Rattle.dag.specs.declared.Checked.TheVariants.{Good}
+use Rattle.dag.specs.declared.Words.{Words}
 
 -- a store with the words t, a, b at place i
 abbrev pub put_words : List ℕ → ℕ → ℕ → ℕ → ℕ → List ℕ
@@ -50,18 +49,22 @@ pub record Alike (u v : View) (n : ℕ) : Type 0 where
   pub rooms : room_check n u.room ≡ room_check n v.room
   pub words : Agree u v n
 
--- the record at place i has the words t, a, b
-unfoldable pub words_are : View → ℕ → ℕ → ℕ → ℕ → Bool
-words_are s i t a b = eqb (s.tag_word i) t && eqb (s.first_word i) a && eqb (s.second_word i) b
+-- these words are those
+abbrev pub equal_words : Words → Words → Bool
+equal_words v w = eqb v.tag w.tag && (eqb v.first w.first && eqb v.second w.second)
 
--- the greatest place below n whose words are t, a, b
-abbrev pub lookup_words : View → ℕ → ℕ → ℕ → ℕ → Found
-lookup_words s t a b = greatest (λ i. words_are s i t a b)
+-- the record at place i has the words w
+unfoldable pub words_are : View → ℕ → Words → Bool
+words_are s i w = equal_words (words_at s i) w
+
+-- the greatest place below n whose words are w
+abbrev pub lookup_words : View → Words → ℕ → Option ℕ
+lookup_words s w = greatest (λ i. words_are s i w)
 
 -- the first n records of a store pass the tests at the bounds m
 pub record Sound (m : Bounds) (s : View) (n : ℕ) : Type 0 where
   pub room : n ≤ s.room
-  pub good : records_check m s n ≡ Good
+  pub good : records_check m s n ≡ Ok tt
 
 -- n records of a store whatever the field: room for them, words that decode, operands that come earlier
 abbrev pub Records : View → ℕ → Type 0

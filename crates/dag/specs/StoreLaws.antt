@@ -1,13 +1,14 @@
 -- Stores that pass the list check, and what writing a record does to one.
-use Rattle.std.specs.Prelude.{ℕ, zero, suc, ◌+◌, ◌*◌, ◌≤◌, ◌<◌, List, [], ◌∷◌, ◌++◌, ◌≡◌, refl, get_or, length, set, take, drop}
+use Rattle.std.specs.Prelude.{ℕ, zero, suc, ◌+◌, ◌*◌, ◌≤◌, ◌<◌, List, [], ◌∷◌, ◌++◌, ◌≡◌, refl, get_or, length, set, take, drop, eqb, Ok}
 use Rattle.std.proofs.Common.{append_assoc, ◌∙◌, ap, add-one, mul-suc, arith, length-set, get_or-set_same, get_or-set_other, drop-set-lt, take-suc}
 use Rattle.std.proofs.Math.Path.{sym, ap₂}
 use Rattle.std.proofs.Math.Numerals.{add-three, towards_suc}
 use Rattle.field.specs.Fields.{Bounds, Within}
 use Rattle.dag.specs.View.{View, interleaved, Agree}
 use Rattle.dag.specs.ViewLaws.{room_words, same_room, words_agree, agree_nodes, agree_checks}
-use Rattle.dag.specs.Nodes.{record_words, tag, first, second, record_at, nodes, at, words, words_of, same_node}
+use Rattle.dag.specs.Nodes.{record_words, tag, first, second, three, record_at, nodes, at, words, words_of, same_node}
 use Rattle.dag.specs.NodeLaws.{decode_words, at_nodes}
+use Rattle.dag.specs.BranchLaws.{and_both}
 use Rattle.dag.specs.CaseLaws.{below_suc_elim}
 use Rattle.dag.specs.Refusals.{first_refused}
 use Rattle.dag.specs.Check.{check_at, records_check}
@@ -17,7 +18,7 @@ use Rattle.dag.specs.SearchLaws.{greatest_same}
 use Rattle.dag.specs.Store.{put_words, put, front, words_are, lookup_words, Sound}
 use Rattle.dag.specs.WellFormed.{Fine, WellFormed}
 use Rattle.dag.specs.declared.NodeKind.{NodeKind}
-use Rattle.dag.specs.declared.Checked.TheVariants.{Good}
+use Rattle.dag.specs.declared.Words.{Words}
 
 -- the words of a record that passes
 module _ (m : Bounds) (s : View) (n : ℕ) (sound : Sound m s n) where
@@ -41,12 +42,14 @@ module _ (m : Bounds) (s : View) (n : ℕ) (sound : Sound m s n) where
   record_words_lem i h = rw (tag_word_lem i h, first_word_lem i h, second_word_lem i h)
 
   -- the words of a record that passes tell it from others
-  pub words_are_same : (x : NodeKind) (i : ℕ) → i < n → words_are s i (tag x) (first x) (second x) ≡ same_node (at (nodes s n) i) x
+  pub words_are_same : (x : NodeKind) (i : ℕ) → i < n → words_are s i (three x) ≡ same_node (at (nodes s n) i) x
   unfolding words_are same_node
-  words_are_same x i h = rw (at_nodes s n i h, tag_word_lem i h, first_word_lem i h, second_word_lem i h)
+  words_are_same x i h =
+      rw (at_nodes s n i h, tag_word_lem i h, first_word_lem i h, second_word_lem i h)
+      (and_both (eqb (s.tag_word i) (tag x)) (eqb (s.first_word i) (first x)) (eqb (s.second_word i) (second x)))
 
-  lookup_words_lem : (x : NodeKind) → lookup_words s (tag x) (first x) (second x) n ≡ lookup (nodes s n) x n
-  lookup_words_lem x = greatest_same (λ i. words_are s i (tag x) (first x) (second x)) (λ i. same_node (at (nodes s n) i) x) n (words_are_same x)
+  lookup_words_lem : (x : NodeKind) → lookup_words s (three x) n ≡ lookup (nodes s n) x n
+  lookup_words_lem x = greatest_same (λ i. words_are s i (three x)) (λ i. same_node (at (nodes s n) i) x) n (words_are_same x)
 
 -- stores that pass with the same list hold the same words
 pub same_list_agree : (m : Bounds) (u v : View) (n : ℕ) → Sound m u n → Sound m v n → nodes u n ≡ nodes v n → Agree u v n
@@ -114,7 +117,7 @@ module _ (s : List ℕ) (i : ℕ) (x : NodeKind) where
     unfolding record_at interleaved put
     record_put = rw (put_tag s i (tag x) (first x) (second x) fits, put_first s i (tag x) (first x) (second x) fits, put_second s i (tag x) (first x) (second x) fits) (decode_words x)
 
-    check_put : (m : Bounds) → Fine (Within m) i x → check_at m (interleaved (put s i x)) i ≡ Good
+    check_put : (m : Bounds) → Fine (Within m) i x → check_at m (interleaved (put s i x)) i ≡ Ok tt
     unfolding check_at interleaved put
     check_put m f =
         rw (put_tag s i (tag x) (first x) (second x) fits, put_first s i (tag x) (first x) (second x) fits, put_second s i (tag x) (first x) (second x) fits)
@@ -182,6 +185,6 @@ front_words m s (suc n) sound =
     three : get_or s (3 * n) 0 ∷ get_or s (3 * n + 1) 0 ∷ get_or s (3 * n + 2) 0 ∷ [] ≡ words (record_at (interleaved s) n)
     three = sym (record_words_lem m (interleaved s) (suc n) sound n (omega arith) ∙ held s n)
 
--- the search over the words t, a, b of a record x
-pub lookup_whole : (m : Bounds) (s : View) (n : ℕ) (x : NodeKind) (t a b : ℕ) → Sound m s n → t ≡ tag x → a ≡ first x → b ≡ second x → lookup_words s t a b n ≡ lookup (nodes s n) x n
-lookup_whole m s n x t a b sound et ea eb = rw (et, ea, eb) (lookup_words_lem m s n sound x)
+-- the search over the words w of a record x
+pub lookup_whole : (m : Bounds) (s : View) (n : ℕ) (x : NodeKind) (w : Words) → Sound m s n → w ≡ three x → lookup_words s w n ≡ lookup (nodes s n) x n
+lookup_whole m s n x w sound e = rw e (lookup_words_lem m s n sound x)

@@ -1,7 +1,7 @@
 -- A list's words at the start of a store: the store holds the list, and passes the tests that the list meets.
 use Prim.Native.Nat.{ℕ, zero, suc, ◌+◌, ◌*◌, ◌-◌, ◌≤◌, ◌<◌}
 use mathlib.Core.List.{List, [], ◌∷◌, ◌++◌, append_assoc}
-use Rattle.std.specs.Prelude.{◌≡◌, get_or, set}
+use Rattle.std.specs.Prelude.{◌≡◌, get_or, set, Ok}
 use Rattle.std.proofs.Math.Path.{refl}
 use Rattle.std.proofs.Common.{◌∙◌, ap, take-append-drop, drop-cons, drop_at}
 use native.Mathlib.Omega.{arith}
@@ -23,7 +23,6 @@ use Rattle.dag.specs.StoreLaws.{words_snoc, length_words, front_words}
 use Rattle.dag.specs.WellFormed.{WellFormed}
 use Rattle.dag.specs.declared.NodeKind.{NodeKind}
 use Rattle.dag.specs.declared.NodeKind.TheVariants.{Input}
-use Rattle.dag.specs.declared.Checked.TheVariants.{Good}
 
 pub written_nil : (s : List ℕ) → written s [] ≡ s
 unfolding written words_of behind
@@ -57,13 +56,13 @@ module _ (t : List ℕ) where
       at_nodes (interleaved (words_of l ++ t)) (length l) i k ∙ rw (w.tag_is, w.first_is, w.second_is) (decode_words (at l i))
 
   module _ (m : Bounds) (l : List NodeKind) (f : WellFormed (Within m) l) where
-    check_words : (i : ℕ) → i < length l → check_at m (interleaved (words_of l ++ t)) i ≡ Good
+    check_words : (i : ℕ) → i < length l → check_at m (interleaved (words_of l ++ t)) i ≡ Ok tt
     unfolding check_at WellFormed interleaved
     check_words i h =
         let w = words_at_lem l i h in
         rw (w.tag_is, w.first_is, w.second_is) (passes m _ _ _ i (fine_passes m i (at l i) (f i)))
 
-    checks_words : (n : ℕ) → n ≤ length l → records_check m (interleaved (words_of l ++ t)) n ≡ Good
+    checks_words : (n : ℕ) → n ≤ length l → records_check m (interleaved (words_of l ++ t)) n ≡ Ok tt
     unfolding first_refused
     checks_words zero h = refl
     checks_words (suc n) h = rw (checks_words n (omega arith)) (check_words n h)
@@ -77,12 +76,12 @@ module _ (t : List ℕ) where
         }
 
     -- the store passes the tests of a list of at least `least` records
-    pub words_rootless : (least : ℕ) → least ≤ length l → length l ≤ most_records → rootless_check m least (interleaved (words_of l ++ t)) (length l) ≡ Good
+    pub words_rootless : (least : ℕ) → least ≤ length l → length l ≤ most_records → rootless_check m least (interleaved (words_of l ++ t)) (length l) ≡ Ok tt
     unfolding rootless_check
     words_rootless least h k = simp (le-leb least (length l) h, le-leb (length l) most_records k, enough_room _ _ sound_words.room, sound_words.good)
 
     -- the store passes the list check
-    pub words_pass : (root : ℕ) → root < length l → length l ≤ most_records → list_check m (interleaved (words_of l ++ t)) (length l) root ≡ Good
+    pub words_pass : (root : ℕ) → root < length l → length l ≤ most_records → list_check m (interleaved (words_of l ++ t)) (length l) root ≡ Ok tt
     unfolding list_check
     words_pass root h k = rw (words_rootless 1 (omega arith) k, lt-ltb root (length l) h)
 
@@ -151,11 +150,11 @@ module _ (s : List ℕ) (l : List NodeKind) where
     unfolding stored filled
     sound_stored = sound_words (replicate (length s - length (words_of l)) blank) m l f
 
-    pub stored_rootless : (least : ℕ) → least ≤ length l → length l ≤ most_records → rootless_check m least (interleaved (stored s l)) (length l) ≡ Good
+    pub stored_rootless : (least : ℕ) → least ≤ length l → length l ≤ most_records → rootless_check m least (interleaved (stored s l)) (length l) ≡ Ok tt
     unfolding stored filled
     stored_rootless = words_rootless (replicate (length s - length (words_of l)) blank) m l f
 
-    pub stored_pass : (root : ℕ) → root < length l → length l ≤ most_records → list_check m (interleaved (stored s l)) (length l) root ≡ Good
+    pub stored_pass : (root : ℕ) → root < length l → length l ≤ most_records → list_check m (interleaved (stored s l)) (length l) root ≡ Ok tt
     unfolding stored filled
     stored_pass = words_pass (replicate (length s - length (words_of l)) blank) m l f
 

@@ -1,6 +1,6 @@
 -- What lies behind a list, an assignment or columns is never read: stores that begin with the same words give the same answer, and the same words in every store.
 use Prim.Native.Nat.{ℕ, zero, suc, ◌+◌, ◌*◌, ◌<◌, ◌≤◌}
-use Rattle.std.specs.Prelude.{List, [], ◌∷◌, ◌++◌, Bool, cond, ◌≡◌, eqb, get_or, length, take, drop}
+use Rattle.std.specs.Prelude.{List, [], ◌∷◌, ◌++◌, Bool, cond, ◌≡◌, eqb, get_or, length, take, drop, Some}
 use Rattle.std.proofs.Math.Bool.{true, false}
 use Rattle.std.proofs.Math.Path.{refl, ap, ap₂, fun_ext}
 use Rattle.std.proofs.Common.{sym, ◌∙◌, arith, get_or-take, take-add, take-take}
@@ -11,19 +11,16 @@ use Rattle.dag.specs.View.{View, interleaved}
 use Rattle.dag.specs.ViewLaws.{front_room, front_agree, alike}
 use Rattle.dag.specs.Lookup.{greatest}
 use Rattle.dag.specs.Nodes.{nodes, words_of}
-use Rattle.dag.specs.Refusals.{first_refused, ◌then◌}
+use Rattle.dag.specs.Refusals.{first_refused, ◌then◌, Checked}
 use Rattle.dag.specs.Store.{front, Alike}
-use Rattle.dag.specs.declared.Checked.{Checked}
-use Rattle.dag.specs.declared.Found.TheVariants.{At}
 use Rattle.builder.specs.Calls.{has_room, step_answer, step_store}
-use Rattle.builder.specs.declared.StepAnswer.TheVariants.{Done}
 use Rattle.evaluate.specs.Entries.{entry_check, entries_check, entry_of}
 use Rattle.evaluate.specs.Calls.{entry_words, element_of, given, evaluate_check, evaluate_answer}
 use Rattle.columns.specs.Columns.{log_within}
 use Rattle.periodic.specs.Periodic.{build_periodic_nodes}
 use Rattle.columns.specs.Prepare.{total, columns, prepare_check, prepare}
 use Rattle.lower.specs.Lower.{lower_check, lowered, whole_check, lower_answer, lower_result, lower_work, lower_places}
-use Rattle.demands.specs.Stepping.{begins}
+use Rattle.demands.specs.Stepping.{Done, begins}
 use Rattle.demands.specs.Views.{same_stepped, step_answer_lem}
 
 -- two list stores, the first with room for n records, that begin with the same n records are alike, whatever lies behind them
@@ -88,7 +85,7 @@ module _ (field : Field) where
         rw (same_word (entry_words * k) (omega arith)) (go (eqb (get_or c (entry_words * k) 0) key) (same_element key k (omega arith)))
       where
         go : (t : Bool) → element_of a (entry_of entry_words a k key) ≡ element_of c (entry_of entry_words c k key)
-            → element_of a (cond t (At k) (entry_of entry_words a k key)) ≡ element_of c (cond t (At k) (entry_of entry_words c k key))
+            → element_of a (cond t (Some k) (entry_of entry_words a k key)) ≡ element_of c (cond t (Some k) (entry_of entry_words c k key))
         go true e = rw (same_word (entry_words * k + 1) (omega arith), same_word (entry_words * k + 2) (omega arith))
         go false e = e
 

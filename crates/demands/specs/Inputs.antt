@@ -1,6 +1,6 @@
 -- Steps, rounds and compaction bring no new inputs, over any ring: what every input's key has, every input's key has afterwards.
 use Prim.Native.Nat.{ℕ, zero, suc, ◌<◌, ◌≤◌}
-use Rattle.std.specs.Prelude.{List, [], ◌∷◌, ◌++◌, ◌≡◌, refl}
+use Rattle.std.specs.Prelude.{List, [], ◌∷◌, ◌++◌, ◌≡◌, refl, Some, None, Option}
 use Rattle.std.proofs.Common.{subst, arith}
 use Rattle.std.proofs.Math.ListN.{length}
 use Rattle.ring.specs.Ring.{Ops}
@@ -11,8 +11,6 @@ use Rattle.dag.specs.CaseLaws.{below_suc_elim}
 use Rattle.dag.specs.Lookup.{lookup}
 use Rattle.dag.specs.declared.NodeKind.{NodeKind}
 use Rattle.dag.specs.declared.NodeKind.TheVariants.{Input, Constant, Add, Sub, Mul, Neg}
-use Rattle.dag.specs.declared.Found.{Found}
-use Rattle.dag.specs.declared.Found.TheVariants.{At, Missing}
 use Rattle.builder.specs.Steps.{add_rule, sub_rule, mul_outcome, neg_outcome, follow, add_within, sub_within, add_outcome, sub_outcome, outcome, interned, intern, enter, step, Replay, place_of, recorded, replay}
 use Rattle.builder.specs.RuleLaws.{low_first_lem, add_cases, sub_cases, mul_cases, neg_cases}
 use Rattle.builder.specs.declared.Rule.{Rule}
@@ -152,10 +150,10 @@ module _ (K : ℕ → Type 0) where
       outcome_keyed (Neg a) f = neg_keyed (at l a) a
 
       module _ (f : Inputs K l) where
-        interned_inputs : (x : NodeKind) (at_place : Found) → Keyed K x → Inputs K (interned l x at_place).list
+        interned_inputs : (x : NodeKind) (at_place : Option ℕ) → Keyed K x → Inputs K (interned l x at_place).list
         unfolding interned
-        interned_inputs x (At i) g = f
-        interned_inputs x Missing g = inputs_snoc l x f g
+        interned_inputs x (Some i) g = f
+        interned_inputs x None g = inputs_snoc l x f g
 
         enter_inputs : (o : Outcome) → OutcomeKeyed o → Inputs K (enter l o).list
         unfolding enter intern

@@ -1,5 +1,5 @@
 -- Lower in the list check's words: where it accepts, the list answered passes, the given records stand in front, and each place is inside.
-use Rattle.std.specs.Prelude.{ℕ, ◌-◌, ◌≤◌, ◌<◌, ◌&&◌, List, ◌≡◌, get_or, replicate}
+use Rattle.std.specs.Prelude.{ℕ, ◌-◌, ◌≤◌, ◌<◌, ◌&&◌, List, ◌≡◌, get_or, replicate, Ok}
 use Rattle.std.proofs.Math.Path.{sym}
 use Rattle.std.proofs.Common.{◌∙◌, ap, arith, length-append, ext_get_or}
 use borrow.Author.Tests.{leb-true}
@@ -16,7 +16,6 @@ use Rattle.dag.specs.Store.{stored}
 use Rattle.dag.specs.StoreLaws.{same_list_agree}
 use Rattle.dag.specs.WordLaws.{nodes_stored, sound_stored, stored_rootless, stored_pass}
 use Rattle.dag.specs.WellFormed.{WellFormed}
-use Rattle.dag.specs.declared.Checked.TheVariants.{Good}
 use Rattle.dag.specs.declared.NodeKind.{NodeKind}
 use Rattle.dag.specs.declared.NodeKind.TheVariants.{Input}
 use Rattle.dag.specs.declared.Refusal.TheVariants.{NoRoom}
@@ -27,7 +26,7 @@ use Rattle.lower.specs.Lower.{lower_check, lowered, lower_room, whole_check, low
 use Rattle.worth.specs.LowerLaws.{lowered_extends, lowered_well_formed, lowered_count, lowered_inside}
 
 module _ (field : Field) where
-  module _ (s : View) (n : ℕ) (ls es : List ℕ) (period : ℕ) (result work places : List ℕ) (e : whole_check field s n ls es period result work places ≡ Good) where
+  module _ (s : View) (n : ℕ) (ls es : List ℕ) (period : ℕ) (result work places : List ℕ) (e : whole_check field s n ls es period result work places ≡ Ok tt) where
     -- the list answered, and the stores
     abbrev list : List NodeKind
     list = (lowered field s n ls es period).list
@@ -38,7 +37,7 @@ module _ (field : Field) where
     abbrev place_store : List ℕ
     place_store = lower_places field s n ls es period result work places
 
-    both : (lower_check field s n ls es period (interleaved work).room (length places) ≡ Good) × (lower_room (lowered field s n ls es period) (interleaved result).room ≡ Good)
+    both : (lower_check field s n ls es period (interleaved work).room (length places) ≡ Ok tt) × (lower_room (lowered field s n ls es period) (interleaved result).room ≡ Ok tt)
     unfolding whole_check
     both = then_good (lower_check field s n ls es period (interleaved work).room (length places)) (lower_room (lowered field s n ls es period) (interleaved result).room) e
 
@@ -60,7 +59,7 @@ module _ (field : Field) where
     answer_list = rw begins (nodes_stored result list)
 
     -- it passes the list check without a root
-    pub answer_passes : rootless_check field.bounds 0 (interleaved store) (length list) ≡ Good
+    pub answer_passes : rootless_check field.bounds 0 (interleaved store) (length list) ≡ Ok tt
     answer_passes = rw begins (stored_rootless result list field.bounds well_formed 0 (omega arith) few)
 
     -- the given records stand unchanged in front
@@ -98,7 +97,7 @@ module _ (field : Field) where
     answer_inside j h = rw (place_is j h) (lowered_inside field s n ls es period (interleaved work).room (length places) both.0 j h)
 
     -- the list passes the list check with each place as its root
-    pub answer_rooted : (j : ℕ) → j < length ls → list_check field.bounds (interleaved store) (length list) (get_or place_store j 0) ≡ Good
+    pub answer_rooted : (j : ℕ) → j < length ls → list_check field.bounds (interleaved store) (length list) (get_or place_store j 0) ≡ Ok tt
     answer_rooted j h =
         rw begins
         (stored_pass result list field.bounds well_formed (get_or place_store j 0) (answer_inside j h) few)

@@ -1,10 +1,9 @@
 -- No trace of what a store held: where a call accepts, each store it writes is the same at exit whatever it held at entry; only its length counts.
-use Rattle.std.specs.Prelude.{ℕ, List, ◌≡◌, length}
+use Rattle.std.specs.Prelude.{ℕ, List, ◌≡◌, length, Ok}
 use Rattle.field.specs.Fields.{Field}
 use Rattle.dag.specs.View.{View, interleaved}
 use Rattle.dag.specs.ViewLaws.{same_room}
 use Rattle.dag.specs.Store.{stored}
-use Rattle.dag.specs.declared.Checked.TheVariants.{Good}
 use Rattle.builder.specs.Calls.{build_check, build_result, build_map}
 use Rattle.compact.specs.Calls.{compact_check, compact_result}
 use Rattle.normalize.specs.Calls.{normalize_check, normalize_result, normalize_work}
@@ -12,7 +11,7 @@ use Rattle.lower.specs.Lower.{lower_check, whole_check, lower_result, lower_work
 
 module _ (field : Field) where
   module _ (s : View) (n root : ℕ) (result result' : List ℕ) (same : length result ≡ length result') where
-    module _ (map map' : List ℕ) (same_map : length map ≡ length map') (accepted : build_check field s n root (interleaved result).room (length map) ≡ Good) where
+    module _ (map map' : List ℕ) (same_map : length map ≡ length map') (accepted : build_check field s n root (interleaved result).room (length map) ≡ Ok tt) where
       pub build_result_lem : build_result field s n root result (length map) ≡ build_result field s n root result' (length map')
       unfolding build_result stored
       build_result_lem = rw (← same_room result result' same, ← same_map, accepted, same)
@@ -21,11 +20,11 @@ module _ (field : Field) where
       unfolding build_map
       build_map_lem = rw (← same_room result result' same, ← same_map, accepted)
 
-    pub compact_result_lem : compact_check field s n root (interleaved result).room ≡ Good → compact_result field s n root result ≡ compact_result field s n root result'
+    pub compact_result_lem : compact_check field s n root (interleaved result).room ≡ Ok tt → compact_result field s n root result ≡ compact_result field s n root result'
     unfolding compact_result stored
     compact_result_lem accepted = rw (← same_room result result' same, accepted, same)
 
-    module _ (work work' : List ℕ) (same-work : length work ≡ length work') (accepted : normalize_check field s n root (interleaved result).room (interleaved work).room ≡ Good) where
+    module _ (work work' : List ℕ) (same-work : length work ≡ length work') (accepted : normalize_check field s n root (interleaved result).room (interleaved work).room ≡ Ok tt) where
       pub normalize_result_lem : normalize_result field s n root result (interleaved work).room ≡ normalize_result field s n root result' (interleaved work').room
       unfolding normalize_result stored
       normalize_result_lem = rw (← same_room result result' same, ← same_room work work' same-work, accepted, same)
@@ -36,8 +35,8 @@ module _ (field : Field) where
 
   module _ (s : View) (n : ℕ) (ls es : List ℕ) (period : ℕ) (result result' work work' places places' : List ℕ)
       (same : length result ≡ length result') (same-work : length work ≡ length work') (same-places : length places ≡ length places') where
-    module _ (accepted : whole_check field s n ls es period result work places ≡ Good) where
-      accepted_too : whole_check field s n ls es period result' work' places' ≡ Good
+    module _ (accepted : whole_check field s n ls es period result work places ≡ Ok tt) where
+      accepted_too : whole_check field s n ls es period result' work' places' ≡ Ok tt
       unfolding whole_check
       accepted_too = rw (← same_room result result' same, ← same_room work work' same-work, ← same-places) accepted
 
@@ -50,6 +49,6 @@ module _ (field : Field) where
       lower_places_lem = rw (accepted, accepted_too, same-places)
 
     -- also where 7 is answered
-    pub lower_work_lem : lower_check field s n ls es period (interleaved work).room (length places) ≡ Good → lower_work field s n ls es period result work places ≡ lower_work field s n ls es period result' work' places'
+    pub lower_work_lem : lower_check field s n ls es period (interleaved work).room (length places) ≡ Ok tt → lower_work field s n ls es period result work places ≡ lower_work field s n ls es period result' work' places'
     unfolding lower_work
     lower_work_lem tested = rw (← same_room work work' same-work, ← same-places, tested, same-work)

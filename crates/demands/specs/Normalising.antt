@@ -1,5 +1,5 @@
--- Demand 3 about the call: where Normalise accepts, what its answer and its result store are.
-use Rattle.std.specs.Prelude.{ℕ, ◌+◌, ◌*◌, ◌≤◌, false, List, [], ◌∷◌, ◌⊎◌, ◌↔◌, length}
+-- Normalising, about the call: where Normalise accepts, what its answer and its result store are.
+use Rattle.std.specs.Prelude.{ℕ, ◌+◌, ◌*◌, ◌≤◌, false, List, [], ◌∷◌, ◌⊎◌, ◌↔◌, length, Ok, Result, Err}
 use Rattle.std.proofs.Math.Path.{◌≡◌, refl, sym, ap, ap₂}
 use Rattle.std.proofs.Common.{◌∙◌, subst, arith}
 use Rattle.std.proofs.Math.ListN.{get_or}
@@ -9,7 +9,7 @@ use Rattle.dag.specs.View.{View, interleaved, Agree}
 use Rattle.dag.specs.ViewLaws.{agree_nodes}
 use Rattle.dag.specs.Nodes.{nodes, words_of, filled}
 use Rattle.dag.specs.NodeLaws.{length_nodes}
-use Rattle.dag.specs.Refusals.{unless_refused}
+use Rattle.dag.specs.Refusals.{unless_refused, Checked}
 use Rattle.dag.specs.Roots.{roots_of, roots_from}
 use Rattle.dag.specs.RootLaws.{roots_from_lem}
 use Rattle.dag.specs.Check.{list_check}
@@ -20,9 +20,6 @@ use Rattle.dag.specs.StoreLaws.{sound_well_formed, same_list_agree}
 use Rattle.dag.specs.WordLaws.{nodes_stored, sound_stored, stored_pass}
 use Rattle.dag.specs.WellFormed.{WellFormed}
 use Rattle.dag.specs.declared.NodeKind.{NodeKind}
-use Rattle.dag.specs.declared.Checked.{Checked}
-use Rattle.dag.specs.declared.Checked.TheVariants.{Good}
-use Rattle.dag.specs.declared.Checked.TheVariants as Checked'
 use Rattle.meaning.specs.Values.{value}
 use Rattle.compact.specs.Reach.{◌∈◌}
 use Rattle.compact.specs.Reach.◌∈◌.{here}
@@ -33,13 +30,14 @@ use Rattle.normalize.specs.Rounds.{Normal, fired, rounded, normalize}
 use Rattle.normalize.specs.RepeatLaws.{Answered}
 use Rattle.normalize.specs.Demand3.{same_value_at, as_many_roots, answer_well_formed, never_more, rounds_at_most_lost, given_back_exactly_when, idempotent}
 use Rattle.normalize.specs.Calls.{normalize_stores, answer_of, normalize_check, normalized, normalize_answer, normalize_result}
-use Rattle.normalize.specs.declared.NormalizeAnswer.{NormalizeAnswer}
+use Rattle.normalize.specs.declared.NormalEnd.{NormalEnd}
+use Rattle.dag.specs.declared.Refusal.{Refusal}
 use Rattle.demands.specs.Views.{same_nodes, same_check}
 use Rattle.demands.specs.Repeated.{Repeated, rooted_of, normalize_repeats}
 
 -- an answer of a count, one root and rounds kept
-abbrev pub Done : ℕ → ℕ → ℕ → NormalizeAnswer
-Done count root rounds = record { checked = Good; count = count; roots = roots_from (root ∷ []); rounds = rounds }
+abbrev pub Done : ℕ → ℕ → ℕ → Result NormalEnd Refusal
+Done count root rounds = Ok (record { count = count; roots = roots_from (root ∷ []); rounds = rounds })
 
 -- a list of one
 one : (l : List ℕ) → length l ≡ 1 → l ≡ get_or l 0 0 ∷ []
@@ -69,21 +67,22 @@ module _ (field : Field) where
 
   -- whoever hears count, root and rounds kept was accepted, and heard these
   pub done_accepted : (s : View) (n root result_room work_room count root' rounds : ℕ) → normalize_answer field s n root result_room work_room ≡ Done count root' rounds
-      → (normalize_check field s n root result_room work_room ≡ Good) × (count_of s n root ≡ count) × (root_of s n root ≡ root') × (rounds_of s n root ≡ rounds)
+      → (normalize_check field s n root result_room work_room ≡ Ok tt) × (count_of s n root ≡ count) × (root_of s n root ≡ root') × (rounds_of s n root ≡ rounds)
   unfolding normalize_answer
   done_accepted s n root result_room work_room count root' rounds e = go (normalize_check field s n root result_room work_room) (normalized field s n (root ∷ [])) e
     where
-      go : (c : Checked) (a : Normal) → unless_refused c (λ r. record { checked = Checked'.Refused r; count = 0; roots = roots_from []; rounds = 0 }) (answer_of a) ≡ Done count root' rounds
-          → (c ≡ Good) × (length a.list ≡ count) × (get_or a.roots 0 0 ≡ root') × (a.rounds ≡ rounds)
-      go Good a e = (
-        refl,
-        ap (λ d. d.count) e,
-        ap (λ l. get_or l 0 0) (sym (roots_from_lem a.roots) ∙ (ap (λ d. roots_of d.roots) e ∙ roots_from_lem (root' ∷ []))),
-        ap (λ d. d.rounds) e,
-      )
-      go (Checked'.Refused r) a e = let q : Checked'.Refused r ≡ Good = ap (λ d. d.checked) e in let z : ◌≡◌ {A = ℕ} 0 1 = cc in absurd (omega arith)
+      go : (c : Checked) (a : Normal) → unless_refused c Err (Ok (answer_of a)) ≡ Done count root' rounds
+          → (c ≡ Ok tt) × (length a.list ≡ count) × (get_or a.roots 0 0 ≡ root') × (a.rounds ≡ rounds)
+      go (Ok u) a e =
+          let f : answer_of a ≡ record { count = count; roots = roots_from (root' ∷ []); rounds = rounds } = cc in (
+            refl,
+            ap (λ d. d.count) f,
+            ap (λ l. get_or l 0 0) (sym (roots_from_lem a.roots) ∙ (ap (λ d. roots_of d.roots) f ∙ roots_from_lem (root' ∷ []))),
+            ap (λ d. d.rounds) f,
+          )
+      go (Err r) a e = let z : ◌≡◌ {A = ℕ} 0 1 = cc in absurd (omega arith)
 
-  module _ (s : View) (n root : ℕ) (result : List ℕ) (work_room : ℕ) (accepted : normalize_check field s n root (interleaved result).room work_room ≡ Good) where
+  module _ (s : View) (n root : ℕ) (result : List ℕ) (work_room : ℕ) (accepted : normalize_check field s n root (interleaved result).room work_room ≡ Ok tt) where
     abbrev list : List NodeKind
     list = (normalized field s n (root ∷ [])).list
 
@@ -113,7 +112,7 @@ module _ (field : Field) where
     -- it answers count, root and rounds kept
     pub answer_done : normalize_answer field s n root (interleaved result).room work_room ≡ Done count root' (rounds_of s n root)
     unfolding normalize_answer
-    answer_done = rw accepted (ap (λ rs. record { checked = Good; count = count; roots = roots_from rs; rounds = rounds_of s n root }) (one (normalized field s n (root ∷ [])).roots one_root))
+    answer_done = rw accepted (ap (λ rs. Ok (record { count = count; roots = roots_from rs; rounds = rounds_of s n root })) (one (normalized field s n (root ∷ [])).roots one_root))
 
     -- exactly those that the rounds give: as many as are kept before one isn't, and the list that this one started from
     pub answer_exact : Repeated field.elements (nodes s n) (root ∷ []) (rounds_of s n root) (rooted_of (normalized field s n (root ∷ [])))
@@ -144,7 +143,7 @@ module _ (field : Field) where
     answered = answer_well_formed field.elements (element_laws field) (nodes s n) well_formed (root ∷ []) inside
 
     -- the answer passes the list check
-    pub answer_passes : list_check field.bounds (interleaved store) count root' ≡ Good
+    pub answer_passes : list_check field.bounds (interleaved store) count root' ≡ Ok tt
     answer_passes =
         rw answer_words_lem
         (stored_pass result list field.bounds answered.well_formed root' (answered.inside root' (first_in (normalized field s n (root ∷ [])).roots one_root))
@@ -185,12 +184,12 @@ module _ (field : Field) where
     -- the list answered, in any store that begins with it: the result store, a slice cut behind the list, a copy with other words behind or of another layout
     module _ (t : View) (same : Alike (interleaved store) t count) where
       -- it passes the list check
-      pub again_passes : list_check field.bounds t count root' ≡ Good
+      pub again_passes : list_check field.bounds t count root' ≡ Ok tt
       again_passes = sym (same_check field (interleaved store) t count same root') ∙ answer_passes
 
       -- it is accepted wherever the stores have room for the count answered
       module _ (again : List ℕ) (work_again : ℕ) (result_room_lem : count ≤ (interleaved again).room) (work_room_lem : 2 * count ≤ work_again) where
-        pub again_accepted : normalize_check field t count root' (interleaved again).room work_again ≡ Good
+        pub again_accepted : normalize_check field t count root' (interleaved again).room work_again ≡ Ok tt
         unfolding normalize_check
         again_accepted = rw (again_passes, enough_room count (interleaved again).room result_room_lem, enough_room (2 * count) work_again work_room_lem)
 
@@ -201,7 +200,7 @@ module _ (field : Field) where
         -- it answers the same count and root, and 0 rounds kept
         pub answer_again : normalize_answer field t count root' (interleaved again).room work_again ≡ Done count root' 0
         unfolding normalize_answer
-        answer_again = rw (again_accepted, again_list) (ap (λ rs. record { checked = Good; count = count; roots = roots_from rs; rounds = 0 }) (one (normalized field s n (root ∷ [])).roots one_root))
+        answer_again = rw (again_accepted, again_list) (ap (λ rs. record { checked = (Ok tt); count = count; roots = roots_from rs; rounds = 0 }) (one (normalized field s n (root ∷ [])).roots one_root))
 
         -- and writes the same list, blanks behind it
         pub answer_again_words : normalize_result field t count root' again work_again ≡ stored again list

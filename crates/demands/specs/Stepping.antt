@@ -1,5 +1,5 @@
 -- Step reaches its call: what its answer and its store say together, where it answers a place and a count.
-use Rattle.std.specs.Prelude.{ℕ, ◌<◌, ◌≤◌, true, ◌||◌, List, ◌⊎◌, refl, leb, ltb, length}
+use Rattle.std.specs.Prelude.{ℕ, ◌<◌, ◌≤◌, true, ◌||◌, List, ◌⊎◌, refl, leb, ltb, length, Ok, Result, Err}
 use Rattle.std.proofs.Common.{inl, inr, arith}
 use Rattle.std.proofs.Math.Path.{◌≡◌}
 use borrow.Author.Tests.{leb-true, ltb-true}
@@ -9,7 +9,7 @@ use Rattle.dag.specs.View.{interleaved}
 use Rattle.dag.specs.Nodes.{most_records, nodes, decode, words_of}
 use Rattle.dag.specs.NodeLaws.{length_nodes}
 use Rattle.dag.specs.CaseLaws.{and_true, or_true}
-use Rattle.dag.specs.Refusals.{unless_refused}
+use Rattle.dag.specs.Refusals.{unless_refused, Checked}
 use Rattle.dag.specs.Check.{rootless_check}
 use Rattle.dag.specs.CheckLaws.{then_good, need_good}
 use Rattle.dag.specs.Store.{front, behind, written}
@@ -17,9 +17,7 @@ use Rattle.dag.specs.StoreLaws.{sound_well_formed}
 use Rattle.dag.specs.WordLaws.{front_written, behind_written, nodes_written, words_rootless}
 use Rattle.dag.specs.WellFormed.{Fine, WellFormed}
 use Rattle.dag.specs.declared.Refusal.TheVariants.{NoRoom}
-use Rattle.dag.specs.declared.Checked.{Checked}
-use Rattle.dag.specs.declared.Checked.TheVariants.{Good}
-use Rattle.dag.specs.declared.Checked.TheVariants as Checked'
+use Rattle.dag.specs.declared.Refusal.{Refusal}
 use Rattle.meaning.specs.Values.{value_of, value}
 use Rattle.builder.specs.Steps.{step}
 use Rattle.builder.specs.StepLaws.{Grown, step_grown}
@@ -27,18 +25,24 @@ use Rattle.builder.specs.StepValueLaws.{step_value, step_keeps}
 use Rattle.builder.specs.Calls.{step_check, has_room, stepped, step_room_check, step_whole_check, step_answer, step_store}
 use Rattle.builder.specs.CallLaws.{step_request}
 use Rattle.builder.specs.Promises.{Request}
-use Rattle.builder.specs.declared.StepAnswer.TheVariants.{Done, Refused}
+use Rattle.builder.specs.declared.Entered.{Entered}
+
+-- an answer of a place and a count
+abbrev pub Done : ℕ → ℕ → Result Entered Refusal
+Done place count = Ok (record { place = place; count = count })
 
 module _ (field : Field) where
   -- whoever hears a place and a count was accepted, and heard these
   pub step_accepted : (s : List ℕ) (n t a b place count : ℕ) → step_answer field (interleaved s) n t a b ≡ Done place count
-      → (step_whole_check field (interleaved s) n t a b ≡ Good) × ((stepped field (interleaved s) n t a b).place ≡ place) × (length (stepped field (interleaved s) n t a b).list ≡ count)
+      → (step_whole_check field (interleaved s) n t a b ≡ Ok tt) × ((stepped field (interleaved s) n t a b).place ≡ place) × (length (stepped field (interleaved s) n t a b).list ≡ count)
   unfolding step_answer
   step_accepted s n t a b place count e = go (step_whole_check field (interleaved s) n t a b) (stepped field (interleaved s) n t a b).place (length (stepped field (interleaved s) n t a b).list) e
     where
-      go : (c : Checked) (i k : ℕ) → unless_refused c Refused (Done i k) ≡ Done place count → (c ≡ Good) × (i ≡ place) × (k ≡ count)
-      go Good i k e = (refl, cc, cc)
-      go (Checked'.Refused r) i k e = let z : ◌≡◌ {A = ℕ} 0 1 = cc in absurd (omega arith)
+      go : (c : Checked) (i k : ℕ) → unless_refused c Err (Done i k) ≡ Done place count → (c ≡ Ok tt) × (i ≡ place) × (k ≡ count)
+      go (Ok u) i k e =
+          let f : ◌≡◌ {A = Entered} (record { place = i; count = k }) (record { place = place; count = count }) = cc in
+          (refl, ap (λ d. d.place) f, ap (λ d. d.count) f)
+      go (Err r) i k e = let z : ◌≡◌ {A = ℕ} 0 1 = cc in absurd (omega arith)
 
   module _ (s : List ℕ) (n t a b place count : ℕ) (done : step_answer field (interleaved s) n t a b ≡ Done place count) where
     abbrev store : List ℕ
@@ -47,10 +51,10 @@ module _ (field : Field) where
     abbrev list : List Rattle.dag.specs.declared.NodeKind.NodeKind
     list = (stepped field (interleaved s) n t a b).list
 
-    heard : (step_whole_check field (interleaved s) n t a b ≡ Good) × ((stepped field (interleaved s) n t a b).place ≡ place) × (length list ≡ count)
+    heard : (step_whole_check field (interleaved s) n t a b ≡ Ok tt) × ((stepped field (interleaved s) n t a b).place ≡ place) × (length list ≡ count)
     heard = step_accepted s n t a b place count done
 
-    tests : (step_check field (interleaved s) n t a b ≡ Good) × (step_room_check (interleaved s) n (stepped field (interleaved s) n t a b) ≡ Good)
+    tests : (step_check field (interleaved s) n t a b ≡ Ok tt) × (step_room_check (interleaved s) n (stepped field (interleaved s) n t a b) ≡ Ok tt)
     unfolding step_whole_check
     tests = then_good (step_check field (interleaved s) n t a b) (step_room_check (interleaved s) n (stepped field (interleaved s) n t a b)) heard.0
 
@@ -94,7 +98,7 @@ module _ (field : Field) where
     step_list_lem = rw (stored, ← heard.2) (nodes_written s list)
 
     -- the store still passes the list check
-    pub step_passes : rootless_check field.bounds 0 (interleaved store) count ≡ Good
+    pub step_passes : rootless_check field.bounds 0 (interleaved store) count ≡ Ok tt
     unfolding written
     step_passes =
         rw (stored, ← heard.2) (words_rootless (behind (length list) s) field.bounds list grown.well_formed 0 (omega arith) (omega (arith, heard.2, few)))

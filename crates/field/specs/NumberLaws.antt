@@ -1,36 +1,34 @@
 -- What a field number gives, once its field is known.
-use Rattle.std.specs.Prelude.{◌≡◌, ℕ, refl}
+use Rattle.std.specs.Prelude.{◌≡◌, ℕ, refl, Option, Some, None}
 use Rattle.std.proofs.Common.{sym, ◌∙◌, ap, ne_eqb}
 use Rattle.field.specs.Numbers.{numbered, named, in_field}
-use Rattle.field.specs.declared.FieldNumber.{FieldNumber}
-use Rattle.field.specs.declared.FieldNumber.TheVariants.{Known, Unknown}
 use Rattle.field.specs.declared.Prime.{Prime}
 use Rattle.field.specs.declared.Prime.TheVariants.{Goldilocks, BabyBear}
 
 -- the numbers
-pub number_one : numbered 1 ≡ Known Goldilocks
+pub number_one : numbered 1 ≡ Some Goldilocks
 unfolding numbered
 number_one = refl
 
-pub number_two : numbered 2 ≡ Known BabyBear
+pub number_two : numbered 2 ≡ Some BabyBear
 unfolding numbered
 number_two = refl
 
-pub number_other : (n : ℕ) → ¬ (n ≡ 1) → ¬ (n ≡ 2) → numbered n ≡ Unknown
+pub number_other : (n : ℕ) → ¬ (n ≡ 1) → ¬ (n ≡ 2) → numbered n ≡ None
 unfolding numbered
 number_other n h k = rw (ne_eqb n 1 h, ne_eqb n 2 k)
 
 module _ {A : Type 0} (number : ℕ) (unknown : A) (known : Prime → A) where
-  pub by_known : {prime : Prime} → numbered number ≡ Known prime → in_field number unknown known ≡ known prime
-  by_known e = ap (λ (i : FieldNumber). named i unknown known) e
+  pub by_known : {prime : Prime} → numbered number ≡ Some prime → in_field number unknown known ≡ known prime
+  by_known e = ap (λ (i : Option Prime). named i unknown known) e
 
-  pub by_unknown : numbered number ≡ Unknown → in_field number unknown known ≡ unknown
-  by_unknown e = ap (λ (i : FieldNumber). named i unknown known) e
+  pub by_unknown : numbered number ≡ None → in_field number unknown known ≡ unknown
+  by_unknown e = ap (λ (i : Option Prime). named i unknown known) e
 
   -- k is what the number names
-  module _ {k : FieldNumber} (e : k ≡ numbered number) where
-    pub in_known : {prime : Prime} {x : A} → k ≡ Known prime → x ≡ known prime → x ≡ in_field number unknown known
+  module _ {k : Option Prime} (e : k ≡ numbered number) where
+    pub in_known : {prime : Prime} {x : A} → k ≡ Some prime → x ≡ known prime → x ≡ in_field number unknown known
     in_known h g = g ∙ sym (by_known (sym e ∙ h))
 
-    pub in_unknown : {x : A} → k ≡ Unknown → x ≡ unknown → x ≡ in_field number unknown known
+    pub in_unknown : {x : A} → k ≡ None → x ≡ unknown → x ≡ in_field number unknown known
     in_unknown h g = g ∙ sym (by_unknown (sym e ∙ h))

@@ -63,14 +63,14 @@ fn fold(a: u64, b: u64) -> u64
     requires { a + b < 2 * p }
     ensures { (result ≡ (a + b) % p) × (result < p) }
 {
-    let s = std::num::wrapping_add_u64(a, b);
+    let s = a.wrapping_add(b);
     if s < a {
         return s + EPSILON;
     }
     if s < QuadFelt::MODULUS {
         return s;
     }
-    std::num::wrapping_add_u64(s, EPSILON)
+    s.wrapping_add(EPSILON)
 }
 
 // A number of two words, high · 2^64 + low.
@@ -102,8 +102,8 @@ fn low_word(a: u64, b: u64) -> u64
     let a0 = a % BASE;
     let b1 = b / BASE;
     let b0 = b % BASE;
-    let cross = std::num::wrapping_add_u64(a1 * b0, a0 * b1);
-    std::num::wrapping_add_u64(cross % BASE * BASE, a0 * b0)
+    let cross = (a1 * b0).wrapping_add(a0 * b1);
+    (cross % BASE * BASE).wrapping_add(a0 * b0)
 }
 
 // The whole product.

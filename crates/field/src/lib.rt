@@ -10,34 +10,26 @@ ghost use Rattle.field.specs.Numbers as Numbers;
 pub mod felt;
 
 // A field, by its prime.
-#[derive(Clone, Copy)]
+#[derive(Clone, Copy, PartialEq, Eq)]
 pub enum Prime {
     Goldilocks,
     BabyBear,
 }
 
-// What a field number names: a field, or none.
-#[derive(Clone, Copy)]
-pub enum FieldNumber {
-    Known(Prime),
-    Unknown,
-}
-
-// The field of a call's number.
-pub fn numbered(number: u64) -> FieldNumber
+// The field that a call's number names.
+#[tactic(auto, unfolding(crate::specs::Numbers::numbered))]
+pub fn numbered(number: u64) -> Option<Prime>
     ensures { result ≡ Numbers.numbered number }
 {
-    if number == 1 {
-        return FieldNumber::Known(Prime::Goldilocks);
+    match number {
+        1 => Some(Prime::Goldilocks),
+        2 => Some(Prime::BabyBear),
+        _ => None,
     }
-    if number == 2 {
-        return FieldNumber::Known(Prime::BabyBear);
-    }
-    FieldNumber::Unknown
 }
 
 // The element c0 + c1·u.
-#[derive(Clone, Copy)]
+#[derive(Clone, Copy, PartialEq, Eq)]
 pub struct QuadFelt {
     pub c0: u64,
     pub c1: u64,
@@ -132,17 +124,6 @@ impl QuadFelt {
         QuadFelt {
             c0: felt::neg(prime, self.c0),
             c1: felt::neg(prime, self.c1),
-        }
-    }
-
-    // Whether both coordinates are the same numbers.
-    pub fn same(self, o: QuadFelt) -> bool
-        ensures { result ≡ spec.same self o }
-    {
-        if self.c0 == o.c0 {
-            self.c1 == o.c1
-        } else {
-            false
         }
     }
 }

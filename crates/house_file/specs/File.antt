@@ -1,17 +1,16 @@
--- A house file (document 01, 'The installers' listing') as a list of bytes: its tests, and the list that it holds.
-use Rattle.std.specs.Prelude.{ℕ, zero, suc, ◌+◌, ◌*◌, Bool, ◌&&◌, List, leb, eqb, get_or, length}
+-- A house file as a list of bytes: its tests, and the list that it holds.
+use Rattle.std.specs.Prelude.{ℕ, zero, suc, ◌+◌, ◌*◌, Bool, ◌&&◌, List, leb, eqb, get_or, length, Result, Ok, Err}
 use Rattle.field.specs.Fields.{goldilocks}
 use Rattle.dag.specs.View.{View, interleaved}
 use Rattle.dag.specs.Nodes.{nodes}
-use Rattle.dag.specs.Refusals.{need, ◌then◌, unless_refused}
+use Rattle.dag.specs.Refusals.{need, ◌then◌, unless_refused, Checked}
 use Rattle.dag.specs.Check.{room_check, list_check}
 use Rattle.dag.specs.Store.{stored}
 use Rattle.dag.specs.declared.NodeKind.{NodeKind}
 use Rattle.dag.specs.declared.Refusal.TheVariants.{FileTooShort, FileVersion, FileCount, FileLength}
-use Rattle.dag.specs.declared.Checked.{Checked}
-use Rattle.house_file.specs.declared.Words.{Words}
-use Rattle.house_file.specs.declared.FileAnswer.{FileAnswer}
-use Rattle.house_file.specs.declared.FileAnswer.TheVariants as FileAnswer'
+use Rattle.dag.specs.declared.Words.{Words}
+use Rattle.dag.specs.declared.Refusal.{Refusal}
+use Rattle.house_file.specs.declared.Filed.{Filed}
 
 -- the number that k bytes from a place on write, highest first
 unfoldable pub number : List ℕ → ℕ → ℕ → ℕ
@@ -86,9 +85,13 @@ store_check file room = form_check file then room_check (file_count file) room
 unfoldable pub read_check : List ℕ → ℕ → Checked
 read_check file room = store_check file room then held_check file
 
--- count and root
-unfoldable pub read_answer : List ℕ → ℕ → FileAnswer
-read_answer file room = unless_refused (read_check file room) FileAnswer'.Refused (FileAnswer'.Read (file_count file) (file_root file))
+-- the list's count and root
+abbrev pub filed : List ℕ → Filed
+filed file = record { count = file_count file; root = file_root file }
+
+-- count and root, or why not
+unfoldable pub read_answer : List ℕ → ℕ → Result Filed Refusal
+read_answer file room = unless_refused (read_check file room) Err (Ok (filed file))
 
 -- the list, blanks behind it
 unfoldable pub read_list : List ℕ → List ℕ → List ℕ

@@ -1,5 +1,5 @@
 -- What the tests of a file give, and what reading it then gives.
-use Rattle.std.specs.Prelude.{ℕ, ◌+◌, ◌*◌, ◌^◌, ◌≤◌, ◌<◌, true, List, ◌≡◌, refl, leb, eqb, get_or, length}
+use Rattle.std.specs.Prelude.{ℕ, ◌+◌, ◌*◌, ◌^◌, ◌≤◌, ◌<◌, true, List, ◌≡◌, refl, leb, eqb, get_or, length, Ok, Err, Result}
 use Rattle.std.proofs.Common.{sym, ◌∙◌, ap, pow-suc, add-one, arith, leb-true, eqb-true}
 use Rattle.std.proofs.Math.Path.{ap₂}
 use Rattle.std.proofs.Math.Nat.{pow-le-pow_right}
@@ -9,7 +9,7 @@ use Rattle.dag.specs.ViewLaws.{words_room, agree_nodes, alike, alike_list}
 use Rattle.dag.specs.Nodes.{record_words, nodes, filled}
 use Rattle.dag.specs.NodeLaws.{length_nodes}
 use Rattle.dag.specs.CaseLaws.{and_true}
-use Rattle.dag.specs.Refusals.{need, ◌then◌, unless_refused}
+use Rattle.dag.specs.Refusals.{need, ◌then◌, unless_refused, Checked}
 use Rattle.dag.specs.Check.{room_check, list_check}
 use Rattle.dag.specs.CheckLaws.{then_good, need_good}
 use Rattle.dag.specs.PassLaws.{enough_room, rooted, room_enough as room_fits}
@@ -18,18 +18,15 @@ use Rattle.dag.specs.StoreLaws.{sound_well_formed, same_list_agree}
 use Rattle.dag.specs.WordLaws.{nodes_stored, sound_stored, filled_front}
 use Rattle.dag.specs.declared.Refusal.{Refusal}
 use Rattle.dag.specs.declared.Refusal.TheVariants.{FileTooShort, FileVersion, FileCount, FileLength}
-use Rattle.dag.specs.declared.Checked.{Checked}
-use Rattle.dag.specs.declared.Checked.TheVariants.{Good, Refused}
-use Rattle.house_file.specs.declared.FileAnswer.{FileAnswer}
-use Rattle.house_file.specs.declared.FileAnswer.TheVariants as FileAnswer'
+use Rattle.house_file.specs.declared.Filed.{Filed}
 use Rattle.house_file.specs.Promises.{Headed, Formed, Passed, Done}
-use Rattle.house_file.specs.File.{number, file_count, file_root, most_filed, record_place, file_view, file_list, is_count, head_check, form_check, held_check, file_check, store_check, read_check, read_answer, read_list}
+use Rattle.house_file.specs.File.{number, file_count, file_root, most_filed, record_place, file_view, file_list, is_count, head_check, form_check, held_check, file_check, store_check, read_check, read_answer, read_list, filed}
 
 pub count_range : (n : ℕ) → is_count n ≡ true → (1 ≤ n) × (n ≤ most_filed)
 unfolding is_count
 count_range n e = let both = and_true (leb 1 n) (leb n most_filed) e in (leb-true 1 n both.0, leb-true n most_filed both.1)
 
-pub headed : (file : List ℕ) → head_check file ≡ Good → Headed file
+pub headed : (file : List ℕ) → head_check file ≡ Ok tt → Headed file
 unfolding head_check
 headed file e =
     let long = leb 9 (length file) in
@@ -44,7 +41,7 @@ headed file e =
       most = both.1;
     }
 
-pub formed : (file : List ℕ) → form_check file ≡ Good → Formed file
+pub formed : (file : List ℕ) → form_check file ≡ Ok tt → Formed file
 unfolding form_check
 formed file e =
     let whole = eqb (length file) (record_place (file_count file)) in
@@ -59,11 +56,11 @@ pub filed_room : (words : List ℕ) (n : ℕ) → length words ≡ record_words 
 filed_room words n e h = words_room words n (omega (arith, e))
 
 -- a file of good form that fits
-pub fits : (file : List ℕ) (room : ℕ) → store_check file room ≡ Good → Formed file × (file_count file ≤ room)
+pub fits : (file : List ℕ) (room : ℕ) → store_check file room ≡ Ok tt → Formed file × (file_count file ≤ room)
 unfolding store_check
 fits file room e = let both = then_good (form_check file) (room_check (file_count file) room) e in (formed file both.0, room_fits (file_count file) room both.1)
 
-pub passed : (file : List ℕ) (room : ℕ) → read_check file room ≡ Good → Passed file room
+pub passed : (file : List ℕ) (room : ℕ) → read_check file room ≡ Ok tt → Passed file room
 unfolding read_check
 passed file room e =
     let both = then_good (store_check file room) (held_check file) e in
@@ -76,30 +73,32 @@ unfolding read_check store_check file_check
 room_enough file room h = go (form_check file) refl
   where
     go : (c : Checked) → form_check file ≡ c → (c then room_check (file_count file) room) then held_check file ≡ c then held_check file
-    go Good e = let m = (formed file e).head.most in rw (enough_room (file_count file) room (omega arith))
-    go (Refused r) e = refl
+    go (Ok u) e = let m = (formed file e).head.most in rw (enough_room (file_count file) room (omega arith))
+    go (Err r) e = refl
 
 -- what an answer tells of the tests
-pub read_refused : (file : List ℕ) (room : ℕ) (r : Refusal) → read_answer file room ≡ FileAnswer'.Refused r → read_check file room ≡ Refused r
+pub read_refused : (file : List ℕ) (room : ℕ) (r : Refusal) → read_answer file room ≡ Err r → read_check file room ≡ Err r
 unfolding read_answer
 read_refused file room r = go (read_check file room)
   where
-    go : (c : Checked) → unless_refused c FileAnswer'.Refused (FileAnswer'.Read (file_count file) (file_root file)) ≡ FileAnswer'.Refused r → c ≡ Refused r
-    go Good e = let z : ◌≡◌ {A = ℕ} 0 1 = cc in absurd (omega arith)
-    go (Refused q) e = cc
+    go : (c : Checked) → unless_refused c Err (Ok (filed file)) ≡ Err r → c ≡ Err r
+    go (Ok u) e = let z : ◌≡◌ {A = ℕ} 0 1 = cc in absurd (omega arith)
+    go (Err q) e = cc
 
 pub record Read (file : List ℕ) (room count root : ℕ) : Type 0 where
-  pub good : read_check file room ≡ Good
+  pub good : read_check file room ≡ Ok tt
   pub count_is : count ≡ file_count file
   pub root_is : root ≡ file_root file
 
-pub read_done : (file : List ℕ) (room count root : ℕ) → read_answer file room ≡ FileAnswer'.Read count root → Read file room count root
+pub read_done : (file : List ℕ) (room count root : ℕ) → read_answer file room ≡ Ok (record { count = count; root = root }) → Read file room count root
 unfolding read_answer
 read_done file room count root = go (read_check file room) refl
   where
-    go : (c : Checked) → read_check file room ≡ c → unless_refused c FileAnswer'.Refused (FileAnswer'.Read (file_count file) (file_root file)) ≡ FileAnswer'.Read count root → Read file room count root
-    go Good g e = record { good = g; count_is = cc; root_is = cc }
-    go (Refused q) g e = let z : ◌≡◌ {A = ℕ} 0 1 = cc in absurd (omega arith)
+    go : (c : Checked) → read_check file room ≡ c → unless_refused c Err (Ok (filed file)) ≡ Ok (record { count = count; root = root }) → Read file room count root
+    go (Ok u) g e =
+        let same : filed file ≡ record { count = count; root = root } = cc in
+        record { good = g; count_is = ap (λ f. f.count) (sym same); root_is = ap (λ f. f.root) (sym same) }
+    go (Err q) g e = let z : ◌≡◌ {A = ℕ} 0 1 = cc in absurd (omega arith)
 
 -- a store that holds the words of a file's records, and what its list check c says
 module _ (file list words : List ℕ) (n root : ℕ) (en : n ≡ file_count file) (er : root ≡ file_root file) (room : n ≤ (interleaved words).room) (whole : Agree (interleaved words) (file_view file) n)
@@ -111,34 +110,34 @@ module _ (file list words : List ℕ) (n root : ℕ) (en : n ≡ file_count file
       ∙ (alike_list (interleaved words) (file_view file) n (alike (interleaved words) (file_view file) n room (omega (arith, en)) whole) goldilocks.bounds root
       ∙ ap₂ (list_check goldilocks.bounds (file_view file)) en er)
 
-  pub done_refused : (r : Refusal) → c ≡ Refused r → Done file list (FileAnswer'.Refused r) list
-  done_refused r e = let h : held_check file ≡ Refused r = sym held ∙ e in record { answer = rw h; list_is = rw h }
+  pub done_refused : (r : Refusal) → c ≡ Err r → Done file list (Err r) list
+  done_refused r e = let h : held_check file ≡ Err r = sym held ∙ e in record { answer = rw h; list_is = rw h }
 
-  pub done_good : (after : List ℕ) → c ≡ Good → after ≡ filled (length list) (front n words) → Done file list (FileAnswer'.Read n root) after
+  pub done_good : (after : List ℕ) → c ≡ Ok tt → after ≡ filled (length list) (front n words) → Done file list (Ok (record { count = n; root = root })) after
   done_good after e ea =
-      let good : held_check file ≡ Good = sym held ∙ e in
+      let good : held_check file ≡ Ok tt = sym held ∙ e in
       let sound = (rooted goldilocks.bounds (interleaved words) n root (sym ec ∙ e)).list.sound in
       let same = agree_nodes (interleaved words) (file_view file) n whole ∙ ap (nodes (file_view file)) en in
       record {
-        answer = rw good (ap₂ FileAnswer'.Read en er);
+        answer = rw good (ap₂ (λ count root. Ok (record { count = count; root = root })) en er);
         list_is = rw good (ea ∙ (filled_front goldilocks.bounds words list n sound ∙ ap (stored list) same));
       }
 
 -- what reading gives, refused or not
-pub record Told (file list : List ℕ) (a : FileAnswer) (after : List ℕ) : Type 0 where
+pub record Told (file list : List ℕ) (a : Result Filed Refusal) (after : List ℕ) : Type 0 where
   pub answer : a ≡ read_answer file (interleaved list).room
   pub list_is : after ≡ read_list file list
 
-pub told_refused : (file list : List ℕ) (r : Refusal) → store_check file (interleaved list).room ≡ Refused r → Told file list (FileAnswer'.Refused r) list
+pub told_refused : (file list : List ℕ) (r : Refusal) → store_check file (interleaved list).room ≡ Err r → Told file list (Err r) list
 unfolding read_answer read_list read_check
 told_refused file list r e = record { answer = rw e; list_is = rw e }
 
-pub told_done : (file list : List ℕ) (a : FileAnswer) (after : List ℕ) → store_check file (interleaved list).room ≡ Good → Done file list a after → Told file list a after
+pub told_done : (file list : List ℕ) (a : Result Filed Refusal) (after : List ℕ) → store_check file (interleaved list).room ≡ Ok tt → Done file list a after → Told file list a after
 unfolding read_answer read_list read_check
 told_done file list a after e d = record { answer = rw e d.answer; list_is = rw e d.list_is }
 
 -- the store that a file is read into holds the file's words
-pub read_agrees : (file list : List ℕ) → read_check file (interleaved list).room ≡ Good → Agree (interleaved (read_list file list)) (file_view file) (file_count file)
+pub read_agrees : (file list : List ℕ) → read_check file (interleaved list).room ≡ Ok tt → Agree (interleaved (read_list file list)) (file_view file) (file_count file)
 unfolding read_list held_check
 read_agrees file list e =
     let m = goldilocks.bounds in

@@ -1,11 +1,10 @@
 -- What the functions of the house file ask and say.
-use Rattle.std.specs.Prelude.{ℕ, ◌≤◌, List, ◌≡◌, length}
+use Rattle.std.specs.Prelude.{ℕ, ◌≤◌, List, ◌≡◌, length, Ok, Result, Err}
 use Rattle.dag.specs.Refusals.{unless_refused}
 use Rattle.dag.specs.Store.{stored}
-use Rattle.dag.specs.declared.Checked.TheVariants.{Good}
-use Rattle.house_file.specs.declared.FileAnswer.{FileAnswer}
-use Rattle.house_file.specs.declared.FileAnswer.TheVariants as FileAnswer'
-use Rattle.house_file.specs.File.{file_count, file_root, most_filed, record_place, file_list, held_check}
+use Rattle.dag.specs.declared.Refusal.{Refusal}
+use Rattle.house_file.specs.declared.Filed.{Filed}
+use Rattle.house_file.specs.File.{file_count, most_filed, record_place, file_list, held_check, filed}
 
 -- a file with a good head
 pub record Headed (file : List ℕ) : Type 0 where
@@ -22,9 +21,9 @@ pub record Formed (file : List ℕ) : Type 0 where
 pub record Passed (file : List ℕ) (room : ℕ) : Type 0 where
   pub form : Formed file
   pub fits : file_count file ≤ room
-  pub held_is : held_check file ≡ Good
+  pub held_is : held_check file ≡ Ok tt
 
 -- a file of good form read into a store that it fits
-pub record Done (file list : List ℕ) (a : FileAnswer) (after : List ℕ) : Type 0 where
-  pub answer : a ≡ unless_refused (held_check file) FileAnswer'.Refused (FileAnswer'.Read (file_count file) (file_root file))
+pub record Done (file list : List ℕ) (a : Result Filed Refusal) (after : List ℕ) : Type 0 where
+  pub answer : a ≡ unless_refused (held_check file) Err (Ok (filed file))
   pub list_is : after ≡ unless_refused (held_check file) (λ _. list) (stored list (file_list file))

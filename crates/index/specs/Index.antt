@@ -1,6 +1,7 @@
 -- An index of places by bucket, in one store: its first half holds each bucket's greatest place, its second half, for each place, the next lower place of the same bucket. A link is a place plus 1, or 0 for none.
-use Rattle.std.specs.Prelude.{ℕ, zero, suc, ◌+◌, ◌*◌, ◌/◌, ◌%◌, ◌^◌, ◌<◌, ◌≤◌, cond, List, ◌≡◌, eqb, get_or, length, set}
+use Rattle.std.specs.Prelude.{ℕ, zero, suc, ◌+◌, ◌*◌, ◌/◌, ◌%◌, ◌^◌, ◌<◌, ◌≤◌, cond, Bool, true, Option, List, ◌≡◌, eqb, get_or, length, set}
 use Rattle.dag.specs.View.{View}
+use Rattle.dag.specs.Lookup.{greatest}
 use Rattle.dag.specs.Nodes.{tag, first, second, at}
 use Rattle.dag.specs.declared.NodeKind.{NodeKind}
 
@@ -48,3 +49,16 @@ pub record NodeIndex (l : List NodeKind) (links : List ℕ) : Type 0 where
   pub usable : Usable links
   pub room : length l ≤ half links
   pub indexed : Indexed (half links) (λ i. node_bucket (half links) (at l i)) (length l) links
+
+-- what is sought along bucket k: the greatest of `count` places where `hit` holds. The places are indexed by their bucket, and only those of
+-- bucket k hit. At each a test may be asked, which says whether it hits, and below each a search, which says where.
+pub record Sought (hit : ℕ → Bool) (count : ℕ) (links : List ℕ) (k : ℕ) (may_test : ℕ → Type 0) (tested : ℕ → Bool → Type 0) (may_search : ℕ → Type 0) (searched : ℕ → Option ℕ → Type 0) : Type 0 where
+  pub bucket : ℕ → ℕ
+  pub indexed : Indexed (half links) bucket count links
+  pub inside : k < half links
+  pub few : count ≤ half links
+  pub only : (i : ℕ) → i < count → hit i ≡ true → bucket i ≡ k
+  pub test : (i : ℕ) → i < count → may_test i
+  pub test_is : (i : ℕ) (b : Bool) → i < count → tested i b → b ≡ hit i
+  pub search_at : (i : ℕ) → i ≤ count → may_search i
+  pub search_is : (i : ℕ) (r : Option ℕ) → i ≤ count → searched i r → r ≡ greatest hit i

@@ -1,26 +1,23 @@
 -- The index of a list's records.
 use Rattle.field.specs.Fields.{Bounds}
-use Rattle.std.specs.Prelude.{ℕ, zero, suc, ◌+◌, ◌*◌, ◌-◌, ◌/◌, ◌^◌, ◌<◌, ◌≤◌, Bool, true, false, ◌&&◌, List, [], ◌∷◌, ◌++◌, ◌⊎◌, ◌≡◌, get_or, length, take, replicate}
+use Rattle.std.specs.Prelude.{ℕ, zero, suc, ◌+◌, ◌*◌, ◌/◌, ◌^◌, ◌<◌, ◌≤◌, Bool, true, ◌&&◌, List, [], ◌∷◌, ◌++◌, ◌⊎◌, ◌≡◌, get_or, length, replicate, Option}
 use Rattle.std.proofs.Common.{inl, inr, sym, ◌∙◌, ap₂, mul-lt-mul_of_pos_right, mul-le-mul, add-one, arith}
 use Rattle.std.proofs.Math.Path.{ap}
-use Rattle.std.proofs.Math.Nat.{sub-zero}
 use borrow.Author.Tests.{eqb-true}
 use Rattle.std.proofs.Math.Dec.{eqb}
 use Rattle.std.proofs.lemmas.List.{length-replicate}
 use Rattle.dag.specs.View.{View}
 use Rattle.dag.specs.BlankLaws.{all_zero}
 use Rattle.dag.specs.CaseLaws.{and_true, below_suc}
-use Rattle.dag.specs.Nodes.{tag, first, second, at, nodes, record_at}
+use Rattle.dag.specs.Nodes.{tag, first, second, three, at, nodes, record_at}
 use Rattle.dag.specs.NodeLaws.{at_left, at_last, at_nodes, length_nodes, length_snoc}
 use Rattle.dag.specs.Lookup.{greatest, lookup}
 use Rattle.dag.specs.Store.{Sound, words_are}
 use Rattle.dag.specs.StoreLaws.{lookup_whole, tag_word_lem, first_word_lem, second_word_lem, sound_less}
 use Rattle.dag.specs.declared.NodeKind.{NodeKind}
-use Rattle.dag.specs.declared.Found.{Found}
-use Rattle.dag.specs.declared.Found.TheVariants.{At, Missing}
-use Rattle.index.specs.Index.{half, Indexed, noted, hash, bucket_of, node_bucket, word_bucket, Usable, NodeIndex}
+use Rattle.dag.specs.declared.Words.{Words}
+use Rattle.index.specs.Index.{half, Indexed, noted, hash, bucket_of, node_bucket, word_bucket, Usable, NodeIndex, Sought}
 use Rattle.index.specs.IndexLaws.{indexed_agree, indexed_none, indexed_noted, length_noted}
-use Rattle.index.specs.WalkLaws.{Walking, walk_begin, walk_on, walk_down, walk_hit, walk_none}
 
 -- the same words have the same bucket
 pub same_bucket : (n : ℕ) {t a b u v w : ℕ} → t ≡ u → a ≡ v → b ≡ w → bucket_of n (hash t a b) ≡ bucket_of n (hash u v w)
@@ -44,9 +41,8 @@ pub node_inside : (b t u v : ℕ) → 0 < b → bucket_of b (hash t u v) < b
 node_inside b t u v h = bucket_below b (hash t u v) h (hash_below t u v)
 
 -- an empty index
-pub index_none : (links : List ℕ) → Usable links → (after : List ℕ) → after ≡ take 0 links ++ replicate (length links - 0) 0 → NodeIndex [] after
-index_none links u after whole =
-    let e : after ≡ replicate (length links) zero = rw (sub-zero (length links)) at whole in
+pub index_none : (links : List ℕ) → Usable links → (after : List ℕ) → after ≡ replicate (length links) 0 → NodeIndex [] after
+index_none links u after e =
     let k : length after ≡ length links = ap length e ∙ length-replicate (length links) zero in
     record {
       usable = record { some = rw k u.some; few = rw k u.few };
@@ -90,69 +86,51 @@ sound_first m s (suc n) k h d = go (below_suc k (suc n) (omega arith)) (λ j. so
     go (inl j) before = before (omega arith)
     go (inr e) before = rw e d
 
--- the walk of a lookup over the words t, a, b of a record
-module _ (s : View) (n : ℕ) (links : List ℕ) (t a b : ℕ) where
-  here : ℕ → Bool
-  here i = words_are s i t a b
+-- what a lookup of the words v of a record seeks
+module _ (s : View) (n : ℕ) (links : List ℕ) (v : Words) where
+  -- the record at place i has those words
+  unfoldable pub here : ℕ → Bool
+  here i = words_are s i v
 
-  bucket : ℕ → ℕ
+  -- the bucket of the record at place i
+  unfoldable pub bucket : ℕ → ℕ
   bucket i = node_bucket (half links) (at (nodes s n) i)
 
-  start : ℕ
-  start = bucket_of (half links) (hash t a b)
-
-  -- the walk stands at this link
-  pub record Standing (link : ℕ) : Type 0 where
-    walking : Walking here bucket start n link
-
-  pub standing_below : (link : ℕ) → Standing link → link ≤ n
-  standing_below link w = w.walking.below
-
   module _ (m : Bounds) (sound : Sound m s n) (d : NodeIndex (nodes s n) links) where
-    only : (i : ℕ) → i < n → here i ≡ true → bucket i ≡ start
-    unfolding here bucket start words_are
+    pub only : (i : ℕ) → i < n → here i ≡ true → bucket i ≡ bucket_of (half links) (hash v.tag v.first v.second)
+    unfolding here bucket words_are
     only i h e =
-        let p = and_true (eqb (s.tag_word i) t && eqb (s.first_word i) a) (eqb (s.second_word i) b) e in
-        let q = and_true (eqb (s.tag_word i) t) (eqb (s.first_word i) a) p.0 in
+        let p = and_true (eqb (s.tag_word i) v.tag) (eqb (s.first_word i) v.first && eqb (s.second_word i) v.second) e in
+        let q = and_true (eqb (s.first_word i) v.first) (eqb (s.second_word i) v.second) p.1 in
         ap (node_bucket (half links)) (at_nodes s n i h)
-        ∙ same_bucket (half links) (tag_word_lem m s n sound i h ∙ eqb-true (s.tag_word i) t q.0) (first_word_lem m s n sound i h ∙ eqb-true (s.first_word i) a q.1)
-        (second_word_lem m s n sound i h ∙ eqb-true (s.second_word i) b p.1)
+        ∙ same_bucket (half links) (tag_word_lem m s n sound i h ∙ eqb-true (s.tag_word i) v.tag p.0) (first_word_lem m s n sound i h ∙ eqb-true (s.first_word i) v.first q.0)
+        (second_word_lem m s n sound i h ∙ eqb-true (s.second_word i) v.second q.1)
 
-    inside : start < half links
-    unfolding start
-    inside = node_inside (half links) t a b d.usable.some
-
-    indexed : Indexed (half links) bucket n links
+    pub by_bucket : Indexed (half links) bucket n links
     unfolding bucket
-    indexed = rw (length_nodes s n) at d.indexed
+    by_bucket = rw (length_nodes s n) at d.indexed
 
-    pub find_begin : (k h : ℕ) → k ≡ bucket_of (half links) h → h ≡ hash t a b → Standing (get_or links k 0)
-    unfolding start
-    find_begin k h ek eh = rw (ek, eh) (record { walking = walk_begin here bucket start n only (half links) links indexed inside })
-
-    pub find_on : (link : ℕ) → Standing link → 0 < link → words_are s (link - 1) t a b ≡ false → Standing (get_or links (half links + (link - 1)) 0)
+    -- the search of the places below is the lookup there, and so is the whole one
+    pub lookup_below : (x : NodeKind) → v ≡ three x → (k : ℕ) → k ≤ n → greatest here k ≡ lookup (nodes s k) x k
     unfolding here
-    find_on link w g miss = record { walking = walk_on here bucket start n only (half links) links indexed inside link w.walking g miss }
+    lookup_below x e k h = lookup_whole m s k x v (sound_first m s n k h sound) e
 
-    pub find_down : (link : ℕ) → Standing link → 0 < link → get_or links (half links + (link - 1)) 0 < link
-    find_down link w g = walk_down here bucket start n only (half links) links indexed inside link w.walking g
-
-    module _ (x : NodeKind) (et : t ≡ tag x) (ea : a ≡ first x) (eb : b ≡ second x) where
-      whole : greatest here n ≡ lookup (nodes s n) x n
-      unfolding here
-      whole = lookup_whole m s n x t a b sound et ea eb
-
-      pub find_hit : (link : ℕ) → Standing link → 0 < link → words_are s (link - 1) t a b ≡ true → At (link - 1) ≡ lookup (nodes s n) x n
-      unfolding here
-      find_hit link w g hit = walk_hit here bucket start n only link w.walking g hit ∙ whole
-
-      pub find_none : (link : ℕ) → Standing link → link ≤ 0 → Missing ≡ lookup (nodes s n) x n
-      find_none link w g = walk_none here bucket start n only link w.walking g ∙ whole
-
-      -- the plain search from here on
-      pub find_plain : (link : ℕ) → Standing link → {r : Found} → r ≡ lookup (nodes s link) x link → r ≡ lookup (nodes s n) x n
-      unfolding here
-      find_plain link w e =
-          e
-          ∙ (sym (lookup_whole m s link x t a b (sound_first m s n link w.walking.below sound) et ea eb)
-          ∙ (sym w.walking.same ∙ whole))
+    -- what a lookup of x seeks along its bucket, by a test and a search of which this is known
+    pub seeks : (x : NodeKind) → v ≡ three x → (k h : ℕ) → k ≡ bucket_of (half links) h → h ≡ hash v.tag v.first v.second
+        → (may_test : ℕ → Type 0) (tested : ℕ → Bool → Type 0) (may_search : ℕ → Type 0) (searched : ℕ → Option ℕ → Type 0)
+        → ((i : ℕ) → i < s.room → may_test i) → ((i : ℕ) (b : Bool) → tested i b → b ≡ words_are s i v)
+        → ((i : ℕ) → Sound m s i → may_search i) → ((i : ℕ) (r : Option ℕ) → searched i r → r ≡ lookup (nodes s i) x i)
+        → Sought here n links k may_test tested may_search searched
+    unfolding here
+    seeks x e k h ek eh may_test tested may_search searched test test_is search_at search_is =
+        record {
+          bucket = bucket;
+          indexed = by_bucket;
+          inside = rw (ek, eh) (node_inside (half links) v.tag v.first v.second d.usable.some);
+          few = omega (arith, d.room, length_nodes s n);
+          only = λ i j f. only i j f ∙ sym (ek ∙ ap (bucket_of (half links)) eh);
+          test = λ i j. test i (omega (arith, sound.room));
+          test_is = λ i b j p. test_is i b p;
+          search_at = λ i j. search_at i (sound_first m s n i j sound);
+          search_is = λ i r j p. search_is i r p ∙ sym (lookup_below x e i j);
+        }

@@ -1,8 +1,7 @@
 -- The walk along a bucket: it meets the places of one bucket from the greatest down, and passes no place at which the test holds.
-use Rattle.std.specs.Prelude.{ℕ, zero, suc, ◌+◌, ◌-◌, ◌<◌, ◌≤◌, Bool, true, false, cond, List, ◌≡◌, refl, eqb, get_or}
+use Rattle.std.specs.Prelude.{ℕ, zero, suc, ◌+◌, ◌-◌, ◌<◌, ◌≤◌, Bool, true, false, cond, List, ◌≡◌, refl, eqb, get_or, Some, None}
 use Rattle.std.proofs.Common.{sym, ◌∙◌, ap, sub-one, arith}
 use Rattle.std.proofs.lemmas.Bool.{eqb-false}
-use Rattle.dag.specs.declared.Found.TheVariants.{At, Missing}
 use Rattle.dag.specs.Lookup.{greatest}
 use Rattle.dag.specs.SearchLaws.{greatest_miss, greatest_hit, greatest_none}
 use Rattle.index.specs.Index.{latest, Indexed}
@@ -15,7 +14,7 @@ greatest_latest hit bucket k zero only = refl
 greatest_latest hit bucket k (suc n) only = go (eqb (bucket n) k) refl (hit n) refl (greatest_latest hit bucket k n (λ i j. only i (omega arith)))
   where
     go : (t : Bool) → eqb (bucket n) k ≡ t → (h : Bool) → hit n ≡ h → greatest hit n ≡ greatest hit (latest bucket n k)
-        → cond (hit n) (At n) (greatest hit n) ≡ greatest hit (cond t (suc n) (latest bucket n k))
+        → cond (hit n) (Some n) (greatest hit n) ≡ greatest hit (cond t (suc n) (latest bucket n k))
     go true e h q before = refl
     go false e true q before = absurd (eqb-false (bucket n) k e (only n (omega arith) q))
     go false e false q before = rw q before
@@ -55,8 +54,8 @@ module _ (hit : ℕ → Bool) (bucket : ℕ → ℕ) (k n : ℕ) (only : (i : �
         let j = latest_le bucket (link - 1) (bucket (link - 1)) in
         omega arith
 
-  pub walk_hit : (link : ℕ) → Walking hit bucket k n link → 0 < link → hit (link - 1) ≡ true → At (link - 1) ≡ greatest hit n
+  pub walk_hit : (link : ℕ) → Walking hit bucket k n link → 0 < link → hit (link - 1) ≡ true → Some (link - 1) ≡ greatest hit n
   walk_hit link w h e = sym (w.same ∙ greatest_hit hit link h e)
 
-  pub walk_none : (link : ℕ) → Walking hit bucket k n link → link ≤ 0 → Missing ≡ greatest hit n
+  pub walk_none : (link : ℕ) → Walking hit bucket k n link → link ≤ 0 → None ≡ greatest hit n
   walk_none link w h = sym (w.same ∙ greatest_none hit link h)

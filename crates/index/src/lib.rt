@@ -1,14 +1,16 @@
 // An index of places by a hash of the record's words, for the lookup.
 #![tactic(auto)]
 
-ghost use Rattle.std.specs.Prelude.{◌≡◌, [], ◌+◌, ◌*◌, ◌/◌, ◌^◌, ◌<◌, ◌≤◌};
+ghost use Rattle.std.specs.Prelude.{◌≡◌, ℕ, Bool, [], ◌+◌, ◌*◌, ◌/◌, ◌^◌, ◌<◌, ◌≤◌};
 ghost use Rattle.dag.specs.View.{interleaved};
 ghost use Rattle.dag.specs.Nodes as Nodes;
 ghost use Rattle.dag.specs.Store as Store;
 ghost use Rattle.dag.specs.Lookup as Lookup;
+ghost use Rattle.dag.specs.Lookup.{greatest};
 ghost use Rattle.index.specs.Index as Index;
+ghost use Rattle.index.specs.Index.{Sought};
 
-use dag::{Found, NodeKind};
+use dag::{NodeKind, Words};
 
 // So many steps a walk along a bucket takes before the plain search is quicker.
 pub const MOST_STEPS: usize = 8;
@@ -17,10 +19,14 @@ pub const MOST_STEPS: usize = 8;
 const BASE: u64 = 4294967296;
 
 // The hash of three words.
-pub fn hash(t: u64, a: u64, b: u64) -> u64
-    ensures { (result ≡ Index.hash t a b) × (result < 2 ^ 32) }
+pub fn hash(w: Words) -> u64
+    ensures { (result ≡ Index.hash w.tag w.first w.second) × (result < 2 ^ 32) }
 {
-    (a % BASE * 1013904243 + a / BASE * 965271753 + b % BASE * 736899889 + t % 8 * 889516853) % BASE
+    (w.first % BASE * 1013904243
+        + w.first / BASE * 965271753
+        + w.second % BASE * 736899889
+        + w.tag % 8 * 889516853)
+        % BASE
 }
 
 // One of so many buckets by a hash.
@@ -36,7 +42,7 @@ pub fn clear(links: &mut [u64])
     requires { Index.Usable links.old }
     ensures { Index.NodeIndex [] links.new }
 {
-    dag::fill(links, 0, 0);
+    links.fill(0);
 }
 
 // Notes place n in bucket k.
@@ -49,26 +55,12 @@ fn link(links: &mut [u64], n: usize, k: usize)
 }
 
 // Notes place n in the bucket of three words.
-pub fn note(links: &mut [u64], n: usize, t: u64, a: u64, b: u64)
+pub fn note(links: &mut [u64], n: usize, w: Words)
     requires { Index.Usable links.old × (n < Index.half links.old) }
-    ensures { links.new ≡ Index.noted links.old n (Index.bucket_of (Index.half links.old) (Index.hash t a b)) }
+    ensures { links.new ≡ Index.noted links.old n (Index.bucket_of (Index.half links.old) (Index.hash w.tag w.first w.second)) }
 {
-    let k = bucket_of(links.len() / 2, hash(t, a, b));
+    let k = bucket_of(links.len() / 2, hash(w));
     link(links, n, k);
-}
-
-// Notes the record at place i.
-fn note_record(list: &[u64], i: usize, links: &mut [u64])
-    requires { (i < (interleaved list.now).room) × Index.Usable links.old × (i < Index.half links.old) }
-    ensures { links.new ≡ Index.noted links.old i (Index.word_bucket (Index.half links.old) (interleaved list.now) i) }
-{
-    note(
-        links,
-        i,
-        dag::tag_at(list, i),
-        dag::first_at(list, i),
-        dag::second_at(list, i),
-    );
 }
 
 // Indexes the first n records of a list.
@@ -77,34 +69,46 @@ pub fn index_list(list: &[u64], n: usize, links: &mut [u64])
     ensures { Index.NodeIndex (Nodes.nodes (interleaved list.now) n) links.new }
 {
     clear(links);
-    let mut i = 0;
-    while i < n {
-        note_record(list, i, links);
-        i += 1;
+    for i in 0..n {
+        note(links, i, dag::words_at(list, i));
     }
 }
 
-// The greatest place of a record equal to x among the first n, along its bucket; behind many others of the bucket by the plain search.
-pub fn find(list: &[u64], n: usize, links: &[u64], x: NodeKind) -> Found
+// The greatest indexed place where a test holds, along bucket k; behind many others of the bucket by a search of the places below.
+pub fn walk<T: Fn(usize) -> bool, S: Fn(usize) -> Option<usize>>(
+    links: &[u64],
+    k: usize,
+    is_hit: T,
+    search: S,
+) -> Option<usize>
+    requires { (hit : ℕ → Bool) × (count : ℕ) × Sought hit count links.now k (T.pre is_hit) (T.post is_hit) (S.pre search) (S.post search) }
+    ensures { (hit : ℕ → Bool) (count : ℕ) → Sought hit count links.now k (T.pre is_hit) (T.post is_hit) (S.pre search) (S.post search) → result ≡ greatest hit count }
+{
+    let half = links.len() / 2;
+    let mut link = links[k];
+    for _ in 0..MOST_STEPS {
+        if link == 0 {
+            return None;
+        }
+        let i = (link - 1) as usize;
+        if is_hit(i) {
+            return Some(i);
+        }
+        link = links[half + i];
+    }
+    search(link as usize)
+}
+
+// The greatest place of a record equal to x among the first n, by the index.
+pub fn find(list: &[u64], n: usize, links: &[u64], x: NodeKind) -> Option<usize>
     requires { Store.Records (interleaved list.now) n × Index.NodeIndex (Nodes.nodes (interleaved list.now) n) links.now }
     ensures { result ≡ Lookup.lookup (Nodes.nodes (interleaved list.now) n) x n }
 {
-    let t = dag::tag_of(x);
-    let a = dag::first_of(x);
-    let b = dag::second_of(x);
-    let half = links.len() / 2;
-    let mut link = links[bucket_of(half, hash(t, a, b))];
-    let mut steps = 0;
-    while 0 < link {
-        if MOST_STEPS <= steps {
-            return dag::lookup(list, link as usize, x);
-        }
-        let i = (link - 1) as usize;
-        if dag::words_are(list, i, t, a, b) {
-            return Found::At(i);
-        }
-        link = links[half + i];
-        steps += 1;
-    }
-    Found::Missing
+    let wanted = Words::from(x);
+    walk(
+        links,
+        bucket_of(links.len() / 2, hash(wanted)),
+        |i| dag::words_at(list, i) == wanted,
+        |below| dag::lookup(list, below, x),
+    )
 }

@@ -1,5 +1,5 @@
 -- What Lower builds past its tests: a well-formed list that begins with the given one, and a place inside it for each column, worth the column's value.
-use Rattle.std.specs.Prelude.{ℕ, ◌<◌, List, ◌≡◌, get_or, length}
+use Rattle.std.specs.Prelude.{ℕ, ◌<◌, List, ◌≡◌, get_or, length, Ok}
 use Rattle.std.proofs.Common.{arith}
 use Rattle.field.specs.Fields.{Field, Low, element_laws}
 use Rattle.field.specs.declared.QuadFelt.{QuadFelt}
@@ -8,7 +8,6 @@ use Rattle.dag.specs.View.{View}
 use Rattle.dag.specs.Nodes.{nodes}
 use Rattle.dag.specs.StoreLaws.{sound_well_formed}
 use Rattle.dag.specs.WellFormed.{WellFormed}
-use Rattle.dag.specs.declared.Checked.TheVariants.{Good}
 use Rattle.columns.specs.Columns.{log_within}
 use Rattle.columns.specs.Prepare.{columns}
 use Rattle.columns.specs.ColumnLaws.{length_columns}
@@ -34,7 +33,7 @@ module _ (field : Field) where
         Keeps (Low field) (nodes s n) (build_periodic_nodes field (columns ls es) (log_within field.most_log period))
         (λ k ps. Are field.elements given k ps (length ls) (node_worth field (columns ls es) (log_within field.most_log period) (given ZK)))
 
-    module _ (work_words place_words : ℕ) (good : lower_check field s n ls es period work_words place_words ≡ Good) where
+    module _ (work_words place_words : ℕ) (good : lower_check field s n ls es period work_words place_words ≡ Ok tt) where
       lowered_keeps : (given : ℕ → QuadFelt) → ((k : ℕ) → Low field (given k)) → Lowered given
       lowered_keeps given low-given =
           let q = passed field s n ls es period work_words place_words good in

@@ -4,16 +4,14 @@ use Rattle.ace.specs.Answers.{normalize_words}
 use Rattle.ace.specs.Calls.{normalize_result, normalize_work, normalize_answer}
 use Rattle.ace.proofs.ace_normalize.Goals as goal
 
-pub returns-in-Known : goal.returns-in-Known
+pub returns-in-Some : goal.returns-in-Some
 unfolding normalize_result normalize_work normalize_answer
-returns-in-Known c =
-    let e = c.numbered-known.ensures in
-    let h = c.in-Known.is in
-    record { res = in_known _ _ _ e h c.normalize.ensures.res; work = in_known _ _ _ e h c.normalize.ensures.work; answer = in_known _ _ _ e h (c.normalize_words.ensures ∙ ap normalize_words c.normalize.ensures.answer) }
+returns-in-Some c =
+    let e = c.in-Some.ensures in
+    record { res = in_known _ _ _ e refl c.normalize.ensures.res; work = in_known _ _ _ e refl c.normalize.ensures.work; answer = in_known _ _ _ e refl (c.normalize_words.ensures ∙ ap normalize_words c.normalize.ensures.answer) }
 
-pub returns-in-Unknown : goal.returns-in-Unknown
+pub returns-in-None : goal.returns-in-None
 unfolding normalize_result normalize_work normalize_answer
-returns-in-Unknown c =
-    let e = c.numbered-known.ensures in
-    let h = c.in-Unknown.is in
-    record { res = in_unknown _ _ _ e h refl; work = in_unknown _ _ _ e h refl; answer = in_unknown _ _ _ e h c.refused_words.ensures }
+returns-in-None c =
+    let e = c.in-None.ensures in
+    record { res = in_unknown _ _ _ e refl refl; work = in_unknown _ _ _ e refl refl; answer = in_unknown _ _ _ e refl c.refused_words.ensures }

@@ -1,19 +1,17 @@
-use mathlib.Core.Path.{◌∙◌, ap}
+use mathlib.Core.Path.{refl, ◌∙◌, ap}
 use Rattle.field.specs.NumberLaws.{in_known, in_unknown}
 use Rattle.ace.specs.Answers.{prepare_words}
 use Rattle.ace.specs.Calls.{prepare_answer}
 use Rattle.ace.proofs.ace_prepare.Goals as goal
 
-pub returns-in-Known : goal.returns-in-Known
+pub returns-in-Some : goal.returns-in-Some
 unfolding prepare_answer
-returns-in-Known c =
-    let e = c.numbered-known.ensures in
-    let h = c.in-Known.is in
-    record { answer = in_known _ _ _ e h (c.prepare_words.ensures ∙ ap prepare_words c.prepare.ensures) }
+returns-in-Some c =
+    let e = c.in-Some.ensures in
+    record { answer = in_known _ _ _ e refl (c.prepare_words.ensures ∙ ap prepare_words c.prepare.ensures) }
 
-pub returns-in-Unknown : goal.returns-in-Unknown
+pub returns-in-None : goal.returns-in-None
 unfolding prepare_answer
-returns-in-Unknown c =
-    let e = c.numbered-known.ensures in
-    let h = c.in-Unknown.is in
-    record { answer = in_unknown _ _ _ e h c.refused_forms.ensures }
+returns-in-None c =
+    let e = c.in-None.ensures in
+    record { answer = in_unknown _ _ _ e refl c.refused_forms.ensures }

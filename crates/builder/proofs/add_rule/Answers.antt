@@ -1,72 +1,28 @@
-use Rattle.builder.specs.declared.Rule.TheVariants.{Use, Make, HandOver}
-use Rattle.builder.specs.Steps as Steps
-use Rattle.dag.specs.declared.NodeKind.TheVariants.{Constant}
-use Rattle.dag.specs.BranchLaws.{told, skip, into}
+use Rattle.std.proofs.Common.{arith, ◌≢◌, rules}
 use Rattle.field.specs.Field.{elements}
-use mathlib.Core.Path.{refl, ◌∙◌, ap, ap₂}
+use Rattle.dag.specs.declared.NodeKind.TheVariants.{Constant}
+use Rattle.builder.specs.Steps as Steps
+use Rattle.builder.proofs.Rules.{add_folded, add_zero_right, add_cancelled, add_rest}
 use Rattle.builder.proofs.add_rule.Goals as goal
 
-pub returns-then-both_constant : goal.returns-then-both_constant
-unfolding elements Steps.add_rule Steps.is_sub Steps.is_add Steps.is_neg
-returns-then-both_constant c =
-    into _ (told c.both_constant.ensures c.if-both_constant.true)
-    (ap (λ e. Make (Constant e)) (c.add.ensures.0 ∙ ap₂ (elements c.args.prime).add c.element.ensures c.element-then-both_constant.ensures))
+pub returns-in-Some : goal.returns-in-Some
+returns-in-Some c = add_folded (elements c.args.prime) c.args.x c.args.y c.args.a c.args.b _ _ _ c.in-Some.ensures c.add.ensures.0
 
-pub returns-then-is_the : goal.returns-then-is_the
-unfolding elements Steps.add_rule Steps.is_sub Steps.is_add Steps.is_neg
-returns-then-is_the c = skip _ (told c.both_constant.ensures c.if-both_constant.false) (into _ (told c.is_the.ensures c.if-is_the.true) (refl))
+pub returns-then-eq-2 : goal.returns-then-eq-2
+unfolding elements
+returns-then-eq-2 c = grind (arith, add_zero_right)
 
-pub returns-then-is_the-2 : goal.returns-then-is_the-2
-unfolding elements Steps.add_rule Steps.is_sub Steps.is_add Steps.is_neg
-returns-then-is_the-2 c =
-    skip _ (told c.both_constant.ensures c.if-both_constant.false)
-    (skip _ (told c.is_the.ensures c.if-is_the.false) (into _ (told c.is_the-2.ensures c.if-is_the-2.true) (refl)))
+pub returns-in-Some-cancel_add : goal.returns-in-Some-cancel_add
+unfolding elements
+returns-in-Some-cancel_add c =
+    let p : c.args.x ≢ Constant (elements c.args.prime).zero = search rules in
+    let q : c.args.y ≢ Constant (elements c.args.prime).zero = search rules in
+    add_cancelled (elements c.args.prime) c.args.x c.args.y c.args.a c.args.b c.in_default.ensures p q _ c.in-Some-cancel_add.ensures
 
-pub returns-then-with_second : goal.returns-then-with_second
-unfolding elements Steps.add_rule Steps.is_sub Steps.is_add Steps.is_neg
-returns-then-with_second c =
-    skip _ (told c.both_constant.ensures c.if-both_constant.false)
-    (skip _ (told c.is_the.ensures c.if-is_the.false)
-    (skip _ (told c.is_the-2.ensures c.if-is_the-2.false)
-    (into _ (told c.with_second.ensures c.if-with_second.true) (ap Use c.first_of.ensures))))
-
-pub returns-then-with_second-2 : goal.returns-then-with_second-2
-unfolding elements Steps.add_rule Steps.is_sub Steps.is_add Steps.is_neg
-returns-then-with_second-2 c =
-    skip _ (told c.both_constant.ensures c.if-both_constant.false)
-    (skip _ (told c.is_the.ensures c.if-is_the.false)
-    (skip _ (told c.is_the-2.ensures c.if-is_the-2.false)
-    (skip _ (told c.with_second.ensures c.if-with_second.false)
-    (into _ (told c.with_second-2.ensures c.if-with_second-2.true) (ap Use c.first_of-then-with_second-2.ensures)))))
-
-pub returns-then-only_neg : goal.returns-then-only_neg
-unfolding elements Steps.add_rule Steps.is_sub Steps.is_add Steps.is_neg
-returns-then-only_neg c =
-    skip _ (told c.both_constant.ensures c.if-both_constant.false)
-    (skip _ (told c.is_the.ensures c.if-is_the.false)
-    (skip _ (told c.is_the-2.ensures c.if-is_the-2.false)
-    (skip _ (told c.with_second.ensures c.if-with_second.false)
-    (skip _ (told c.with_second-2.ensures c.if-with_second-2.false)
-    (into _ (told c.only_neg.ensures c.if-only_neg.true) (ap (HandOver c.args.b) c.first_of-then-only_neg.ensures))))))
-
-pub returns-then-only_neg-2 : goal.returns-then-only_neg-2
-unfolding elements Steps.add_rule Steps.is_sub Steps.is_add Steps.is_neg
-returns-then-only_neg-2 c =
-    skip _ (told c.both_constant.ensures c.if-both_constant.false)
-    (skip _ (told c.is_the.ensures c.if-is_the.false)
-    (skip _ (told c.is_the-2.ensures c.if-is_the-2.false)
-    (skip _ (told c.with_second.ensures c.if-with_second.false)
-    (skip _ (told c.with_second-2.ensures c.if-with_second-2.false)
-    (skip _ (told c.only_neg.ensures c.if-only_neg.false)
-    (into _ (told c.only_neg-2.ensures c.if-only_neg-2.true) (ap (HandOver c.args.a) c.first_of-then-only_neg-2.ensures)))))))
-
-pub returns : goal.returns
-unfolding elements Steps.add_rule Steps.is_sub Steps.is_add Steps.is_neg
-returns c =
-    skip _ (told c.both_constant.ensures c.if-both_constant.false)
-    (skip _ (told c.is_the.ensures c.if-is_the.false)
-    (skip _ (told c.is_the-2.ensures c.if-is_the-2.false)
-    (skip _ (told c.with_second.ensures c.if-with_second.false)
-    (skip _ (told c.with_second-2.ensures c.if-with_second-2.false)
-    (skip _ (told c.only_neg.ensures c.if-only_neg.false)
-    (skip _ (told c.only_neg-2.ensures c.if-only_neg-2.false) (ap Make c.low_add.ensures)))))))
+pub returns-in_default-2 : goal.returns-in_default-2
+unfolding elements Steps.is_neg
+returns-in_default-2 c =
+    let p : c.args.x ≢ Constant (elements c.args.prime).zero = search rules in
+    let q : c.args.y ≢ Constant (elements c.args.prime).zero = search rules in
+    let h = add_rest (elements c.args.prime) c.args.x c.args.y c.args.a c.args.b c.in_default.ensures p q c.in_default-cancel_add.ensures in
+    grind (arith, h)

@@ -2,8 +2,8 @@ use Rattle.dag.specs.View.{interleaved}
 use Rattle.field.specs.Fields.{field_of}
 use Rattle.builder.specs.declared.Rule.TheVariants.{Use}
 use Rattle.builder.specs.OutcomeLaws.{operands_below, at_below}
-use Rattle.builder.specs.RequestLaws.{asks_add, asks_sub, asks_mul, asks_neg, input_outcome, constant_outcome, add_outcome_lem, sub_outcome_lem, mul_outcome_lem, neg_outcome_lem}
-use native.Mathlib.Omega.{arith}
+use Rattle.builder.specs.RequestLaws.{asks_add, asks_sub, asks_mul, asks_neg, leaf_outcome, add_outcome_lem, sub_outcome_lem, mul_outcome_lem, neg_outcome_lem}
+use Rattle.std.proofs.Common.{arith}
 use Rattle.builder.proofs.request_outcome.Goals as goal
 
 pub add_outcome-requires : goal.add_outcome-requires
@@ -40,12 +40,7 @@ neg_outcome-requires c =
     (asks_neg (field_of c.args.prime) (interleaved c.args.list.now) c.args.n c.args.x c.requires _ c.in-Neg.is) c.node_at-in-Neg.ensures
 
 pub returns-in-Input : goal.returns-in-Input
-returns-in-Input c =
-    input_outcome (field_of c.args.prime) (interleaved c.args.list.now) c.args.n c.args.x c.requires _ c.in-Input.is
-
-pub returns-in-Constant : goal.returns-in-Constant
-returns-in-Constant c =
-    constant_outcome (field_of c.args.prime) (interleaved c.args.list.now) c.args.n c.args.x c.requires _ c.in-Constant.is
+returns-in-Input c = leaf_outcome (field_of c.args.prime) (interleaved c.args.list.now) c.args.n c.args.x c.requires c.in-Input.is
 
 pub returns-in-Add : goal.returns-in-Add
 returns-in-Add c =

@@ -1,0 +1,13 @@
+use Rattle.field.specs.Fields.{field_of}
+use Rattle.builder.specs.RequestLaws.{noted_place, noted_node}
+use Rattle.builder.proofs.DagBuilder.push.Goals as goal
+
+pub returns-in-Place-clause-noted : goal.returns-in-Place-clause-noted
+returns-in-Place-clause-noted c =
+    noted_place (field_of c.args.self.now.prime) c.args.self.now.list.now c.args.self.now.count c.args.x c.requires.0 _ _ _ c.resolve.ensures
+    c.in-Place.is c.requires.1
+
+pub returns-in-Node-clause-noted : goal.returns-in-Node-clause-noted
+returns-in-Node-clause-noted c =
+    noted_node (field_of c.args.self.now.prime) c.args.self.now.list.now c.args.self.now.count c.args.x c.requires.0 _ _ _ _ _ c.resolve.ensures
+    c.in-Node.is c.put_node.ensures c.requires.1 c.note.ensures
