@@ -119,13 +119,11 @@ impl LagrangeBasis<'_> {
         requires { Promises.Products (field_of builder.old.prime) builder.old.count self.now × ColumnPromises.Column (modulus_of builder.old.prime) self.now.col.now }
         ensures { Runs.Entering (Runs.held builder.old) (λ field. Periodic.basis_sum field self.now.col.now self.now.prefix.now self.now.suffix.now) (Runs.held builder.new) result }
     {
-        let mut store = [0u64; 128];
-        let t = columns::values(self.col, &mut store);
-        let values = &store[..t];
-        let d = columns::offset(builder.prime, self.col, values);
+        let values = columns::values(self.col);
+        let d = columns::offset(builder.prime, self.col, &values);
         let start = builder.constant(d)?;
-        let sum = self.all_terms(builder, values, d, start, false)?;
-        self.all_terms(builder, values, d, sum, true)
+        let sum = self.all_terms(builder, &values, d, start, false)?;
+        self.all_terms(builder, &values, d, sum, true)
     }
 }
 

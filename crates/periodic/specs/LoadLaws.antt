@@ -1,5 +1,5 @@
 -- A list that is taken up.
-use Rattle.std.specs.Prelude.{ℕ, ◌*◌, ◌-◌, ◌^◌, ◌≤◌, List, ◌≡◌, refl, length, replicate}
+use Rattle.std.specs.Prelude.{ℕ, ◌*◌, ◌^◌, ◌≤◌, List, ◌≡◌, refl, length, replicate}
 use Rattle.std.proofs.Common.{sym, ap, arith}
 use Rattle.std.proofs.lemmas.List.{length-replicate}
 use Rattle.field.specs.Fields.{Bounds}
@@ -20,7 +20,7 @@ pub none_indexed : (s : View) (n : ℕ) → 2 ≤ n → n ≤ 2 ^ 32 → NodeInd
 unfolding nodes
 none_indexed s n some few = index_none (replicate n 0) usable (replicate n 0) (ap (λ k. replicate {A = ℕ} k 0) long)
   where
-    long : n ≡ length (replicate {A = ℕ} n 0) - 0
+    long : n ≡ length (replicate {A = ℕ} n 0)
     long = omega (arith, length-replicate {A = ℕ} n 0)
 
     usable : Usable (replicate n 0)

@@ -18,7 +18,7 @@ pub all_terms-requires : goal.all_terms-requires
 all_terms-requires c = (
   products_later c.in_ok-start.ensures.told.ran.prime_is c.in_ok-start.ensures.told.ran.longer c.requires.0,
   c.in_ok-start.ensures.told.inside,
-  offset_later c.in_ok-start.ensures.told.ran.prime_is (offset_of (field_of c.args.builder.now.prime) _ _ _ c.requires.1.low c.values-t.ensures.0 c.offset-d.ensures.0 c.offset-d.ensures.1),
+  offset_later c.in_ok-start.ensures.told.ran.prime_is (offset_of (field_of c.args.builder.now.prime) _ _ _ c.requires.1.low (c.deref-2.ensures.0 ∙ c.values-values.ensures) c.offset-d.ensures.0 c.offset-d.ensures.1),
 )
 
 pub returns-in_err-sum : goal.returns-in_err-sum
@@ -32,7 +32,7 @@ all_terms-requires-2 c =
     let e = c.in_ok-sum.ensures.told.ran.prime_is ∙ c.in_ok-start.ensures.told.ran.prime_is in (
       products_later e (le_trans c.in_ok-start.ensures.told.ran.longer c.in_ok-sum.ensures.told.ran.longer) c.requires.0,
       c.in_ok-sum.ensures.told.inside,
-      offset_later e (offset_of (field_of c.args.builder.now.prime) _ _ _ c.requires.1.low c.values-t.ensures.0 c.offset-d.ensures.0 c.offset-d.ensures.1),
+      offset_later e (offset_of (field_of c.args.builder.now.prime) _ _ _ c.requires.1.low (c.deref-3.ensures.0 ∙ c.values-values.ensures) c.offset-d.ensures.0 c.offset-d.ensures.1),
     )
 
 pub returns : goal.returns
