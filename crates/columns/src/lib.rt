@@ -306,7 +306,8 @@ impl<'a> Columns<'a> {
         requires { j < length self.now.lengths.now }
         ensures { result ≡ Spec.is_among (Prepare.columns self.now.lengths.now self.now.entries.now) j j }
     {
-        (0..j).any(|i| self.column(i) == self.column(j))
+        let col = self.column(j);
+        (0..j).any(|i| self.column(i) == col)
     }
 
     // What column j saves in basis.
@@ -390,14 +391,14 @@ impl<'a> Weighed<'a> {
 
 // The savings of a period, where each column adds `each`.
 fn savings(lengths: &[u64], each: &[u64], period: u64) -> u64
-    requires { Promises.Small lengths.now each.now }
-    ensures { result ≡ Promises.savings_of lengths.now each.now period (length lengths.now) }
+    requires { Promises.added lengths.now each.now period < 2 ^ 64 }
+    ensures { result ≡ Promises.added lengths.now each.now period }
 {
     lengths
         .iter()
-        .zip(each.iter())
-        .filter(|p| *p.0 == period)
-        .map(|p| *p.1)
+        .zip(each)
+        .filter(|(length, _)| **length == period)
+        .map(|(_, saving)| *saving)
         .sum()
 }
 
