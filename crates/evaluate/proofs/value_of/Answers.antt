@@ -21,7 +21,7 @@ value_at-requires-in-Add c =
 pub add-requires : goal.add-requires
 add-requires c =
     let k = add_before _ _ _ _ c.requires.valued c.in-Add.ensures in
-    (low_read _ c.requires.valued _ k.0 c.value_at.ensures, low_read _ c.requires.valued _ k.1 c.value_at-in-Add.ensures)
+    (low_read _ c.requires.valued _ (omega arith) c.value_at.ensures, low_read _ c.requires.valued _ (omega arith) c.value_at-in-Add.ensures)
 
 pub value_at-requires-in-Sub : goal.value_at-requires-in-Sub
 value_at-requires-in-Sub c =
@@ -34,7 +34,7 @@ value_at-requires-in-Sub-2 c =
 pub sub-requires : goal.sub-requires
 sub-requires c =
     let k = sub_before _ _ _ _ c.requires.valued c.in-Sub.ensures in
-    (low_read _ c.requires.valued _ k.0 c.value_at-in-Sub.ensures, low_read _ c.requires.valued _ k.1 c.value_at-in-Sub-2.ensures)
+    (low_read _ c.requires.valued _ (omega arith) c.value_at-in-Sub.ensures, low_read _ c.requires.valued _ (omega arith) c.value_at-in-Sub-2.ensures)
 
 pub value_at-requires-in-Mul : goal.value_at-requires-in-Mul
 value_at-requires-in-Mul c =
@@ -47,7 +47,7 @@ value_at-requires-in-Mul-2 c =
 pub mul-requires : goal.mul-requires
 mul-requires c =
     let k = mul_before _ _ _ _ c.requires.valued c.in-Mul.ensures in
-    (low_read _ c.requires.valued _ k.0 c.value_at-in-Mul.ensures, low_read _ c.requires.valued _ k.1 c.value_at-in-Mul-2.ensures)
+    (low_read _ c.requires.valued _ (omega arith) c.value_at-in-Mul.ensures, low_read _ c.requires.valued _ (omega arith) c.value_at-in-Mul-2.ensures)
 
 pub value_at-requires-in-Neg : goal.value_at-requires-in-Neg
 value_at-requires-in-Neg c =
