@@ -4,7 +4,8 @@
 // Past the stream's end every word is 0.
 #![tactic(auto)]
 
-ghost use Rattle.std.specs.Prelude.{◌≡◌, ◌&&◌, ◌+◌, ◌<◌, ◌≤◌, length};
+ghost use Rattle.std.specs.Prelude.{◌==◌, ◌≡◌, ◌&&◌, ◌+◌, ◌<◌, ◌≤◌, length};
+ghost use Rattle.std.specs.List.{list_all, enumerate_from};
 ghost use Rattle.recorded.specs.Stream as Stream;
 
 // The word at a place.
@@ -107,6 +108,7 @@ fn recorded(s: &[u8], at: usize, i: u64) -> u64
 }
 
 // Lays a recorded store into this one.
+#[tactic(auto, unfolding(crate::specs::Stream::stored))]
 fn lay(s: &[u8], at: usize, store: &mut [u64])
     requires { length store.old ≡ Stream.word s.now at }
     ensures { store.new ≡ Stream.stored s.now at }
@@ -127,16 +129,22 @@ pub fn laid<'a>(s: &[u8], at: usize, array: &'a mut [u64]) -> &'a mut [u64]
     store
 }
 
+// Whether each word of a store is the one recorded of it.
+fn same_words(s: &[u8], at: usize, store: &[u64]) -> bool
+    ensures { result ≡ list_all (λ p. p.1 == Stream.given s.now at p.0) (enumerate_from 0 store.now) }
+{
+    store
+        .iter()
+        .enumerate()
+        .all(|(i, word)| *word == recorded(s, at, i as u64))
+}
+
 // Whether a store holds what is recorded of it.
+#[tactic(auto, unfolding(crate::specs::Stream::holds))]
 fn holds(s: &[u8], at: usize, store: &[u64]) -> bool
     ensures { result ≡ Stream.holds s.now at store.now }
 {
-    for (i, word) in store.iter().enumerate() {
-        if *word != recorded(s, at, i as u64) {
-            return false;
-        }
-    }
-    number(s, at, 1) <= store.len() as u64
+    same_words(s, at, store) && number(s, at, 1) <= store.len() as u64
 }
 
 // The stores that a call reads; one that it has no use for is empty.
@@ -164,13 +172,12 @@ pub fn hold_all(s: &[u8], t: Trio, written: &Writes) -> bool
 }
 
 // Whether words are those recorded from a place on.
+#[tactic(auto, unfolding(crate::specs::Stream::follows))]
 pub fn follow(s: &[u8], at: usize, words: &[u64]) -> bool
     ensures { result ≡ Stream.follows s.now at words.now }
 {
-    for (i, word) in words.iter().enumerate() {
-        if *word != number(s, at, i as u64) {
-            return false;
-        }
-    }
-    true
+    words
+        .iter()
+        .enumerate()
+        .all(|(i, word)| *word == number(s, at, i as u64))
 }

@@ -1,6 +1,8 @@
-use Rattle.std.proofs.Common.{◌∙◌, arith}
-use Rattle.recorded.specs.StreamLaws.{laid_all}
+use Rattle.std.proofs.Common.{rules}
+use Rattle.std.proofs.lemmas.List.FromFn.{fill_by_all}
+use Rattle.recorded.specs.Stream.{given, stored}
 use Rattle.recorded.proofs.lay.Goals as goal
 
 pub returns : goal.returns
-returns c = laid_all _ _ _ _ c.skip-packed.ensures (c.loop-i.auto.store ∙ c.requires) (λ k h. c.loop-i.invariant k (omega arith))
+unfolding stored
+returns c = rw (← c.skip-packed.ensures, ← c.requires) (fill_by_all (given c.args.s.now c.skip-packed.result) c.loop-i.store _ 0 c.loop-i.auto.store (search rules))
