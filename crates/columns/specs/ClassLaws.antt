@@ -1,17 +1,22 @@
 -- A column's classes: its values, the dominant one, and the coefficients that an offset leaves.
 use Prim.Native.Nat.{ℕ, zero, suc, ◌+◌, ◌*◌, ◌-◌, ◌≤◌, ◌<◌}
-use Rattle.std.specs.Prelude.{Bool, ◌≡◌, leb, ltb, eqb, get_or, take, drop, set}
+use Rattle.std.specs.Prelude.{Bool, ◌≡◌, leb, ltb, eqb, get_or, drop}
 use Rattle.std.proofs.Math.Bool.{true, false, cond}
 use mathlib.Core.List.{List, [], ◌∷◌, ◌++◌, append-nil, append_assoc}
 use Rattle.std.proofs.Math.Path.{refl, ap}
-use Rattle.std.proofs.Common.{sym, ◌∙◌, arith, drop_of_length-le, drop-cons, take-suc-set}
+use Rattle.std.proofs.Common.{sym, ◌∙◌, arith, drop_of_length-le, drop-cons}
 use Rattle.std.proofs.Math.Numerals.{add-one}
-use borrow.Author.Tests.{eq-eqb, ne_eqb, eqb-true, eqb-false, ltb-true, lt-ltb, le-ltb}
+use borrow.Author.Tests.{eq-eqb, ne_eqb, eqb-true, eqb-false, ltb-true, lt-ltb, le-ltb, le-leb}
 use Rattle.std.proofs.Math.ListN.{length}
 use Rattle.ring.specs.Identities.{sub_add_cancel}
 use Rattle.ring.specs.Residue.{residues_laws, sub, add}
 use Rattle.dag.specs.CaseLaws.{cond_elim, and_true}
-use Rattle.columns.specs.Columns.{count, with_new, values_from, values, weight, heaviest, dominant, is_scaled, scalings, others, combination_cost, offset, equal_entries, gain, standalone}
+use Rattle.std.specs.List.{count_by, list_any, All}
+use Rattle.std.proofs.lemmas.Bool.{not-true, not-false}
+use Rattle.std.proofs.lemmas.List.{get_or_default}
+use Rattle.std.proofs.lemmas.List.Recursion.{is_count_by}
+use Rattle.columns.specs.CountLaws.{one_more, among_count}
+use Rattle.columns.specs.Columns.{count, with_new, values_from, values, weight, heaviest, dominant, is_scaled, scalings, others, combination_cost, offset}
 use Rattle.columns.specs.Prepare.{all_below}
 
 -- entries below m
@@ -21,6 +26,9 @@ module _ (m : ℕ) where
   below_at [] i e h = absurd (omega arith)
   below_at (v ∷ c) zero e h = ltb-true v m (and_true (ltb v m) (all_below m c) e).0
   below_at (v ∷ c) (suc i) e h = below_at c i (and_true (ltb v m) (all_below m c) e).1 (omega arith)
+
+  pub all_below_is : (c : List ℕ) → all_below m c ≡ true → All (λ v. v < m) c
+  all_below_is c e k d h = rw (get_or_default c k d 0 h) (below_at c k e h)
 
   below_head : (v : ℕ) (c : List ℕ) → all_below m (v ∷ c) ≡ true → v < m
   unfolding all_below
@@ -67,35 +75,29 @@ pub values_end : (c vs : List ℕ) (i : ℕ) (t : List ℕ) → length c ≤ i �
 unfolding values_from
 values_end c vs i t h inv = rw (drop_of_length-le c {i = i} h) at inv
 
--- the heaviest d before place i of vs, and those from there on
-module _ (c : List ℕ) (d e : ℕ) (vs : List ℕ) (i t : ℕ) where
-  pub heaviest_next : i < length vs → e ≡ cond (leb (weight c d) (weight c (get_or vs i 0))) (get_or vs i 0) d → heaviest c d (drop i vs) ≡ t → heaviest c e (drop (i + 1) vs) ≡ t
-  unfolding heaviest
-  heaviest_next h q inv = rw q (rw (drop-cons vs i 0 h, ← add-one i) at inv)
+-- 0 weighs nothing, so that the first value is as heavy
+weight_zero : (c : List ℕ) → weight c 0 ≡ 0
+unfolding weight
+weight_zero c = refl
 
-pub heaviest_end : (c : List ℕ) (d : ℕ) (vs : List ℕ) (i t : ℕ) → length vs ≤ i → heaviest c d (drop i vs) ≡ t → d ≡ t
+pub heaviest_first : (c : List ℕ) (v : ℕ) (vs : List ℕ) → heaviest c v vs ≡ heaviest c 0 (v ∷ vs)
 unfolding heaviest
-heaviest_end c d vs i t h inv = rw (drop_of_length-le vs {i = i} h) at inv
+heaviest_first c v vs = rw (weight_zero c, le-leb 0 (weight c v) (omega arith))
 
--- n scaled before place i of vs, and those from there on
-module _ (m d : ℕ) (vs : List ℕ) (i n k t : ℕ) where
-  pub scaled_hit : i < length vs → is_scaled m d (get_or vs i 0) ≡ true → k ≡ n + 1 → n + length (scalings m d (drop i vs)) ≡ t → k + length (scalings m d (drop (i + 1) vs)) ≡ t
-  unfolding scalings
-  scaled_hit h e q inv = omega (arith, one)
-    where
-      one : length (scalings m d (drop i vs)) ≡ suc (length (scalings m d (drop (i + 1) vs)))
-      one = rw (drop-cons vs i 0 h, add-one i, e)
+-- the heaviest of d, vs and v
+pub heaviest_snoc : (c : List ℕ) (d : ℕ) (vs : List ℕ) (v : ℕ) → heaviest c d (vs ++ (v ∷ [])) ≡ cond (leb (weight c (heaviest c d vs)) (weight c v)) v (heaviest c d vs)
+unfolding heaviest
+heaviest_snoc c d [] v = refl
+heaviest_snoc c d (w ∷ vs) v = heaviest_snoc c (cond (leb (weight c d) (weight c w)) w d) vs v
 
-  pub scaled_miss : i < length vs → is_scaled m d (get_or vs i 0) ≡ false → k ≡ n → n + length (scalings m d (drop i vs)) ≡ t → k + length (scalings m d (drop (i + 1) vs)) ≡ t
-  unfolding scalings
-  scaled_miss h e q inv = omega (arith, none)
-    where
-      none : length (scalings m d (drop i vs)) ≡ length (scalings m d (drop (i + 1) vs))
-      none = rw (drop-cons vs i 0 h, add-one i, e)
-
-pub scaled_end : (m d : ℕ) (vs : List ℕ) (i n t : ℕ) → length vs ≤ i → n + length (scalings m d (drop i vs)) ≡ t → n ≡ t
+-- the scaled classes, counted
+pub scalings_count : (m d : ℕ) (vs : List ℕ) → length (scalings m d vs) ≡ count_by (is_scaled m d) vs
 unfolding scalings
-scaled_end m d vs i n t h inv = let e = rw (drop_of_length-le vs {i = i} h) at inv in omega arith
+scalings_count m d vs = is_count_by (λ l. length (scalings m d l)) (is_scaled m d) refl (λ v l. go v l (is_scaled m d v)) vs
+  where
+    go : (v : ℕ) (l : List ℕ) (t : Bool) → length (cond t (sub m v d ∷ scalings m d l) (scalings m d l)) ≡ cond t (1 + length (scalings m d l)) (length (scalings m d l))
+    go v l true = one_more (length (scalings m d l))
+    go v l false = refl
 
 -- the values l, each for the first time after vs
 abbrev Fresh : List ℕ → List ℕ → Type 0
@@ -170,15 +172,15 @@ module _ (m d : ℕ) (big : 1 < m) where
   unfolding values scalings all_below
   constants c e = fresh_values [] (scalings m d (values_from [] c)) (fresh_scaled [] (values_from [] c) refl (below_from m [] c refl e) (fresh_from [] c tt))
 
--- a store whose first n words are the values found
-module _ (s : List ℕ) (n v : ℕ) (h : n < length s) where
-  pub new_none : 0 < count v (take n s) → take n s ≡ with_new (take n s) v
+-- one more value
+module _ (vs : List ℕ) (v : ℕ) where
+  pub new_none : list_any (λ x. eqb x v) vs ≡ true → vs ≡ with_new vs v
   unfolding with_new
-  new_none k = rw (ne_eqb (count v (take n s)) 0 (omega arith))
+  new_none e = rw (not-true (eqb (count v vs) 0) (sym (among_count v vs) ∙ e))
 
-  pub new_one : count v (take n s) ≤ 0 → take (n + 1) (set s n v) ≡ with_new (take n s) v
+  pub new_one : list_any (λ x. eqb x v) vs ≡ false → vs ++ (v ∷ []) ≡ with_new vs v
   unfolding with_new
-  new_one k = rw (eq-eqb (count v (take n s)) 0 (omega arith), add-one n) (take-suc-set s n v h)
+  new_one e = rw (not-false (eqb (count v vs) 0) (sym (among_count v vs) ∙ e))
 
 -- a column's cost in basis, where n classes are scaled
 module _ (m : ℕ) (c vs : List ℕ) (d n k : ℕ) (big : 1 < m) (low : all_below m c ≡ true) (ev : vs ≡ values c) (en : n ≡ length (scalings m d vs)) (ek : k ≡ others c d - 1) where
@@ -209,11 +211,7 @@ module _ (m : ℕ) (c vs : List ℕ) (d a b : ℕ) (ev : vs ≡ values c) (ed : 
 pub dominant_below : (m : ℕ) (c vs : List ℕ) (d : ℕ) → 0 < m → all_below m c ≡ true → vs ≡ values c → d ≡ heaviest c 0 vs → d < m
 dominant_below m c vs d pos low ev ed = rw (ed, ev) (below_heaviest m c 0 (values c) pos (below_values m c low))
 
--- what a column saves
-pub gain_equal : (m : ℕ) (c : List ℕ) → others c (get_or c 0 0) ≡ 0 → 0 ≡ gain m c
-unfolding gain equal_entries
-gain_equal m c e = rw (eq-eqb _ _ e)
+-- a column's cost in basis, and its offset
+pub ruleset costs = (below_values, all_below_is, cost_zero, cost_offset)
 
-pub gain_told : (m : ℕ) (c : List ℕ) (d s k : ℕ) → (others c (get_or c 0 0) ≡ 0 → ⊥) → d ≡ offset m c → s ≡ standalone c → k ≡ combination_cost m c d → s - k ≡ gain m c
-unfolding gain equal_entries
-gain_told m c d s k n ed es ek = rw (ne_eqb _ _ n, ← ed, ← es, ← ek)
+pub ruleset offsets = (dominant_below, offset_dominant, offset_zero)

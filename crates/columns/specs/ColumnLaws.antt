@@ -1,9 +1,12 @@
 -- Columns that are handed over one after the other, and columns compared.
-use Rattle.std.specs.Prelude.{ℕ, zero, suc, ◌+◌, ◌-◌, ◌≤◌, ◌<◌, Bool, true, false, ◌&&◌, ◌||◌, List, [], ◌∷◌, ◌≡◌, refl, eqb, get_or, length, take, drop}
+use Rattle.std.specs.Prelude.{ℕ, zero, suc, ◌+◌, ◌-◌, ◌≤◌, ◌<◌, Bool, ◌||◌, List, [], ◌∷◌, ◌++◌, ◌≡◌, refl, eqb, get_or, length, take, drop, map}
+use Rattle.std.specs.List.{list_any, range_with_len}
+use Rattle.std.specs.Cmp.Lexicographic.{pointwise}
 use Rattle.std.proofs.Common.{sym, ◌∙◌, ap, add-one, arith, length-drop, drop-drop, length-take-le}
-use borrow.Author.Tests.{eq-eqb, ne_eqb}
-use Rattle.std.proofs.Math.ListN.{drop_of_length-le}
-use Rattle.std.proofs.Math.Seq.{drop-cons}
+use Rattle.std.proofs.Math.Bool.{or_comm, or-false}
+use Rattle.std.proofs.lemmas.List.{map-id}
+use Rattle.std.proofs.lemmas.List.Folds.{list_any-append}
+use Rattle.std.proofs.lemmas.List.FromFn.{map-range_with_len_more}
 use Rattle.columns.specs.Columns.{column, same_entries, is_among}
 use Rattle.columns.specs.Prepare.{total, columns}
 
@@ -26,12 +29,8 @@ total_le (n ∷ ls) zero = omega arith
 total_le (n ∷ ls) (suc j) = omega (arith, total_le ls j)
 
 -- what stands before column j, and with it
-module _ (ls : List ℕ) (j : ℕ) (h : j < length ls) where
-  pub starts : (s : ℕ) → s ≡ total (take j ls) → s + get_or ls j 0 ≡ total (take (j + 1) ls)
-  starts s e = rw (add-one j, e) (sym (total_next ls j h))
-
-  pub ends : (s : ℕ) → s ≡ total (take j ls) → s + get_or ls j 0 ≤ total ls
-  ends s e = rw (starts s e) (total_le ls (j + 1))
+pub ends : (ls : List ℕ) (j : ℕ) → j < length ls → total (take j ls) + get_or ls j 0 ≤ total ls
+ends ls j h = rw (sym (total_next ls j h)) (total_le ls (suc j))
 
 column_at : (ls es : List ℕ) (j : ℕ) → j < length ls → column (columns ls es) j ≡ take (get_or ls j 0) (drop (total (take j ls)) es)
 unfolding columns total
@@ -48,47 +47,34 @@ column_part ls es j a h e = rw (column_at ls es j h, ← e, cancel a (get_or ls 
 pub column_length : (ls es : List ℕ) (j : ℕ) → total ls ≤ length es → j < length ls → length (column (columns ls es) j) ≡ get_or ls j 0
 column_length ls es j enough h =
     rw (column_at ls es j h)
-    (length-take-le (get_or ls j 0) (drop (total (take j ls)) es) (rw (length-drop (total (take j ls)) es) (omega (arith, ends ls j h (total (take j ls)) refl))))
+    (length-take-le (get_or ls j 0) (drop (total (take j ls)) es) (rw (length-drop (total (take j ls)) es) (omega (arith, ends ls j h))))
 
--- two columns, from place i on
-pub same_apart : (a b : List ℕ) → (length a ≡ length b → ⊥) → false ≡ same_entries a b
+-- two columns compared, and a column among those before it, in std's words
+pub same_is : (a b : List ℕ) → same_entries a b ≡ pointwise eqb a b
 unfolding same_entries
-same_apart [] [] h = absurd (h refl)
-same_apart [] (w ∷ b) h = refl
-same_apart (v ∷ a) [] h = refl
-same_apart (v ∷ a) (w ∷ b) h = go (eqb v w) (same_apart a b (λ e. h (ap suc e)))
-  where
-    go : (t : Bool) → false ≡ same_entries a b → false ≡ (t && same_entries a b)
-    go true e = e
-    go false e = refl
+same_is [] [] = refl
+same_is [] (w ∷ b) = refl
+same_is (v ∷ a) [] = refl
+same_is (v ∷ a) (w ∷ b) = rw (same_is a b) refl
 
-module _ (a b : List ℕ) (i : ℕ) (t : Bool) where
-  pub same_next : i < length a → i < length b → get_or a i 0 ≡ get_or b i 0 → same_entries (drop i a) (drop i b) ≡ t → same_entries (drop (i + 1) a) (drop (i + 1) b) ≡ t
-  unfolding same_entries
-  same_next h k e inv = rw (add-one i) (rw (drop-cons a i 0 h, drop-cons b i 0 k, eq-eqb _ _ e) at inv)
+range_more : (k : ℕ) → range_with_len 0 (suc k) ≡ range_with_len 0 k ++ (k ∷ [])
+range_more k =
+    sym (map-id (range_with_len 0 (suc k)))
+    ∙ (ap (λ n. map (λ (x : ℕ). x) (range_with_len 0 n)) (sym (add-one k))
+    ∙ (map-range_with_len_more (λ (x : ℕ). x) 0 k k (omega arith)
+    ∙ ap (λ l. l ++ (k ∷ [])) (map-id (range_with_len 0 k))))
 
-  pub same_stop : i < length a → i < length b → (get_or a i 0 ≡ get_or b i 0 → ⊥) → same_entries (drop i a) (drop i b) ≡ t → false ≡ t
-  unfolding same_entries
-  same_stop h k e inv = rw (drop-cons a i 0 h, drop-cons b i 0 k, ne_eqb _ _ e) at inv
+any_more : (test : ℕ → Bool) (k : ℕ) → list_any test (range_with_len 0 (suc k)) ≡ (test k || list_any test (range_with_len 0 k))
+any_more test k =
+    ap (list_any test) (range_more k)
+    ∙ (list_any-append test (range_with_len 0 k) (k ∷ [])
+    ∙ (ap (λ b. list_any test (range_with_len 0 k) || b) (or-false (test k))
+    ∙ or_comm (list_any test (range_with_len 0 k)) (test k)))
 
-  pub same_end : length a ≤ i → length a ≡ length b → same_entries (drop i a) (drop i b) ≡ t → true ≡ t
-  unfolding same_entries
-  same_end h e inv = rw (drop_of_length-le a {i = i} h, drop_of_length-le b {i = i} (omega arith)) at inv
-
--- the columns before column i, downward
-among_next : (cs : List (List ℕ)) (j i : ℕ) → 0 < i → is_among cs j i ≡ (same_entries (column cs (i - 1)) (column cs j) || is_among cs j (i - 1))
+pub among_is : (cs : List (List ℕ)) (j k : ℕ) → is_among cs j k ≡ list_any (λ i. same_entries (column cs i) (column cs j)) (range_with_len 0 k)
 unfolding is_among
-among_next cs j zero h = absurd (omega arith)
-among_next cs j (suc i) h = let e : suc i - 1 ≡ i = omega arith in rw e
+among_is cs j zero = refl
+among_is cs j (suc k) = rw (among_is cs j k) (sym (any_more (λ i. same_entries (column cs i) (column cs j)) k))
 
-module _ (cs : List (List ℕ)) (j i : ℕ) (t : Bool) where
-  pub among_hit : 0 < i → same_entries (column cs (i - 1)) (column cs j) ≡ true → is_among cs j i ≡ t → true ≡ t
-  among_hit h e inv = rw (among_next cs j i h, e) at inv
-
-  pub among_on : 0 < i → same_entries (column cs (i - 1)) (column cs j) ≡ false → is_among cs j i ≡ t → is_among cs j (i - 1) ≡ t
-  among_on h e inv = rw (among_next cs j i h, e) at inv
-
-pub among_none : (cs : List (List ℕ)) (j i : ℕ) (t : Bool) → i ≤ 0 → is_among cs j i ≡ t → false ≡ t
-unfolding is_among
-among_none cs j zero t h inv = inv
-among_none cs j (suc i) t h inv = absurd (omega arith)
+-- where a column stands
+pub ruleset places = (ends, column_part)

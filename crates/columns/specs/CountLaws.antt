@@ -1,34 +1,47 @@
--- How often a value stands in a list, counted from the front.
-use Prim.Native.Nat.{ℕ, suc, ◌+◌, ◌≤◌, ◌<◌}
-use Rattle.std.specs.Prelude.{List, [], ◌∷◌, ◌≡◌, eqb, get_or, length, drop}
-use Rattle.std.proofs.Math.Numerals.{add-one}
-use Rattle.std.proofs.Common.{arith, drop_of_length-le, drop-cons}
-use borrow.Author.Tests.{eq-eqb, ne_eqb}
-use Rattle.dag.specs.CaseLaws.{cond_elim}
-use Rattle.columns.specs.Columns.{count}
+-- How often a value stands in a list, and a list's sum, in std's words.
+use Prim.Native.Nat.{ℕ, suc, ◌+◌}
+use Rattle.std.specs.Prelude.{Bool, true, false, cond, not, ◌||◌, List, [], ◌∷◌, ◌≡◌, refl, eqb, ltb, sum}
+use Rattle.std.specs.List.{count_by, list_any, list_all}
+use Rattle.std.proofs.Common.{sym, ap, arith}
+use Rattle.std.proofs.lemmas.Bool.{ne_eqb}
+use Rattle.std.proofs.lemmas.List.Recursion.{is_count_by, is_sum_by}
+use Rattle.std.proofs.lemmas.List.Sums.{length-filter}
+use Rattle.std.proofs.lemmas.List.Filters.{length-filter_both}
+use Rattle.columns.specs.Columns.{count, others}
+use Rattle.columns.specs.Prepare.{total, all_below}
 
-pub count_le : (v : ℕ) (c : List ℕ) → count v c ≤ length c
+pub one_more : (n : ℕ) → suc n ≡ 1 + n
+one_more n = omega arith
+
+pub count_is : (v : ℕ) (c : List ℕ) → count v c ≡ count_by (λ x. eqb x v) c
 unfolding count
-count_le v [] = omega arith
-count_le v (x ∷ c) =
-    cond_elim (λ n. n ≤ suc (length c)) (eqb x v) (suc (count v c)) (count v c) (λ _. omega (arith, count_le v c)) (λ _. omega (arith, count_le v c))
+count_is v c = is_count_by (count v) (λ x. eqb x v) refl (λ x xs. ap (λ n. cond (eqb x v) n (count v xs)) (one_more (count v xs))) c
 
--- n counted before place i, with the count from there on
-module _ (v : ℕ) (c : List ℕ) (i n k t : ℕ) where
-  pub count_hit : i < length c → get_or c i 0 ≡ v → k ≡ n + 1 → n + count v (drop i c) ≡ t → k + count v (drop (i + 1) c) ≡ t
-  unfolding count
-  count_hit h e q inv = omega (arith, one)
-    where
-      one : count v (drop i c) ≡ suc (count v (drop (i + 1) c))
-      one = rw (drop-cons c i 0 h, add-one i, eq-eqb _ _ e)
+pub others_is : (c : List ℕ) (d : ℕ) → others c d ≡ count_by (λ v. not (eqb v d)) c
+others_is c d =
+    omega (
+      arith,
+      count_is d c,
+      length-filter (λ v. eqb v d) c,
+      length-filter (λ v. not (eqb v d)) c,
+      length-filter_both (λ v. eqb v d) (λ v. not (eqb v d)) (λ v. refl) c,
+    )
 
-  pub count_miss : i < length c → (get_or c i 0 ≡ v → ⊥) → k ≡ n → n + count v (drop i c) ≡ t → k + count v (drop (i + 1) c) ≡ t
-  unfolding count
-  count_miss h e q inv = omega (arith, none)
-    where
-      none : count v (drop i c) ≡ count v (drop (i + 1) c)
-      none = rw (drop-cons c i 0 h, add-one i, ne_eqb _ _ e)
-
-pub count_end : (v : ℕ) (c : List ℕ) (i n t : ℕ) → length c ≤ i → n + count v (drop i c) ≡ t → n ≡ t
+-- v stands in a list
+pub among_count : (v : ℕ) (c : List ℕ) → list_any (λ x. eqb x v) c ≡ not (eqb (count v c) 0)
 unfolding count
-count_end v c i n t h inv = let e = rw (drop_of_length-le c {i = i} h) at inv in omega arith
+among_count v [] = refl
+among_count v (x ∷ c) = go (eqb x v) (among_count v c)
+  where
+    go : (t : Bool) → list_any (λ x. eqb x v) c ≡ not (eqb (count v c) 0) → (t || list_any (λ x. eqb x v) c) ≡ not (eqb (cond t (suc (count v c)) (count v c)) 0)
+    go true e = ap not (sym (ne_eqb (suc (count v c)) 0 (λ z. omega arith)))
+    go false e = e
+
+pub total_is : (ls : List ℕ) → total ls ≡ sum ls
+unfolding total
+total_is ls = is_sum_by total (λ x. x) refl (λ x xs. refl) ls
+
+pub below_is : (m : ℕ) (c : List ℕ) → all_below m c ≡ list_all (λ v. ltb v m) c
+unfolding all_below
+below_is m [] = refl
+below_is m (v ∷ c) = rw (below_is m c) refl

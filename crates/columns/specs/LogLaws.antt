@@ -1,9 +1,9 @@
 -- The logarithm and the powers of two, as doubling finds them.
-use Rattle.std.specs.Prelude.{ℕ, zero, suc, ◌+◌, ◌*◌, ◌^◌, ◌≤◌, ◌<◌, true, ◌≡◌, ◌⊎◌, leb}
-use Rattle.std.proofs.Common.{sym, ◌∙◌, subst, inl, inr, lt_of_lt_of_le, add-one, arith, le-leb, eqb-true, pow_mono, pow_pos}
+use Rattle.std.specs.Prelude.{ℕ, zero, suc, ◌*◌, ◌^◌, ◌≤◌, ◌<◌, true, cond, ◌≡◌, ◌⊎◌, leb, min, max}
+use Rattle.std.proofs.Common.{sym, subst, inl, inr, arith, le-leb, eqb-true, pow_mono, pow_pos}
 use Rattle.std.proofs.Math.Nat.{two-pow-succ}
 use Rattle.std.proofs.lemmas.Bool.{lt-leb}
-use Rattle.dag.specs.CaseLaws.{cond_elim, below_suc}
+use Rattle.dag.specs.CaseLaws.{cond_elim, le_or_lt}
 use Rattle.columns.specs.Columns.{log_within, is_power}
 
 pub log_le : (k n : ℕ) → log_within k n ≤ k
@@ -11,33 +11,18 @@ unfolding log_within
 log_le zero n = omega arith
 log_le (suc k) n = cond_elim (λ l. l ≤ suc k) (leb (2 ^ suc k) n) (suc k) (log_within k n) (λ _. omega arith) (λ _. omega (arith, log_le k n))
 
-pub log_next : (k n : ℕ) → 2 ^ suc k ≤ n → log_within (suc k) n ≡ suc k
+-- 2^k is the greatest power that is at most n, or 1 where n is 0
+pub log_is : (k most n : ℕ) → 2 ^ k ≤ max n 1 → max n 1 < 2 * 2 ^ k → min k most ≡ log_within most n
 unfolding log_within
-log_next k n h = rw (le-leb (2 ^ suc k) n h)
-
--- doubling: k is the logarithm up to k, and 2^(k+1) is at most n or above it
-pub double : (k v : ℕ) → v ≡ 2 ^ k → 2 * v ≡ 2 ^ (k + 1)
-double k v e = rw (add-one k, two-pow-succ k, e) (omega arith)
-
-pub log_more : (k n v : ℕ) → v ≡ 2 ^ k → 2 * v ≤ n → log_within (k + 1) n ≡ k + 1
-log_more k n v e h = rw (add-one k) (log_next k n (rw (add-one k) at (rw (double k v e) at h)))
-
-pub log_stop : (k most n : ℕ) → log_within k n ≡ k → n < 2 ^ suc k → k ≤ most → log_within most n ≡ k
-unfolding log_within
-log_stop k zero n e h l = omega arith
-log_stop k (suc most) n e h l = go (below_suc k (suc most) (omega arith)) (λ j. log_stop k most n e h j)
+log_is k zero n h u = omega arith
+log_is k (suc most) n h u = go (le_or_lt (2 ^ suc most) n) (le_or_lt (suc most) k) (log_is k most n h u)
   where
-    go : (k < suc most) ⊎ (k ≡ suc most) → (k ≤ most → log_within most n ≡ k) → log_within (suc most) n ≡ k
-    go (inl j) before = rw (lt-leb (2 ^ suc most) n (lt_of_lt_of_le h (pow_mono (omega arith)))) (before (omega arith))
-    go (inr q) before = subst (λ (j : ℕ). log_within j n ≡ k) q e
+    go : (2 ^ suc most ≤ n) ⊎ (n < 2 ^ suc most) → (suc most ≤ k) ⊎ (k < suc most) → min k most ≡ log_within most n → min k (suc most) ≡ cond (leb (2 ^ suc most) n) (suc most) (log_within most n)
+    go (inl e) (inl f) before = rw (le-leb (2 ^ suc most) n e) (omega arith)
+    go (inl e) (inr f) before = absurd (omega (arith, two-pow-succ k, pow_mono {i = suc k} {j = suc most} (omega arith)))
+    go (inr e) (inl f) before = absurd (omega (arith, two-pow-succ most, pow_pos most, pow_mono {i = suc most} {j = k} f))
+    go (inr e) (inr f) before = rw (lt-leb (2 ^ suc most) n e) (omega arith)
 
-pub log_end : (k most n v : ℕ) → log_within k n ≡ k → v ≡ 2 ^ k → n < 2 * v → k ≤ most → k ≡ log_within most n
-log_end k most n v e q h l = sym (log_stop k most n e (rw (add-one k) at (rw (double k v q) at h)) l)
-
-pub log_top : (k most n : ℕ) → log_within k n ≡ k → k ≤ most → most ≤ k → k ≡ log_within most n
-log_top k most n e h l = let q : k ≡ most = omega arith in sym e ∙ rw q
-
--- a power of two
 pub power_is : (most n : ℕ) → is_power most n ≡ true → n ≡ 2 ^ log_within most n
 unfolding is_power
 power_is most n e = eqb-true n (2 ^ log_within most n) e

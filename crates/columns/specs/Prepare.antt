@@ -1,12 +1,11 @@
 -- Prepare (document 01): the tests of columns that are handed over, and the answer.
-use Rattle.std.specs.Prelude.{ℕ, ◌+◌, Bool, true, ◌&&◌, List, [], ◌∷◌, leb, ltb, get_or, length, take, drop}
+use Rattle.std.specs.Prelude.{ℕ, ◌+◌, Bool, true, ◌&&◌, List, [], ◌∷◌, leb, ltb, get_or, length, take, drop, Result, Ok, Err}
 use Rattle.dag.specs.Arrays.{up_to, padded}
-use Rattle.dag.specs.Refusals.{first_refused, need, ◌then◌}
+use Rattle.dag.specs.Refusals.{Checked, first_refused, need, ◌then◌}
+use Rattle.dag.specs.declared.Refusal.{Refusal}
 use Rattle.dag.specs.declared.Refusal.TheVariants.{StoreTooShort, Malformed, TooManyColumns, ColumnLength}
-use Rattle.dag.specs.declared.Checked.{Checked}
-use Rattle.dag.specs.declared.Checked.TheVariants.{Good, Refused}
 use Rattle.columns.specs.Columns.{is_power, column, form, form_number}
-use Rattle.columns.specs.declared.PrepareAnswer.{PrepareAnswer}
+use Rattle.columns.specs.declared.Prepared.{Prepared}
 
 -- how many entries columns of these lengths have
 unfoldable pub total : List ℕ → ℕ
@@ -47,9 +46,9 @@ unfoldable pub forms : ℕ → List (List ℕ) → List ℕ
 forms m cs = padded 0 most_columns (up_to (λ j. form_number (form m cs j)) (length cs))
 
 -- the answer to columns that were tested
-unfoldable pub answer : ℕ → List (List ℕ) → Checked → PrepareAnswer
-answer m cs Good = record { checked = Good; count = length cs; forms = forms m cs }
-answer m cs (Refused r) = record { checked = Refused r; count = 0; forms = padded 0 most_columns [] }
+unfoldable pub answer : ℕ → List (List ℕ) → Checked → Result Prepared Refusal
+answer m cs (Ok u) = Ok (record { count = length cs; forms = forms m cs })
+answer m cs (Err r) = Err r
 
-unfoldable pub prepare : ℕ → List ℕ → List ℕ → PrepareAnswer
+unfoldable pub prepare : ℕ → List ℕ → List ℕ → Result Prepared Refusal
 prepare m ls es = answer m (columns ls es) (prepare_check m ls es)

@@ -1,56 +1,38 @@
 -- Prepare's tests one by one, and what they give.
-use Rattle.std.specs.Prelude.{ℕ, suc, ◌+◌, ◌*◌, ◌≤◌, ◌<◌, Bool, true, false, List, [], ◌∷◌, ◌≡◌, refl, leb, get_or, length, take, drop}
-use Rattle.std.proofs.Common.{sym, ◌∙◌, ap, add-one, arith, drop_of_length-le, drop-cons}
-use borrow.Author.Tests.{lt-ltb, le-ltb, le-leb, lt-leb, leb-true}
-use Rattle.std.proofs.Math.Seq.{take-length}
-use Rattle.dag.specs.CaseLaws.{not_both}
-use Rattle.dag.specs.CheckLaws.{first_good, then_good, need_good, refused_then}
-use Rattle.dag.specs.Refusals.{first_refused, need, ◌then◌, is_refused}
+use Rattle.std.specs.Prelude.{ℕ, suc, ◌*◌, ◌≤◌, ◌<◌, true, false, List, [], ◌∷◌, ◌≡◌, Ok, Err, leb, get_or, length}
+use Rattle.std.proofs.Common.{arith}
+use borrow.Author.Tests.{le-leb, lt-leb, leb-true}
+use Rattle.dag.specs.CheckLaws.{first_none, first_next, first_stop, first_all, first_good, then_good, need_good}
+use Rattle.dag.specs.Refusals.{first_refused, need, ◌then◌}
+use Rattle.dag.specs.declared.Refusal.{Refusal}
 use Rattle.dag.specs.declared.Refusal.TheVariants.{StoreTooShort, Malformed, TooManyColumns, ColumnLength}
-use Rattle.dag.specs.declared.Checked.{Checked}
-use Rattle.dag.specs.declared.Checked.TheVariants.{Good, Refused}
 use Rattle.columns.specs.Columns.{is_power, column}
 use Rattle.columns.specs.Prepare.{total, columns, all_below, length_check, entries_check, most_columns, prepare_check, forms, answer, prepare}
-use Rattle.dag.specs.Arrays.{padded}
 use Rattle.columns.specs.LogLaws.{power_pos, power_le}
 use Rattle.columns.specs.ColumnLaws.{length_columns, column_length}
 use Rattle.columns.specs.Promises.{Column, Handed, Tested}
 
--- entries from place i on
-module _ (m : ℕ) (c : List ℕ) (i : ℕ) (t : Bool) where
-  pub below_next : i < length c → get_or c i 0 < m → all_below m (drop i c) ≡ t → all_below m (drop (i + 1) c) ≡ t
-  unfolding all_below
-  below_next h k inv = rw (add-one i) (rw (drop-cons c i 0 h, lt-ltb _ _ k) at inv)
-
-  pub below_stop : i < length c → m ≤ get_or c i 0 → all_below m (drop i c) ≡ t → false ≡ t
-  unfolding all_below
-  below_stop h k inv = rw (drop-cons c i 0 h, le-ltb _ _ k) at inv
-
-  pub below_end : length c ≤ i → all_below m (drop i c) ≡ t → true ≡ t
-  unfolding all_below
-  below_end h inv = rw (drop_of_length-le c {i = i} h) at inv
-
 -- one length, and one column
 module _ (ls : List ℕ) (j : ℕ) where
-  pub length_good : is_power 7 (get_or ls j 0) ≡ true → length_check ls j ≡ Good
+  pub length_good : is_power 7 (get_or ls j 0) ≡ true → length_check ls j ≡ Ok tt
   unfolding length_check
   length_good e = rw e
 
-  pub length_bad : is_power 7 (get_or ls j 0) ≡ false → length_check ls j ≡ Refused (ColumnLength j)
+  pub length_bad : is_power 7 (get_or ls j 0) ≡ false → length_check ls j ≡ Err (ColumnLength j)
   unfolding length_check
   length_bad e = rw e
 
 module _ (m : ℕ) (cs : List (List ℕ)) (j : ℕ) where
-  pub entries_good : all_below m (column cs j) ≡ true → entries_check m cs j ≡ Good
+  pub entries_good : all_below m (column cs j) ≡ true → entries_check m cs j ≡ Ok tt
   unfolding entries_check
   entries_good e = rw e
 
-  pub entries_bad : all_below m (column cs j) ≡ false → entries_check m cs j ≡ Refused (Malformed j)
+  pub entries_bad : all_below m (column cs j) ≡ false → entries_check m cs j ≡ Err (Malformed j)
   unfolding entries_check
   entries_bad e = rw e
 
 -- what the tests give
-pub length_powers : (ls : List ℕ) → first_refused (length_check ls) (length ls) ≡ Good → (j : ℕ) → j < length ls → is_power 7 (get_or ls j 0) ≡ true
+pub length_powers : (ls : List ℕ) → first_refused (length_check ls) (length ls) ≡ Ok tt → (j : ℕ) → j < length ls → is_power 7 (get_or ls j 0) ≡ true
 unfolding length_check
 length_powers ls e j h = need_good (is_power 7 (get_or ls j 0)) (ColumnLength j) (first_good (length_check ls) (length ls) e j h)
 
@@ -59,13 +41,13 @@ unfolding total
 total_small [] h = omega arith
 total_small (n ∷ ls) h = omega (arith, h 0 (omega arith), total_small ls (λ j k. h (suc j) (omega arith)))
 
-pub lengths_small : (ls : List ℕ) → length ls ≤ most_columns → first_refused (length_check ls) (length ls) ≡ Good → total ls ≤ 2048
+pub lengths_small : (ls : List ℕ) → length ls ≤ most_columns → first_refused (length_check ls) (length ls) ≡ Ok tt → total ls ≤ 2048
 lengths_small ls few e = omega (arith, total_small ls (λ j h. power_le 7 (get_or ls j 0) (length_powers ls e j h)))
 
-pub handed : (ls es : List ℕ) → length ls ≤ most_columns → first_refused (length_check ls) (length ls) ≡ Good → total ls ≤ length es → Handed ls es
+pub handed : (ls es : List ℕ) → length ls ≤ most_columns → first_refused (length_check ls) (length ls) ≡ Ok tt → total ls ≤ length es → Handed ls es
 handed ls es few e enough = record { few = few; powers = length_powers ls e; small = lengths_small ls few e; enough = enough }
 
-pub tested : (m : ℕ) (ls es : List ℕ) → Handed ls es → first_refused (entries_check m (columns ls es)) (length ls) ≡ Good → Tested m ls es
+pub tested : (m : ℕ) (ls es : List ℕ) → Handed ls es → first_refused (entries_check m (columns ls es)) (length ls) ≡ Ok tt → Tested m ls es
 unfolding entries_check
 tested m ls es h e =
     record {
@@ -74,7 +56,7 @@ tested m ls es h e =
     }
 
 -- all of Prepare's tests
-pub prepared : (m : ℕ) (ls es : List ℕ) → prepare_check m ls es ≡ Good → Tested m ls es
+pub prepared : (m : ℕ) (ls es : List ℕ) → prepare_check m ls es ≡ Ok tt → Tested m ls es
 unfolding prepare_check
 prepared m ls es e =
     let one = then_good (need (leb (length ls) most_columns) TooManyColumns) (first_refused (length_check ls) (length ls) then need (leb (total ls) (length es)) StoreTooShort then first_refused (entries_check m (columns ls es)) (length ls)) e in
@@ -101,37 +83,37 @@ module _ (m : ℕ) (ls es : List ℕ) (j : ℕ) (h : j < length ls) where
       }
 
 -- the tests in their order
-module _ (m : ℕ) (ls es : List ℕ) (few : length ls ≤ most_columns) where
-  pub check_lengths : (r : Checked) → r ≡ first_refused (length_check ls) (length ls) → is_refused (first_refused (length_check ls) (length ls)) ≡ true → r ≡ prepare_check m ls es
+module _ (m : ℕ) (ls es : List ℕ) where
+  pub check_few : most_columns < length ls → Err TooManyColumns ≡ prepare_check m ls es
   unfolding prepare_check
-  check_lengths r e bad = rw (le-leb _ _ few) (e ∙ refused_then (first_refused (length_check ls) (length ls)) _ bad)
+  check_few h = rw (lt-leb _ _ h)
 
-  module _ (good : first_refused (length_check ls) (length ls) ≡ Good) (s : ℕ) (e : s ≡ total (take (length ls) ls)) where
-    whole : s ≡ total ls
-    whole = e ∙ ap total (take-length ls)
-
-    pub check_store : length es < s → Refused StoreTooShort ≡ prepare_check m ls es
+  module _ (few : length ls ≤ most_columns) where
+    pub check_lengths : (r : Refusal) → first_refused (length_check ls) (length ls) ≡ Err r → Err r ≡ prepare_check m ls es
     unfolding prepare_check
-    check_store h = rw (le-leb _ _ few, good, lt-leb (total ls) (length es) (rw (← whole) h))
+    check_lengths r e = rw (le-leb _ _ few, e)
 
-    pub check_handed : s ≤ length es → Handed ls es
-    check_handed h = handed ls es few good (rw (← whole) h)
+    module _ (good : first_refused (length_check ls) (length ls) ≡ Ok tt) where
+      pub check_store : length es < total ls → Err StoreTooShort ≡ prepare_check m ls es
+      unfolding prepare_check
+      check_store h = rw (le-leb _ _ few, good, lt-leb (total ls) (length es) h)
 
-    pub check_entries : (r : Checked) → s ≤ length es → r ≡ first_refused (entries_check m (columns ls es)) (length ls) → r ≡ prepare_check m ls es
-    unfolding prepare_check
-    check_entries r h q = rw (le-leb _ _ few, good, le-leb (total ls) (length es) (rw (← whole) h)) q
+      pub check_entries : total ls ≤ length es → first_refused (entries_check m (columns ls es)) (length ls) ≡ prepare_check m ls es
+      unfolding prepare_check
+      check_entries h = rw (le-leb _ _ few, good, le-leb (total ls) (length es) h)
 
 -- the answer
-pub prepare_refused : (m : ℕ) (ls es : List ℕ) (r : Checked) → r ≡ prepare_check m ls es → is_refused (prepare_check m ls es) ≡ true
-    → record { checked = r; count = 0; forms = padded 0 most_columns [] } ≡ prepare m ls es
+pub prepare_refused : (m : ℕ) (ls es : List ℕ) (r : Refusal) → prepare_check m ls es ≡ Err r → Err r ≡ prepare m ls es
 unfolding prepare answer
-prepare_refused m ls es r e bad = rw e (go (prepare_check m ls es) bad)
-  where
-    go : (c : Checked) → is_refused c ≡ true → record { checked = c; count = 0; forms = padded 0 most_columns [] } ≡ answer m (columns ls es) c
-    go Good b = absurd (not_both true refl (sym b))
-    go (Refused r) b = refl
+prepare_refused m ls es r e = rw e
 
-pub prepare_good : (m : ℕ) (ls es : List ℕ) (r : Checked) (f : List ℕ) → r ≡ prepare_check m ls es → prepare_check m ls es ≡ Good → f ≡ forms m (columns ls es)
-    → record { checked = r; count = length ls; forms = f } ≡ prepare m ls es
+pub prepare_good : (m : ℕ) (ls es : List ℕ) → prepare_check m ls es ≡ Ok tt → Ok (record { count = length ls; forms = forms m (columns ls es) }) ≡ prepare m ls es
 unfolding prepare answer
-prepare_good m ls es r f e good q = rw (e, good, q, length_columns ls es)
+prepare_good m ls es good = rw (good, length_columns ls es)
+
+-- a test at each column, the tests in their order, and the answer
+pub ruleset at_each = (length_good, length_bad, entries_good, entries_bad, first_none, first_next, first_stop, first_all)
+
+pub ruleset in_order = (lengths_small, handed, tested, check_few, check_lengths, check_store, check_entries)
+
+pub ruleset answers = (prepare_refused, prepare_good)

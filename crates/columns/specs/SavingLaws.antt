@@ -1,39 +1,61 @@
 -- Savings and forms, from what is worked out for each column.
-use Prim.Native.Nat.{ℕ, zero, suc, ◌+◌, ◌*◌, ◌≤◌, ◌<◌}
-use Rattle.std.specs.Prelude.{Bool, ◌&&◌, List, ◌≡◌, ltb, get_or, length}
-use Rattle.std.proofs.Math.Bool.{true, false, cond}
+use Prim.Native.Nat.{ℕ, zero, suc, ◌+◌, ◌*◌, ◌^◌, ◌≤◌, ◌<◌}
+use Rattle.std.specs.Prelude.{Bool, ◌&&◌, List, [], ◌∷◌, ◌≡◌, leb, ltb, eqb, get_or, length, sum, map, filter}
+use Rattle.std.specs.List.{zip}
+use Rattle.std.proofs.lemmas.List.Sums.{sum_by-cons}
+use Rattle.std.proofs.Math.Bool.{true, false, cond, and-false}
 use Rattle.std.proofs.Math.Path.{refl}
-use Rattle.std.proofs.Common.{sym, ◌∙◌, subst, lt_of_lt_of_le, add-one, arith}
-use borrow.Author.Tests.{lt-ltb, le-ltb, lt-leb, le-leb, eq-eqb, ne_eqb}
+use Rattle.std.proofs.Common.{sym, ◌∙◌, ap, arith}
+use borrow.Author.Tests.{lt-ltb, le-ltb, lt-leb, le-leb}
 use Rattle.dag.specs.CaseLaws.{cond_elim}
 use Rattle.columns.specs.Columns.{column, gain, is_among, saving, savings, goes_over, is_sparse, form}
 use Rattle.columns.specs.Prepare.{columns, most_columns}
 use Rattle.dag.specs.Arrays.{up_to}
-use Rattle.columns.specs.Promises.{Handed, gains, savings_each, counted, Small, savings_of, over, Weighed}
-use Rattle.columns.specs.LogLaws.{power_le}
+use Rattle.columns.specs.Promises.{Handed, added, gains, savings_each, counted, Small, savings_of}
 use Rattle.columns.specs.ColumnLaws.{length_columns, column_length}
 use Rattle.dag.specs.ArrayLaws.{length_up_to, length_padded, get_or_filled}
 use Rattle.columns.specs.CostLaws.{gain_small}
 use Rattle.columns.specs.PrepareLaws.{column_short}
 use Rattle.columns.specs.declared.Form.TheVariants.{Sparse, Dense, Basis}
 
--- the savings before place i
-module _ (ls each : List ℕ) (P i s k : ℕ) where
-  pub savings_hit : get_or ls i 0 ≡ P → k ≡ s + get_or each i 0 → s ≡ savings_of ls each P i → k ≡ savings_of ls each P (i + 1)
+-- the savings of period P, as a sum over the columns
+module _ (P : ℕ) where
+  savings_first : (l e : ℕ) (ls each : List ℕ) (n : ℕ) → savings_of (l ∷ ls) (e ∷ each) P (suc n) ≡ cond (eqb l P) e 0 + savings_of ls each P n
   unfolding savings_of
-  savings_hit e q inv = rw (add-one i, eq-eqb _ _ e, ← inv) q
+  savings_first l e ls each zero = omega arith
+  savings_first l e ls each (suc n) = rw (savings_first l e ls each n) (omega arith)
 
-  pub savings_miss : (get_or ls i 0 ≡ P → ⊥) → k ≡ s → s ≡ savings_of ls each P i → k ≡ savings_of ls each P (i + 1)
+  savings_zip : (ls each : List ℕ) → length ls ≤ length each → savings_of ls each P (length ls) ≡ added ls each P
   unfolding savings_of
-  savings_miss e q inv = rw (add-one i, ne_eqb _ _ e, ← inv) (omega arith)
+  savings_zip [] each h = refl
+  savings_zip (l ∷ ls) [] h = absurd (omega arith)
+  savings_zip (l ∷ ls) (e ∷ each) h = rw (savings_first l e ls each (length ls), savings_zip ls each (omega arith)) (go (eqb l P) (filter (λ (p : ℕ × ℕ). eqb p.0 P) (zip ls each)))
+    where
+      go : (t : Bool) (r : List (ℕ × ℕ)) → cond t e 0 + sum (map (λ (p : ℕ × ℕ). p.1) r) ≡ sum (map (λ (p : ℕ × ℕ). p.1) (cond t ((l, e) ∷ r) r))
+      go true r = sym (sum_by-cons (λ x. x) e (map (λ (p : ℕ × ℕ). p.1) r))
+      go false r = omega arith
+
+  savings_le : (ls each : List ℕ) (n : ℕ) → ((j : ℕ) → j < n → get_or each j 0 ≤ 4096) → savings_of ls each P n ≤ 4096 * n
+  unfolding savings_of
+  savings_le ls each zero h = omega arith
+  savings_le ls each (suc n) h =
+      cond_elim (λ k. savings_of ls each P n + k ≤ 4096 * suc n) (eqb (get_or ls n 0) P) (get_or each n 0) 0
+      (λ _. omega (arith, h n (omega arith), savings_le ls each n (λ j k. h j (omega arith))))
+      (λ _. omega (arith, savings_le ls each n (λ j k. h j (omega arith))))
+
+  pub savings_fit : (ls each : List ℕ) → Small ls each → added ls each P < 2 ^ 64
+  savings_fit ls each s = rw (sym (savings_zip ls each s.room)) (omega (arith, s.few, savings_le ls each (length ls) s.small))
 
 -- what each column saves
 module _ (m : ℕ) (ls es : List ℕ) (h : Handed ls es) where
-  pub gain_at : (j : ℕ) → j < length ls → get_or (gains m (columns ls es)) j 0 ≡ gain m (column (columns ls es) j)
+  gain_at : (j : ℕ) → j < length ls → get_or (gains m (columns ls es)) j 0 ≡ gain m (column (columns ls es) j)
   unfolding gains
   gain_at j k = get_or_filled 0 0 most_columns (λ j. gain m (column (columns ls es) j)) (length (columns ls es)) j (rw (length_columns ls es) k)
 
-  pub saving_at : (j : ℕ) → j < length ls → get_or (savings_each m (columns ls es)) j 0 ≡ saving m (columns ls es) j
+  pub gained_at : (gs : List ℕ) (j : ℕ) → gs ≡ gains m (columns ls es) → j < length ls → get_or gs j 0 ≡ gain m (column (columns ls es) j)
+  gained_at gs j e k = rw e (gain_at j k)
+
+  saving_at : (j : ℕ) → j < length ls → get_or (savings_each m (columns ls es)) j 0 ≡ saving m (columns ls es) j
   unfolding savings_each
   saving_at j k = get_or_filled 0 0 most_columns (saving m (columns ls es)) (length (columns ls es)) j (rw (length_columns ls es) k)
 
@@ -44,10 +66,6 @@ module _ (m : ℕ) (ls es : List ℕ) (h : Handed ls es) where
   pub length_each : length (savings_each m (columns ls es)) ≡ most_columns
   unfolding savings_each
   length_each = length_padded 0 most_columns (up_to (saving m (columns ls es)) (length (columns ls es))) (rw (length_up_to (saving m (columns ls es)) (length (columns ls es)), length_columns ls es) h.few)
-
-  pub length_gains : length (gains m (columns ls es)) ≡ most_columns
-  unfolding gains
-  length_gains = length_padded 0 most_columns (up_to (λ j. gain m (column (columns ls es) j)) (length (columns ls es))) (rw (length_up_to (λ j. gain m (column (columns ls es) j)) (length (columns ls es)), length_columns ls es) h.few)
 
   saving_small : (j : ℕ) → j < length ls → saving m (columns ls es) j ≤ 4096
   unfolding saving
@@ -69,18 +87,17 @@ module _ (m : ℕ) (ls es : List ℕ) (h : Handed ls es) where
   savings_are each P (suc n) e k =
       rw (savings_are each P n e (omega arith), column_length ls es n h.enough (omega arith), e, saving_at n (omega arith))
 
-  pub over_is : (each : List ℕ) (j : ℕ) → each ≡ savings_each m (columns ls es) → j < length ls → over ls each (get_or ls j 0) ≡ goes_over m (columns ls es) (length (column (columns ls es) j))
-  unfolding over goes_over
-  over_is each j e k = rw (length_columns ls es, column_length ls es j h.enough k, savings_are each (get_or ls j 0) (length ls) e (omega arith))
+  pub savings_is : (each : List ℕ) (P s : ℕ) → each ≡ savings_each m (columns ls es) → s ≡ added ls each P → s ≡ savings m (columns ls es) P (length (columns ls es))
+  savings_is each P s e q = q ∙ sym (savings_zip P ls each (small_each each e).room) ∙ (savings_are each P (length ls) e (omega arith) ∙ ap (savings m (columns ls es) P) (sym (length_columns ls es)))
 
 -- a period that goes over
-pub over_short : (ls each : List ℕ) (P : ℕ) → P < 2 → false ≡ over ls each P
-unfolding over
-over_short ls each P h = rw (lt-leb 2 P h)
+pub goes_short : (m : ℕ) (cs : List (List ℕ)) (P : ℕ) → P < 2 → leb 2 P ≡ goes_over m cs P
+unfolding goes_over
+goes_short m cs P h = rw (lt-leb 2 P h)
 
-pub over_told : (ls each : List ℕ) (P s : ℕ) → 2 ≤ P → s ≡ savings_of ls each P (length ls) → ltb (7 * P + 2) s ≡ over ls each P
-unfolding over
-over_told ls each P s h e = rw (le-leb 2 P h, e)
+pub goes_told : (m : ℕ) (cs : List (List ℕ)) (P s : ℕ) → 2 ≤ P → s ≡ savings m cs P (length cs) → ltb (7 * P + 2) s ≡ goes_over m cs P
+unfolding goes_over
+goes_told m cs P s h e = rw (le-leb 2 P h, e)
 
 -- a column's form
 module _ (m : ℕ) (cs : List (List ℕ)) (j : ℕ) where
@@ -88,37 +105,25 @@ module _ (m : ℕ) (cs : List (List ℕ)) (j : ℕ) where
   unfolding form
   form_basis e h = rw (e, lt-ltb 0 (gain m (column cs j)) h)
 
-  pub form_dear : gain m (column cs j) ≤ 0 → cond (is_sparse (column cs j)) Sparse Dense ≡ form m cs j
+  -- it stays out of the basis
+  abbrev pub Apart : Type 0
+  Apart = (goes_over m cs (length (column cs j)) && ltb 0 (gain m (column cs j))) ≡ false
+
+  pub apart_alone : goes_over m cs (length (column cs j)) ≡ false → Apart
+  apart_alone e = rw e
+
+  pub apart_dear : gain m (column cs j) ≤ 0 → Apart
+  apart_dear h = rw (le-ltb 0 (gain m (column cs j)) h) (and-false (goes_over m cs (length (column cs j))))
+
+  pub form_sparse : is_sparse (column cs j) ≡ true → Apart → Sparse ≡ form m cs j
   unfolding form
-  form_dear h = rw (le-ltb 0 (gain m (column cs j)) h) (go (goes_over m cs (length (column cs j))))
-    where
-      go : (t : Bool) → cond (is_sparse (column cs j)) Sparse Dense ≡ cond (t && false) Basis (cond (is_sparse (column cs j)) Sparse Dense)
-      go true = refl
-      go false = refl
+  form_sparse e off = rw (off, e)
 
-  pub form_alone : goes_over m cs (length (column cs j)) ≡ false → cond (is_sparse (column cs j)) Sparse Dense ≡ form m cs j
+  pub form_dense : is_sparse (column cs j) ≡ false → Apart → Dense ≡ form m cs j
   unfolding form
-  form_alone e = rw e
+  form_dense e off = rw (off, e)
 
--- columns that passed, with what they save
-module _ (m : ℕ) (ls es gs each : List ℕ) (j : ℕ) (h : j < length ls) (w : Weighed m ls es gs each) where
-  pub weighed_asks : Small ls each × (get_or ls j 0 ≤ 128)
-  weighed_asks = (small_each m ls es w.tested.handed each w.saved, power_le 7 (get_or ls j 0) (w.tested.handed.powers j h))
+-- a period that goes over, and a column's form
+pub ruleset going_over = (small_each, savings_fit, savings_is, goes_short, goes_told)
 
-  pub weighed_room : j < length gs
-  weighed_room = rw (w.gained, length_gains m ls es w.tested.handed) (lt_of_lt_of_le h w.tested.handed.few)
-
-  gained_is : get_or gs j 0 ≡ gain m (column (columns ls es) j)
-  gained_is = rw w.gained (gain_at m ls es w.tested.handed j h)
-
-  over_as : over ls each (get_or ls j 0) ≡ goes_over m (columns ls es) (length (column (columns ls es) j))
-  over_as = over_is m ls es w.tested.handed each j w.saved h
-
-  pub weighed_alone : over ls each (get_or ls j 0) ≡ false → cond (is_sparse (column (columns ls es) j)) Sparse Dense ≡ form m (columns ls es) j
-  weighed_alone e = form_alone m (columns ls es) j (sym over_as ∙ e)
-
-  pub weighed_dear : get_or gs j 0 ≡ 0 → cond (is_sparse (column (columns ls es) j)) Sparse Dense ≡ form m (columns ls es) j
-  weighed_dear e = form_dear m (columns ls es) j (omega (arith, gained_is))
-
-  pub weighed_basis : over ls each (get_or ls j 0) ≡ true → (get_or gs j 0 ≡ 0 → ⊥) → Basis ≡ form m (columns ls es) j
-  weighed_basis e n = form_basis m (columns ls es) j (sym over_as ∙ e) (subst (λ (k : ℕ). 0 < k) gained_is (omega arith))
+pub ruleset forms = (column_short, gained_at, form_basis, form_sparse, form_dense, apart_alone, apart_dear)

@@ -1,53 +1,47 @@
 // Holds the fields to vectors of ordinary whole-number arithmetic, made by tools/field_vectors.py and read from standard input.
 #![tactic(auto)]
 
-ghost use Rattle.std.specs.Prelude.{◌≡◌, ◌+◌, ◌/◌, ◌≤◌, ◌<◌, IfSome, OnOk, length, take};
+ghost use Rattle.std.specs.Prelude.{cond, ◌≡◌, ◌+◌, ◌/◌, ◌≤◌, ◌<◌, IfSome, OnOk, length, take};
 ghost use Rattle.std.specs.Io.KnownBytes.{Appends};
 ghost use Rattle.field.specs.Field.{Below};
 ghost use Rattle.field.specs.Generators as Generators;
 ghost use Rattle.field_vectors.specs.Vectors as Vectors;
 ghost use Rattle.field_vectors.specs.Report.{report_of};
 
-use field::{FieldNumber, Prime, QuadFelt, felt};
+use field::{Prime, QuadFelt, felt};
 use std::io;
 use std::io::{Read, Write};
 
 // The bytes of a line: a field number, a sign, and six words of 16 hexadecimal digits.
 const LINE: usize = 106;
 
-// How many vectors there are, and how many the field agrees with.
-#[derive(Clone, Copy)]
-struct Tally {
-    vectors: u64,
-    matched: u64,
-}
-
 // The value of a hexadecimal digit.
+#[tactic(auto, unfolding(crate::specs::Vectors::digit))]
 fn nibble(b: u8) -> u64
     ensures { (result ≡ Vectors.digit b) × (result < 16) }
 {
     match b {
-        b'0'..=b'9' => (b - 48) as u64,
-        b'a'..=b'f' => (b - 87) as u64,
+        b'0'..=b'9' => u64::from(b - b'0'),
+        b'a'..=b'f' => u64::from(b - b'a' + 10),
         _ => 0,
     }
 }
 
 // The word of 16 digits at a place.
+#[tactic(auto, using(crate::specs::VectorLaws::digits_none, crate::specs::VectorLaws::digits_more, crate::specs::VectorLaws::digits_low))]
 fn word(s: &[u8], at: usize) -> u64
     requires { at + 16 ≤ length s.now }
     ensures { result ≡ Vectors.digits s.now at 16 }
 {
     let mut n: u64 = 0;
-    let mut i = 0;
-    while i < 16 {
-        n = n % 1152921504606846976 * 16 + nibble(s[at + i]);
-        i += 1;
+    for i in 0..16 {
+        n = n * 16 + nibble(s[at + i]);
     }
     n
 }
 
 // The element of two words at a place.
+#[tactic(auto, unfolding(crate::specs::Vectors::element))]
 fn element(s: &[u8], at: usize) -> QuadFelt
     requires { at + 33 ≤ length s.now }
     ensures { result ≡ Vectors.element s.now at }
@@ -56,6 +50,7 @@ fn element(s: &[u8], at: usize) -> QuadFelt
 }
 
 // The generator of a number, and 0 past the table.
+#[tactic(auto, using(crate::specs::VectorLaws::generator_past))]
 fn generator(prime: Prime, k: u64) -> u64
     ensures { result ≡ Generators.generator prime k }
 {
@@ -67,6 +62,7 @@ fn generator(prime: Prime, k: u64) -> u64
 }
 
 // What the field answers for a sign.
+#[tactic(auto, unfolding(crate::specs::Vectors::asked))]
 fn answer(prime: Prime, sign: u8, a: QuadFelt, b: QuadFelt) -> QuadFelt
     requires { Below prime a × Below prime b }
     ensures { result ≡ Vectors.asked prime sign a b }
@@ -82,72 +78,54 @@ fn answer(prime: Prime, sign: u8, a: QuadFelt, b: QuadFelt) -> QuadFelt
 }
 
 // Whether operands are in lowest form, and the field answers r for a sign.
+#[tactic(auto, unfolding(crate::specs::Vectors::agrees, field::specs::Field::same), using(crate::specs::VectorLaws::low_below))]
 fn agrees(prime: Prime, sign: u8, a: QuadFelt, b: QuadFelt, r: QuadFelt) -> bool
     ensures { result ≡ Vectors.agrees prime sign a b r }
 {
-    if dag::lowest(prime, a.c0, a.c1) {
-        if dag::lowest(prime, b.c0, b.c1) {
-            return answer(prime, sign, a, b).same(r);
-        }
-    }
-    false
+    dag::lowest(prime, a.c0, a.c1)
+        && dag::lowest(prime, b.c0, b.c1)
+        && answer(prime, sign, a, b) == r
 }
 
 // Whether a number names a field, and that agrees.
+#[tactic(auto, unfolding(crate::specs::Vectors::agrees_in))]
 fn agrees_in(number: u64, sign: u8, a: QuadFelt, b: QuadFelt, r: QuadFelt) -> bool
     ensures { result ≡ Vectors.agrees_in number sign a b r }
 {
-    let known = field::numbered(number);
-    match known {
-        FieldNumber::Known(prime) => agrees(prime, sign, a, b, r),
-        FieldNumber::Unknown => false,
-    }
+    field::numbered(number).is_some_and(|prime| agrees(prime, sign, a, b, r))
 }
 
-// 1 where the vector at a place agrees, and else 0.
-fn score(s: &[u8], at: usize) -> u64
+// Whether the vector at a place agrees.
+#[tactic(auto, unfolding(crate::specs::Vectors::score))]
+fn agrees_at(s: &[u8], at: usize) -> bool
     requires { at + 106 ≤ length s.now }
-    ensures { (result ≡ Vectors.score s.now at) × (result ≤ 1) }
+    ensures { cond result 1 0 ≡ Vectors.score s.now at }
 {
     let a = element(s, at + 4);
     let b = element(s, at + 38);
     let r = element(s, at + 72);
-    if agrees_in(nibble(s[at]), s[at + 2], a, b, r) {
-        1
-    } else {
-        0
-    }
+    agrees_in(nibble(s[at]), s[at + 2], a, b, r)
 }
 
-// The fields against every whole line.
-fn compare(s: &[u8]) -> Tally
-    ensures { (result.vectors ≡ length s.now / 106) × (result.matched ≡ Vectors.matched s.now (length s.now / 106)) }
+// How many whole lines agree.
+#[tactic(auto, using(crate::specs::VectorLaws::matched_none, crate::specs::VectorLaws::matched_more))]
+fn matched(s: &[u8]) -> u64
+    ensures { result ≡ Vectors.matched s.now (length s.now / 106) }
 {
-    let mut vectors: u64 = 0;
-    let mut matched: u64 = 0;
-    let mut at = 0;
-    while LINE <= s.len() - at {
-        matched += score(s, at);
-        vectors += 1;
-        at += LINE;
+    let mut matched = 0;
+    for i in 0..s.len() / LINE {
+        matched += u64::from(agrees_at(s, LINE * i));
     }
-    Tally { vectors, matched }
+    matched
 }
 
-// Writes how many vectors match.
-fn report<W: Write>(output: &mut W, s: &[u8], t: Tally) -> io::Result<()>
-    requires { (t.vectors ≡ length s.now / 106) × (t.matched ≡ Vectors.matched s.now (length s.now / 106)) }
+// Writes how many vectors of a text match.
+fn report<W: Write>(output: &mut W, s: &[u8]) -> io::Result<()>
     ensures { OnOk result (Appends (W.contents output.old) (W.contents output.new) (report_of s.now)) }
 {
-    let Tally { vectors, matched } = t;
+    let matched = matched(s);
+    let vectors = s.len() / LINE;
     writeln!(output, "{matched} of {vectors} vectors match")
-}
-
-// Compares the vectors of a text.
-fn run<W: Write>(output: &mut W, s: &[u8]) -> io::Result<()>
-    ensures { OnOk result (Appends (W.contents output.old) (W.contents output.new) (report_of s.now)) }
-{
-    report(output, s, compare(s))
 }
 
 // Compares the vectors that a reader gives, in its first 65,536 bytes.
@@ -156,7 +134,7 @@ fn compare_read<R: Read, W: Write>(input: &mut R, output: &mut W) -> io::Result<
 {
     let mut buffer = [0u8; 65536];
     let n = streams::read_full(input, &mut buffer)?;
-    run(output, &buffer[..n])
+    report(output, &buffer[..n])
 }
 
 fn main(rt: HostRuntime) -> io::Result<()> {

@@ -12,6 +12,7 @@ use Rattle.text.specs.Text.{ascii, decimal, ended, line, space, newline}
 use Rattle.text.specs.DecimalLaws.{decimal_short}
 use Rattle.text.specs.WritingLaws.{and_then, wrote_as, length_ended}
 use Rattle.text.specs.Promises.{Wrote}
+use Rattle.text.specs.declared.Text.{Text}
 use Rattle.listing.specs.Promises.{named, answer_text}
 use Rattle.listing.specs.Kinds.{kind}
 use Rattle.listing.specs.Listing.{first_line, record_line, record_lines, listed, refused_line}
@@ -29,14 +30,6 @@ word_short n end h = omega (arith, length_ended (decimal n) end, word_digits n h
 
 pub named_short : (word : List ℕ) (n end : ℕ) → n < 2 ^ 64 → length (named word n end) ≤ length word + 22
 named_short word n end h = omega (arith, length_named word n end, length_ended word space, word_short n end h)
-
-module _ {s u : List ℕ} {at r : ℕ} where
-  -- the number that another is
-  pub wrote_number : (end : ℕ) {m n : ℕ} → m ≡ n → Wrote s at (ended (decimal m) end) u r → Wrote s at (ended (decimal n) end) u r
-  wrote_number end e w = wrote_as (ap (λ k. ended (decimal k) end) e) w
-
-  pub wrote_named : (word : List ℕ) (end : ℕ) {m n : ℕ} → m ≡ n → Wrote s at (named word m end) u r → Wrote s at (named word n end) u r
-  wrote_named word end e w = wrote_as (ap (λ k. named word k end) e) w
 
 pub first_is : (count root rounds : ℕ)
     → named (ascii "nodes") count space ++ (named (ascii "root") root space ++ named (ascii "rounds") rounds newline) ≡ first_line count (root ∷ []) rounds
@@ -79,8 +72,8 @@ lines_fit list n i x h e =
     rw (e ∙ sym (at_nodes list n i h)) (omega (arith, length-append (record_lines l i) (record_line i (at l i))))
 
 -- one more record's line
-pub lines_more : (list : View) (n i : ℕ) {s u v : List ℕ} {at q r : ℕ} {x : NodeKind} → Wrote s at (record_lines (nodes list n) i) u q → i < n → x ≡ record_at list i → Wrote u q (record_line i x) v r
-    → Wrote s at (record_lines (nodes list n) (i + 1)) v r
+pub lines_more : (list : View) (n i : ℕ) {t u v : Text} {x : NodeKind} → Wrote t (record_lines (nodes list n) i) u → i < n → x ≡ record_at list i → Wrote u (record_line i x) v
+    → Wrote t (record_lines (nodes list n) (i + 1)) v
 unfolding record_lines
 lines_more list n i before h e w = rw (add-one i) (and_then before (wrote_as (ap (record_line i) (e ∙ sym (at_nodes list n i h))) w))
 

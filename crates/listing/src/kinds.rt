@@ -1,23 +1,21 @@
 // The words of the kinds of records.
-ghost use Rattle.std.specs.Prelude.{◌+◌, ◌≤◌, length};
-ghost use Rattle.text.specs.Text.{ended, space};
-ghost use Rattle.text.specs.Promises.{Wrote};
+ghost use Rattle.std.specs.Prelude.{◌≡◌};
+ghost use Rattle.text.specs.Text.{ascii};
 ghost use Rattle.listing.specs.Kinds.{kind};
 
 use dag::NodeKind;
-use text::End;
 
-// Writes a record's kind and a space.
-pub fn put_kind(out: &mut [u8], at: usize, x: NodeKind) -> usize
-    requires { at + length (ended (kind x) space) ≤ length out.old }
-    ensures { Wrote out.old at (ended (kind x) space) out.new result }
+// The word of a record's kind.
+#[tactic(auto, unfolding(crate::specs::Kinds::kind, text::specs::Text::ascii))]
+pub fn kind_of(x: NodeKind) -> &'static [u8]
+    ensures { result.now ≡ kind x }
 {
     match x {
-        NodeKind::Input(_) => text::put_word(out, at, b"in", End::Space),
-        NodeKind::Constant(_) => text::put_word(out, at, b"const", End::Space),
-        NodeKind::Add(_, _) => text::put_word(out, at, b"add", End::Space),
-        NodeKind::Sub(_, _) => text::put_word(out, at, b"sub", End::Space),
-        NodeKind::Mul(_, _) => text::put_word(out, at, b"mul", End::Space),
-        NodeKind::Neg(_) => text::put_word(out, at, b"neg", End::Space),
+        NodeKind::Input(_) => b"in",
+        NodeKind::Constant(_) => b"const",
+        NodeKind::Add(_, _) => b"add",
+        NodeKind::Sub(_, _) => b"sub",
+        NodeKind::Mul(_, _) => b"mul",
+        NodeKind::Neg(_) => b"neg",
     }
 }

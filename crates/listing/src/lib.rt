@@ -4,7 +4,7 @@
 use dag::{Checked, NodeKind, Refusal};
 use field::Prime;
 use house_file::FileAnswer;
-use text::End;
+use text::{End, Text};
 
 pub mod kinds;
 
@@ -12,7 +12,7 @@ ghost use Rattle.std.specs.Prelude.{◌≡◌, [], ◌∷◌, ◌+◌, ◌≤◌
 ghost use Rattle.dag.specs.View.{interleaved};
 ghost use Rattle.dag.specs.Nodes as Nodes;
 ghost use Rattle.text.specs.Text.{end_byte, laid};
-ghost use Rattle.text.specs.Promises.{Wrote, Laid};
+ghost use Rattle.text.specs.Promises.{HasRoom, Laid, Wrote};
 ghost use Rattle.listing.specs.Listing as Listing;
 ghost use Rattle.listing.specs.Promises as Promises;
 
@@ -23,69 +23,70 @@ pub const MOST_BYTES: usize = 54353;
 pub const ENOUGH: usize = 17418;
 
 // Writes the line of the record x at place i.
-fn put_record(out: &mut [u8], at: usize, i: usize, x: NodeKind) -> usize
-    requires { at + length (Listing.record_line i x) ≤ length out.old }
-    ensures { Wrote out.old at (Listing.record_line i x) out.new result }
+#[tactic(auto, using(crate::specs::LineLaws::length_record))]
+fn put_record(text: &mut Text, i: usize, x: NodeKind)
+    requires { HasRoom text.old (Listing.record_line i x) }
+    ensures { Wrote text.old (Listing.record_line i x) text.new }
 {
-    let kind = text::put_number(out, at, i as u64, End::Space);
-    let first = kinds::put_kind(out, kind, x);
-    let second = text::put_number(out, first, dag::first_of(x), End::Space);
-    text::put_number(out, second, dag::second_of(x), End::Newline)
+    text.number(i as u64, End::Space);
+    text.word(kinds::kind_of(x), End::Space);
+    text.number(dag::first_of(x), End::Space);
+    text.number(dag::second_of(x), End::Newline);
 }
 
 // Writes the lines of the first n records of a list.
-fn put_records(out: &mut [u8], at: usize, list: &[u64], n: usize) -> usize
-    requires { (n ≤ (interleaved list.now).room) × (at + length (Listing.record_lines (Nodes.nodes (interleaved list.now) n) n) ≤ length out.old) }
-    ensures { Wrote out.old at (Listing.record_lines (Nodes.nodes (interleaved list.now) n) n) out.new result }
+fn put_records(text: &mut Text, list: &[u64], n: usize)
+    requires { (n ≤ (interleaved list.now).room) × HasRoom text.old (Listing.record_lines (Nodes.nodes (interleaved list.now) n) n) }
+    ensures { Wrote text.old (Listing.record_lines (Nodes.nodes (interleaved list.now) n) n) text.new }
 {
-    let mut next = at;
-    let mut i = 0;
-    while i < n {
-        next = put_record(out, next, i, dag::node_at(list, i));
-        i += 1;
+    for i in 0..n {
+        put_record(text, i, dag::node_at(list, i));
     }
-    next
 }
 
 // Writes a word, a space, a number and the byte that ends it.
-fn put_named(out: &mut [u8], at: usize, name: &[u8], n: u64, end: End) -> usize
-    requires { at + length (Promises.named name.now n (end_byte end)) ≤ length out.old }
-    ensures { Wrote out.old at (Promises.named name.now n (end_byte end)) out.new result }
+#[tactic(auto, using(crate::specs::LineLaws::length_named))]
+fn put_named(text: &mut Text, name: &[u8], n: u64, end: End)
+    requires { HasRoom text.old (Promises.named name.now n (end_byte end)) }
+    ensures { Wrote text.old (Promises.named name.now n (end_byte end)) text.new }
 {
-    let number = text::put_word(out, at, name, End::Space);
-    text::put_number(out, number, n, end)
+    text.word(name, End::Space);
+    text.number(n, end);
 }
 
 // Writes a listing's first line.
-fn put_first(out: &mut [u8], count: usize, root: u64, rounds: usize) -> usize
-    requires { length (Listing.first_line count (root ∷ []) rounds) ≤ length out.old }
-    ensures { Wrote out.old 0 (Listing.first_line count (root ∷ []) rounds) out.new result }
+#[tactic(auto, using(crate::specs::LineLaws::length_first), unfolding(text::specs::Text::ascii))]
+fn put_first(text: &mut Text, count: usize, root: u64, rounds: usize)
+    requires { HasRoom text.old (Listing.first_line count (root ∷ []) rounds) }
+    ensures { Wrote text.old (Listing.first_line count (root ∷ []) rounds) text.new }
 {
-    let a = put_named(out, 0, b"nodes", count as u64, End::Space);
-    let b = put_named(out, a, b"root", root, End::Space);
-    put_named(out, b, b"rounds", rounds as u64, End::Newline)
+    put_named(text, b"nodes", count as u64, End::Space);
+    put_named(text, b"root", root, End::Space);
+    put_named(text, b"rounds", rounds as u64, End::Newline);
 }
 
 // Writes the listing of an answer: a first line, then a line a record. Answers its length.
+#[tactic(auto, using(crate::specs::LineLaws::length_answer))]
 fn write_listing(list: &[u64], count: usize, root: u64, rounds: usize, out: &mut [u8]) -> usize
     requires { (count ≤ (interleaved list.now).room) × (length (Promises.answer_text (interleaved list.now) count root rounds) ≤ length out.old) }
     ensures { Laid out.old (Promises.answer_text (interleaved list.now) count root rounds) out.new result }
 {
-    let lines = put_first(out, count, root, rounds);
-    let end = put_records(out, lines, list, count);
-    text::blank_text(out, end);
-    end
+    let mut text = Text::new(out);
+    put_first(&mut text, count, root, rounds);
+    put_records(&mut text, list, count);
+    text.finish()
 }
 
 // Writes the line of a refusal. Answers its length.
+#[tactic(auto, using(crate::specs::LineLaws::length_refused), unfolding(text::specs::Text::ascii))]
 fn write_refused(r: Refusal, out: &mut [u8]) -> usize
     requires { length (Listing.refused_line r) ≤ length out.old }
     ensures { Laid out.old (Listing.refused_line r) out.new result }
 {
-    let place = put_named(out, 0, b"refused", dag::number_of(r), End::Space);
-    let end = text::put_number(out, place, dag::place_of(r) as u64, End::Newline);
-    text::blank_text(out, end);
-    end
+    let mut text = Text::new(out);
+    put_named(&mut text, b"refused", dag::number_of(r), End::Space);
+    text.number(dag::place_of(r) as u64, End::Newline);
+    text.finish()
 }
 
 // Normalises a list and writes the listing of the answer, or the refusal's line. Answers its length.

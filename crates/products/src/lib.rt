@@ -7,34 +7,32 @@ ghost use Rattle.field.specs.Field.{felt, modulus_of};
 ghost use Rattle.field.specs.Numbers.{in_field};
 ghost use Rattle.products.specs.Products as Products;
 
-use field::{FieldNumber, Prime, felt};
+use field::{Prime, felt};
 
 // value · factor^count, a factor a turn.
+#[tactic(auto, using(crate::specs::Turns::power_none, crate::specs::Turns::power_more))]
 fn times_power(prime: Prime, value: u64, factor: u64, count: u64) -> u64
     requires { (value < modulus_of prime) × (factor < modulus_of prime) }
     ensures { result ≡ (felt prime).mul value (pow (felt prime) factor count) }
 {
     let mut result = value;
-    let mut left = count;
-    while 0 < left {
+    for _ in 0..count {
         result = felt::mul(prime, result, factor);
-        left -= 1;
     }
     result
 }
 
 // Products that each take the one before; 0 where an operand is not below the prime.
+#[tactic(auto, unfolding(crate::specs::Products::dependent))]
 fn dependent(prime: Prime, value: u64, factor: u64, count: u64) -> u64
     ensures { result ≡ Products.dependent prime value factor count }
 {
     let modulus = felt::modulus(prime);
-    if modulus <= value {
-        return 0;
+    if value < modulus && factor < modulus {
+        times_power(prime, value, factor, count)
+    } else {
+        0
     }
-    if modulus <= factor {
-        return 0;
-    }
-    times_power(prime, value, factor, count)
 }
 
 // Products that each take the one before, in a field by its number; 0 where there is none.
@@ -42,11 +40,7 @@ fn dependent(prime: Prime, value: u64, factor: u64, count: u64) -> u64
 pub extern "C" fn felt_dependent(field: u64, value: u64, factor: u64, count: u64) -> u64
     ensures { result ≡ in_field field 0 (λ prime. Products.dependent prime value factor count) }
 {
-    let known = field::numbered(field);
-    match known {
-        FieldNumber::Known(prime) => dependent(prime, value, factor, count),
-        FieldNumber::Unknown => 0,
-    }
+    field::numbered(field).map_or(0, |prime| dependent(prime, value, factor, count))
 }
 
 // The product of two words in field 1, of their low halves in field 2.
@@ -60,14 +54,13 @@ fn product(prime: Prime, a: u64, b: u64) -> u64
 }
 
 // Products of neighbours, added modulo 2^64.
+#[tactic(auto, using(crate::specs::Turns::sum_none, crate::specs::Turns::sum_more))]
 fn independent(prime: Prime, words: &[u64]) -> u64
     ensures { result ≡ Products.independent prime words.now (length words.now - 1) }
 {
     let mut sum: u64 = 0;
-    let mut i = 1;
-    while i < words.len() {
-        sum = std::num::wrapping_add_u64(sum, product(prime, words[i - 1], words[i]));
-        i += 1;
+    for i in 0..words.len().saturating_sub(1) {
+        sum = sum.wrapping_add(product(prime, words[i], words[i + 1]));
     }
     sum
 }
@@ -77,9 +70,5 @@ fn independent(prime: Prime, words: &[u64]) -> u64
 pub extern "C" fn felt_independent(field: u64, words: &[u64]) -> u64
     ensures { result ≡ in_field field 0 (λ prime. Products.independent prime words.now (length words.now - 1)) }
 {
-    let known = field::numbered(field);
-    match known {
-        FieldNumber::Known(prime) => independent(prime, words),
-        FieldNumber::Unknown => 0,
-    }
+    field::numbered(field).map_or(0, |prime| independent(prime, words))
 }

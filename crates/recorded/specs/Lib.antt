@@ -1,3 +1,2 @@
 pub mod Stream
 pub mod StreamLaws
-pub mod Promises

@@ -1,5 +1,6 @@
 -- A stream of 64-bit words, lowest byte first, and the stores recorded in it (rust/differential/src/record.rs).
-use Rattle.std.specs.Prelude.{ℕ, zero, suc, ◌+◌, ◌*◌, ◌/◌, Bool, true, cond, ◌&&◌, List, [], ◌∷◌, ◌++◌, leb, ltb, eqb, get_or, length}
+use Rattle.std.specs.Prelude.{ℕ, zero, suc, ◌+◌, ◌*◌, ◌/◌, ◌==◌, Bool, cond, ◌&&◌, List, leb, ltb, get_or, length, map}
+use Rattle.std.specs.List.{list_all, enumerate_from, range_with_len}
 use Rattle.recorded.specs.declared.Trio.{Trio}
 
 -- the four bytes from place i on
@@ -14,23 +15,13 @@ word s i = cond (leb (length s / 8) i) 0 (half s (8 * i) + 4294967296 * half s (
 unfoldable pub behind : List ℕ → ℕ → ℕ → ℕ
 behind s i k = cond (leb (length s) (i + k)) (length s) (i + k)
 
--- a test holds below n
-unfoldable pub every : (ℕ → Bool) → ℕ → Bool
-every test zero = true
-every test (suc n) = every test n && test n
-
 -- word i of the store recorded at a place: a filling word, the number of words given, and those words
 unfoldable pub given : List ℕ → ℕ → ℕ → ℕ
 given s at i = cond (ltb i (word s (behind s at 1))) (word s (behind s at (2 + i))) (word s at)
 
--- f 0, f 1, .., f (n − 1)
-unfoldable pub up_to : (ℕ → ℕ) → ℕ → List ℕ
-up_to f zero = []
-up_to f (suc n) = up_to f n ++ (f n ∷ [])
-
 -- the store recorded as lent at a place: its length, and then its words
 unfoldable pub stored : List ℕ → ℕ → List ℕ
-stored s at = up_to (given s (behind s at 1)) (word s at)
+stored s at = map (given s (behind s at 1)) (range_with_len 0 (word s at))
 
 -- the place behind the store recorded at a place
 unfoldable pub past_store : List ℕ → ℕ → ℕ
@@ -55,7 +46,7 @@ fit s t most = leb (word s t.a) most && leb (word s t.b) most && leb (word s t.c
 
 -- a store is what is recorded of it
 unfoldable pub holds : List ℕ → ℕ → List ℕ → Bool
-holds s at store = every (λ i. eqb (get_or store i 0) (given s at i)) (length store) && leb (word s (behind s at 1)) (length store)
+holds s at store = list_all (λ p. p.1 == given s at p.0) (enumerate_from 0 store) && leb (word s (behind s at 1)) (length store)
 
 -- three stores are what is recorded of them
 unfoldable pub hold_all : List ℕ → Trio → List ℕ → List ℕ → List ℕ → Bool
@@ -63,4 +54,4 @@ hold_all s t a b c = holds s t.a a && holds s t.b b && holds s t.c c
 
 -- words are those recorded from a place on
 unfoldable pub follows : List ℕ → ℕ → List ℕ → Bool
-follows s at words = every (λ i. eqb (get_or words i 0) (word s (behind s at i))) (length words)
+follows s at words = list_all (λ p. p.1 == word s (behind s at p.0)) (enumerate_from 0 words)

@@ -4,64 +4,44 @@
 // Past the stream's end every word is 0.
 #![tactic(auto)]
 
-ghost use Rattle.std.specs.Prelude.{◌≡◌, ◌&&◌, ◌+◌, ◌<◌, ◌≤◌, length, take};
+ghost use Rattle.std.specs.Prelude.{◌==◌, ◌≡◌, ◌&&◌, ◌+◌, ◌<◌, ◌≤◌, length};
+ghost use Rattle.std.specs.List.{list_all, enumerate_from};
 ghost use Rattle.recorded.specs.Stream as Stream;
-ghost use Rattle.recorded.specs.Promises.{IsPrefixLen};
-ghost use Rattle.recorded.specs.Promises as Promises;
-
-// The number of a byte.
-fn wide(b: u8) -> u64
-    ensures { (result ≡ b) × (result < 256) }
-{
-    b as u64
-}
-
-// The four bytes from a place as a number, lowest first.
-fn half(s: &[u8], at: usize) -> u64
-    requires { at + 4 ≤ length s.now }
-    ensures { (result ≡ Stream.half s.now at) × (result < 4294967296) }
-{
-    wide(s[at]) + 256 * wide(s[at + 1]) + 65536 * wide(s[at + 2]) + 16777216 * wide(s[at + 3])
-}
 
 // The word at a place.
+#[tactic(auto, unfolding(crate::specs::Stream::word, crate::specs::Stream::half))]
 pub fn word(s: &[u8], at: usize) -> u64
     ensures { result ≡ Stream.word s.now at }
 {
     if s.len() / 8 <= at {
         return 0;
     }
-    half(s, 8 * at) + 4294967296 * half(s, 8 * at + 4)
+    let bytes = s[8 * at..].first_chunk().unwrap();
+    u64::from_le_bytes(*bytes)
 }
 
 // The place k words behind a place, at most the stream's length.
+#[tactic(auto, using(crate::specs::StreamLaws::behind_is))]
 pub fn skip(s: &[u8], at: usize, k: u64) -> usize
     ensures { result ≡ Stream.behind s.now at k }
 {
-    let end = s.len();
-    if end <= at {
-        return end;
-    }
-    if (end - at) as u64 <= k {
-        return end;
-    }
-    at + k as usize
+    at.saturating_add(k as usize).min(s.len())
 }
 
 // The place behind k stores from a place on, each with `head` words before its filling word.
+#[tactic(auto, using(crate::specs::StreamLaws::past_more), unfolding(crate::specs::Stream::past))]
 pub fn past(s: &[u8], at: usize, head: u64, k: u64) -> usize
     ensures { result ≡ Stream.past s.now at head k }
 {
     let mut place = at;
-    let mut left = k;
-    while 0 < left {
+    for _ in 0..k {
         place = past_words(s, skip(s, place, head));
-        left -= 1;
     }
     place
 }
 
 // The place behind a filling word, the number of words given and those words.
+#[tactic(auto, unfolding(crate::specs::Stream::past_store))]
 fn past_words(s: &[u8], at: usize) -> usize
     ensures { result ≡ Stream.past_store s.now at }
 {
@@ -69,6 +49,7 @@ fn past_words(s: &[u8], at: usize) -> usize
 }
 
 // Of `count` stores from a place on, the place of store k, or one past the end where there is none.
+#[tactic(auto, unfolding(crate::specs::Stream::store_at))]
 fn place(s: &[u8], at: usize, head: u64, k: u64, count: u64) -> usize
     ensures { result ≡ Stream.store_at s.now at head k count }
 {
@@ -95,6 +76,7 @@ pub struct Trio {
 }
 
 // The places of three stores of `count` from a place on.
+#[tactic(auto, unfolding(crate::specs::Stream::places))]
 pub fn places(s: &[u8], at: usize, head: u64, count: u64) -> Trio
     ensures { result ≡ Stream.places s.now at head count }
 {
@@ -106,111 +88,96 @@ pub fn places(s: &[u8], at: usize, head: u64, count: u64) -> Trio
 }
 
 // Whether the stores lent at three places have at most so many words.
+#[tactic(auto, unfolding(crate::specs::Stream::fit))]
 pub fn fit(s: &[u8], t: Trio, most: u64) -> bool
     ensures { result ≡ Stream.fit s.now t most }
 {
-    all(
-        word(s, t.a) <= most,
-        word(s, t.b) <= most,
-        word(s, t.c) <= most,
-    )
+    word(s, t.a) <= most && word(s, t.b) <= most && word(s, t.c) <= most
 }
 
-// The length of the store lent at a place.
-pub fn length_of(s: &[u8], at: usize, room: &[u64]) -> usize
-    requires { Stream.word s.now at ≤ length room.now }
-    ensures { IsPrefixLen result room.now × (length (take result room.now) ≡ Stream.word s.now at) }
-{
-    word(s, at) as usize
-}
-
-// Word i of a store: the word recorded at `from`, or its filling word where none is.
-fn recorded(s: &[u8], at: usize, from: usize, i: u64) -> u64
-    requires { «from» ≡ Stream.behind s.now at (2 + i) }
+// Word i of a store: the one recorded, or its filling word where none is.
+#[tactic(auto, unfolding(crate::specs::Stream::given), using(crate::specs::StreamLaws::behind_twice))]
+fn recorded(s: &[u8], at: usize, i: u64) -> u64
     ensures { result ≡ Stream.given s.now at i }
 {
     if i < number(s, at, 1) {
-        word(s, from)
+        number(s, skip(s, at, 2), i)
     } else {
         word(s, at)
     }
 }
 
 // Lays a recorded store into this one.
+#[tactic(auto, unfolding(crate::specs::Stream::stored))]
 fn lay(s: &[u8], at: usize, store: &mut [u64])
     requires { length store.old ≡ Stream.word s.now at }
     ensures { store.new ≡ Stream.stored s.now at }
 {
     let packed = skip(s, at, 1);
-    let mut from = skip(s, packed, 2);
-    let mut i = 0;
-    while i < store.len() {
-        let value = recorded(s, packed, from, i as u64);
-        store[i] = value;
-        from = skip(s, from, 1);
-        i += 1;
+    for (i, word) in store.iter_mut().enumerate() {
+        *word = recorded(s, packed, i as u64);
     }
+}
+
+// The store that is lent at a place, in the front of an array.
+pub fn laid<'a>(s: &[u8], at: usize, array: &'a mut [u64]) -> &'a mut [u64]
+    requires { Stream.word s.now at ≤ length array.old }
+    ensures { result.now ≡ Stream.stored s.now at }
+{
+    let store = &mut array[..word(s, at) as usize];
+    lay(s, at, store);
+    store
+}
+
+// Whether each word of a store is the one recorded of it.
+fn same_words(s: &[u8], at: usize, store: &[u64]) -> bool
+    ensures { result ≡ list_all (λ p. p.1 == Stream.given s.now at p.0) (enumerate_from 0 store.now) }
+{
+    store
+        .iter()
+        .enumerate()
+        .all(|(i, word)| *word == recorded(s, at, i as u64))
 }
 
 // Whether a store holds what is recorded of it.
+#[tactic(auto, unfolding(crate::specs::Stream::holds))]
 fn holds(s: &[u8], at: usize, store: &[u64]) -> bool
     ensures { result ≡ Stream.holds s.now at store.now }
 {
-    let mut from = skip(s, at, 2);
-    let mut i = 0;
-    while i < store.len() {
-        if store[i] != recorded(s, at, from, i as u64) {
-            return false;
-        }
-        from = skip(s, from, 1);
-        i += 1;
-    }
-    number(s, at, 1) <= i as u64
+    same_words(s, at, store) && number(s, at, 1) <= store.len() as u64
 }
 
-// Whether both hold.
-pub fn both(a: bool, b: bool) -> bool
-    ensures { result ≡ (a && b) }
-{
-    if a { b } else { false }
+// The stores that a call reads; one that it has no use for is empty.
+#[derive(Clone, Copy)]
+pub struct Reads<'a> {
+    pub a: &'a [u64],
+    pub b: &'a [u64],
+    pub c: &'a [u64],
 }
 
-// Whether all three hold.
-fn all(a: bool, b: bool, c: bool) -> bool
-    ensures { result ≡ (a && b && c) }
-{
-    both(both(a, b), c)
+// The stores that a call writes; one that it has no use for is empty.
+#[derive(Drop)]
+pub struct Writes<'a> {
+    pub a: &'a mut [u64],
+    pub b: &'a mut [u64],
+    pub c: &'a mut [u64],
 }
 
-// Lays the stores recorded at three places into these.
-pub fn lay_all(s: &[u8], t: Trio, a: &mut [u64], b: &mut [u64], c: &mut [u64])
-    requires { Promises.Long s.now t a.old b.old c.old }
-    ensures { Promises.Laid s.now t a.new b.new c.new }
+// Whether written stores hold what is recorded of them at three places.
+#[tactic(auto, unfolding(crate::specs::Stream::hold_all))]
+pub fn hold_all(s: &[u8], t: Trio, written: &Writes) -> bool
+    ensures { result ≡ Stream.hold_all s.now t written.now.a.now written.now.b.now written.now.c.now }
 {
-    lay(s, t.a, a);
-    lay(s, t.b, b);
-    lay(s, t.c, c);
-}
-
-// Whether these hold what is recorded of the stores at three places.
-pub fn hold_all(s: &[u8], t: Trio, a: &[u64], b: &[u64], c: &[u64]) -> bool
-    ensures { result ≡ Stream.hold_all s.now t a.now b.now c.now }
-{
-    all(holds(s, t.a, a), holds(s, t.b, b), holds(s, t.c, c))
+    holds(s, t.a, written.a) && holds(s, t.b, written.b) && holds(s, t.c, written.c)
 }
 
 // Whether words are those recorded from a place on.
+#[tactic(auto, unfolding(crate::specs::Stream::follows))]
 pub fn follow(s: &[u8], at: usize, words: &[u64]) -> bool
     ensures { result ≡ Stream.follows s.now at words.now }
 {
-    let mut from = skip(s, at, 0);
-    let mut i = 0;
-    while i < words.len() {
-        if words[i] != word(s, from) {
-            return false;
-        }
-        from = skip(s, from, 1);
-        i += 1;
-    }
-    true
+    words
+        .iter()
+        .enumerate()
+        .all(|(i, word)| *word == number(s, at, i as u64))
 }

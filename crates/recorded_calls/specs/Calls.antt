@@ -1,5 +1,5 @@
 -- The calls of a recorded case: how many numbers and stores each takes, and what it comes to on them.
-use Rattle.std.specs.Prelude.{ℕ, List}
+use Rattle.std.specs.Prelude.{ℕ, List, codes}
 use Rattle.ace.specs.Calls as Ace
 use Rattle.recorded.specs.Stream.{word, behind}
 use Rattle.recorded_calls.specs.declared.Call.{Call}
@@ -17,6 +17,16 @@ shape_of Call.Normalize = shape 3 1 2 4
 shape_of Call.Evaluate = shape 4 2 0 4
 shape_of Call.Prepare = shape 1 2 0 18
 shape_of Call.Lower = shape 3 3 3 4
+
+-- a call's name
+abbrev pub name : Call → List ℕ
+name Call.Step = codes "step"
+name Call.Build = codes "build"
+name Call.Compact = codes "compact"
+name Call.Normalize = codes "normalize"
+name Call.Evaluate = codes "evaluate"
+name Call.Prepare = codes "prepare"
+name Call.Lower = codes "lower"
 
 -- number k of the case at a place
 abbrev pub number : List ℕ → ℕ → ℕ → ℕ

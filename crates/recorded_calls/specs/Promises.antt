@@ -1,12 +1,23 @@
 -- What a call on lent stores says of its answer and of them.
 use Rattle.std.specs.Prelude.{ℕ, Bool, List, ◌≡◌}
 use Rattle.recorded.specs.Stream.{follows}
-use Rattle.recorded_calls.specs.Calls.{Stores, number, outcome}
+use Rattle.recorded.specs.declared.Reads.{Reads}
+use Rattle.recorded.specs.declared.Writes.{Writes}
+use Rattle.recorded_calls.specs.Calls.{Stores, stores, number, Outcome, outcome}
 use Rattle.recorded_calls.specs.declared.Call.{Call}
 
--- the case at a place, in the stores r that its call reads and w that it writes: whether the answer recorded at `said` is the call's; x to z are the written stores after it
-pub record Asked (call : Call) (s : List ℕ) (at said : ℕ) (r w : Stores) (same : Bool) (x y z : List ℕ) : Type 0 where
-  pub told : same ≡ follows s said (outcome call (number s at) r w).words
-  pub first : x ≡ (outcome call (number s at) r w).after.a
-  pub second : y ≡ (outcome call (number s at) r w).after.b
-  pub third : z ≡ (outcome call (number s at) r w).after.c
+-- what lent stores hold
+abbrev pub read : Reads → Stores
+read r = stores r.a.now r.b.now r.c.now
+
+abbrev pub written : Writes → Stores
+written w = stores w.a.now w.b.now w.c.now
+
+-- what a call comes to in the case at a place
+abbrev pub case_outcome : Call → List ℕ → ℕ → Reads → Writes → Outcome
+case_outcome call s at r w = outcome call (number s at) (read r) (written w)
+
+-- the case at a place, in the stores r that its call reads and w that it writes, which are u after it: whether the answer recorded at `said` is the call's
+pub record Asked (call : Call) (s : List ℕ) (at said : ℕ) (r : Reads) (w : Writes) (same : Bool) (u : Writes) : Type 0 where
+  pub told : same ≡ follows s said (case_outcome call s at r w).words
+  pub after : written u ≡ (case_outcome call s at r w).after

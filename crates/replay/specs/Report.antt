@@ -2,18 +2,8 @@
 use Rattle.std.specs.Prelude.{ℕ, zero, suc, cond, List, [], ◌∷◌, ◌++◌, codes}
 use Rattle.std.specs.Fmt.{decimal}
 use Rattle.recorded_calls.specs.declared.Call.{Call}
-use Rattle.recorded_calls.specs.declared.Call.TheVariants.{Step, Build, Compact, Normalize, Evaluate, Prepare, Lower}
+use Rattle.recorded_calls.specs.Calls.{name}
 use Rattle.replay.specs.Cases.{same, place_of, matched}
-
--- a call's name
-abbrev pub name : Call → List ℕ
-name Step = codes "step"
-name Build = codes "build"
-name Compact = codes "compact"
-name Normalize = codes "normalize"
-name Evaluate = codes "evaluate"
-name Prepare = codes "prepare"
-name Lower = codes "lower"
 
 -- the line of case i
 abbrev pub case_line : ℕ → List ℕ

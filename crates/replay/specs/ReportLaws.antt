@@ -1,5 +1,5 @@
 -- The lines that the program writes: those of a case more, and none where all match.
-use Rattle.std.specs.Prelude.{ℕ, zero, suc, ◌+◌, ◌≤◌, Bool, true, false, not, cond, List, [], ◌++◌, ◌≡◌, refl}
+use Rattle.std.specs.Prelude.{ℕ, zero, suc, ◌+◌, ◌≤◌, Bool, true, false, cond, List, [], ◌++◌, ◌≡◌, refl}
 use Rattle.std.specs.Io.KnownBytes.{Appends}
 use Rattle.std.specs.declared.option.Option.{Option}
 use Rattle.std.proofs.Common.{◌∙◌, add-one, arith, sym, subst}
@@ -16,13 +16,11 @@ module _ (call : Call) (s : List ℕ) where
 
   -- a writer of the first i cases' lines has those of one more
   module _ (i at : ℕ) (a b : Option (List ℕ)) (e : at ≡ place_of call s i) (h : Appends a b (differing call s i)) where
-    pub differs : (t : Bool) → t ≡ same call s at → not t ≡ true → (c : Option (List ℕ)) → Appends b c (case_line i) → Appends a c (differing call s (i + 1))
-    differs true f g c k = absurd (cc g)
-    differs false f g c k = subst (Appends a c) (sym (differing_next i at false e f)) (Appends-trans a b c _ _ h k)
+    pub differs : false ≡ same call s at → (c : Option (List ℕ)) → Appends b c (case_line i) → Appends a c (differing call s (i + 1))
+    differs f c k = subst (Appends a c) (sym (differing_next i at false e f)) (Appends-trans a b c _ _ h k)
 
-    pub matches : (t : Bool) → t ≡ same call s at → not t ≡ false → Appends a b (differing call s (i + 1))
-    matches true f g = subst (Appends a b) (sym (differing_next i at true e f ∙ append-nil _)) h
-    matches false f g = absurd (cc g)
+    pub matches : true ≡ same call s at → Appends a b (differing call s (i + 1))
+    matches f = subst (Appends a b) (sym (differing_next i at true e f ∙ append-nil _)) h
 
   matched_most : (n : ℕ) → matched call s n ≤ n
   unfolding matched

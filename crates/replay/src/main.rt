@@ -2,16 +2,20 @@
 // A section for each call: the call's number, the number of cases, the number of their words, and those words.
 #![tactic(auto)]
 
-ghost use Rattle.std.specs.Prelude.{cond, true, ◌≡◌, ◌≤◌, OnOk};
+ghost use Rattle.std.specs.Prelude.{◌≡◌, OnOk};
 ghost use Rattle.std.specs.Io.KnownBytes.{Appends};
-ghost use Rattle.recorded.specs.Promises.{Laid, Long};
+ghost use Rattle.recorded_calls.specs.Promises as Promises;
 ghost use Rattle.replay.specs.Cases as Cases;
 ghost use Rattle.replay.specs.Report as Report;
 
-use recorded::{Trio, both, fit, hold_all, lay_all, length_of, past, places, skip, word};
-use recorded_calls::{Call, ask, shape_of};
+use recorded::{Reads, Trio, Writes, fit, hold_all, laid, past, places, skip, word};
+use recorded_calls::Call;
 use std::io;
 use std::io::{Read, Write};
+
+// The words of an array that a case's read stores are laid in, and of one for its written stores.
+const READ: usize = 4096;
+const WRITTEN: usize = 12352;
 
 // Where the parts of a case are: the stores that its call reads, those that it writes, the answer, the written stores
 // after the call, and the next case.
@@ -24,25 +28,12 @@ struct Parts {
     next: usize,
 }
 
-// Whether a case is answered as recorded, and the place behind it.
-#[derive(Clone, Copy)]
-struct Case {
-    same: bool,
-    next: usize,
-}
-
-// The call of a section, or none.
-#[derive(Clone, Copy)]
-enum Named {
-    Call(Call),
-    Nothing,
-}
-
 // The parts of the case at a place.
+#[tactic(auto, unfolding(crate::specs::Cases::parts_of))]
 fn parts_of(call: Call, s: &[u8], at: usize) -> Parts
     ensures { result ≡ Cases.parts_of call s.now at }
 {
-    let h = shape_of(call);
+    let h = call.shape();
     let read = skip(s, at, h.numbers);
     let written = past(s, read, 1, h.read);
     let said = past(s, written, 1, h.written);
@@ -56,160 +47,110 @@ fn parts_of(call: Call, s: &[u8], at: usize) -> Parts
     }
 }
 
-// Whether a case has room in the arrays that it is lent from.
-fn has_room(s: &[u8], p: Parts) -> bool
-    ensures { result ≡ Cases.room s.now p }
-{
-    let reads = fit(s, p.read, 4096);
-    let writes = fit(s, p.written, 12352);
-    both(reads, writes)
-}
-
-// Whether a case is answered as recorded, with the stores a to c laid, in x to z.
-fn replay(
+// A call's case at a place of a stream, and where its parts are.
+#[derive(Clone, Copy)]
+struct Case<'a> {
     call: Call,
-    s: &[u8],
+    stream: &'a [u8],
     at: usize,
-    p: Parts,
-    a: &[u64],
-    b: &[u64],
-    c: &[u64],
-    x: &mut [u64],
-    y: &mut [u64],
-    z: &mut [u64],
-) -> bool
-    requires { Laid s.now p.read a.now b.now c.now × Long s.now p.written x.old y.old z.old }
-    ensures { result ≡ Cases.answered call s.now at p }
-{
-    lay_all(s, p.written, x, y, z);
-    let told = ask(call, s, at, p.said, a, b, c, x, y, z);
-    let held = hold_all(s, p.held, x, y, z);
-    both(told, held)
+    parts: Parts,
+    ghost parted: { parts ≡ Cases.parts_of call stream.now at },
 }
 
-// Lends the stores that the call writes.
-fn with_written(call: Call, s: &[u8], at: usize, p: Parts, a: &[u64], b: &[u64], c: &[u64]) -> bool
-    requires { Laid s.now p.read a.now b.now c.now × (Cases.room s.now p ≡ true) }
-    ensures { result ≡ Cases.answered call s.now at p }
-{
-    let mut x = [0u64; 12352];
-    let mut y = [0u64; 12352];
-    let mut z = [0u64; 12352];
-    let i = length_of(s, p.written.a, &x);
-    let j = length_of(s, p.written.b, &y);
-    let k = length_of(s, p.written.c, &z);
-    replay(
-        call,
-        s,
-        at,
-        p,
-        a,
-        b,
-        c,
-        &mut x[..i],
-        &mut y[..j],
-        &mut z[..k],
-    )
-}
-
-// Lays the stores that the call reads into a to c.
-fn with_read(
-    call: Call,
-    s: &[u8],
-    at: usize,
-    p: Parts,
-    a: &mut [u64],
-    b: &mut [u64],
-    c: &mut [u64],
-) -> bool
-    requires { Long s.now p.read a.old b.old c.old × (Cases.room s.now p ≡ true) }
-    ensures { result ≡ Cases.answered call s.now at p }
-{
-    lay_all(s, p.read, a, b, c);
-    with_written(call, s, at, p, a, b, c)
-}
-
-// Lends the stores that the call reads.
-fn with_stores(call: Call, s: &[u8], at: usize, p: Parts) -> bool
-    requires { Cases.room s.now p ≡ true }
-    ensures { result ≡ Cases.answered call s.now at p }
-{
-    let mut a = [0u64; 4096];
-    let mut b = [0u64; 4096];
-    let mut c = [0u64; 4096];
-    let i = length_of(s, p.read.a, &a);
-    let j = length_of(s, p.read.b, &b);
-    let k = length_of(s, p.read.c, &c);
-    with_read(call, s, at, p, &mut a[..i], &mut b[..j], &mut c[..k])
-}
-
-// The case at a place.
-fn case_at(call: Call, s: &[u8], at: usize) -> Case
-    ensures { (result.same ≡ Cases.same call s.now at) × (result.next ≡ (Cases.parts_of call s.now at).next) }
-{
-    let p = parts_of(call, s, at);
-    if has_room(s, p) {
+impl<'a> Case<'a> {
+    // The case at a place.
+    fn new(call: Call, stream: &'a [u8], at: usize) -> Case<'a>
+        ensures call { result.call ≡ call }
+        ensures stream { result.stream.now ≡ stream.now }
+        ensures at { result.at ≡ at }
+    {
+        let parts = parts_of(call, stream, at);
         Case {
-            same: with_stores(call, s, at, p),
-            next: p.next,
-        }
-    } else {
-        Case {
-            same: false,
-            next: p.next,
+            call,
+            stream,
+            at,
+            parts,
         }
     }
-}
 
-// 1 where a case is answered as recorded, and else 0.
-fn score(same: bool) -> u64
-    ensures { (result ≡ cond same 1 0) × (result ≤ 1) }
-{
-    if same { 1 } else { 0 }
+    // Whether the case has room in the arrays that it is lent from.
+    #[tactic(auto, unfolding(crate::specs::Cases::room))]
+    fn has_room(self) -> bool
+        ensures { result ≡ Cases.room self.entry.stream.now self.entry.parts }
+    {
+        fit(self.stream, self.parts.read, READ as u64)
+            && fit(self.stream, self.parts.written, WRITTEN as u64)
+    }
+
+    // Whether the case is answered as recorded, with the stores that its call reads laid.
+    fn answered_with(self, read: Reads) -> bool
+        requires laid { Promises.read read ≡ Cases.laid self.stream.now self.parts.read }
+        requires room { Cases.HasRoom self.stream.now self.parts }
+        ensures { result ≡ Cases.answered self.entry.call self.entry.stream.now self.entry.at self.entry.parts }
+    {
+        let Case { call, stream: s, at, parts } = self;
+        let mut a = [0; WRITTEN];
+        let mut b = [0; WRITTEN];
+        let mut c = [0; WRITTEN];
+        let mut written = Writes {
+            a: laid(s, parts.written.a, &mut a),
+            b: laid(s, parts.written.b, &mut b),
+            c: laid(s, parts.written.c, &mut c),
+        };
+        call.ask(s, at, parts.said, read, &mut written) && hold_all(s, parts.held, &written)
+    }
+
+    // Whether the case is answered as recorded.
+    fn answered(self) -> bool
+        requires { Cases.HasRoom self.stream.now self.parts }
+        ensures { result ≡ Cases.answered self.entry.call self.entry.stream.now self.entry.at self.entry.parts }
+    {
+        let Case { stream: s, parts, .. } = self;
+        let mut a = [0; READ];
+        let mut b = [0; READ];
+        let mut c = [0; READ];
+        let read = Reads {
+            a: laid(s, parts.read.a, &mut a),
+            b: laid(s, parts.read.b, &mut b),
+            c: laid(s, parts.read.c, &mut c),
+        };
+        self.answered_with(read)
+    }
+
+    // Whether the case has room and is answered as recorded.
+    #[tactic(auto, unfolding(crate::specs::Cases::same))]
+    fn same(self) -> bool
+        ensures { result ≡ Cases.same self.entry.call self.entry.stream.now self.entry.at }
+    {
+        self.has_room() && self.answered()
+    }
 }
 
 // How many of a call's first cases are answered as recorded.
 fn compare(call: Call, s: &[u8], cases: u64) -> u64
     ensures { result ≡ Cases.matched call s.now cases }
 {
-    let mut matched: u64 = 0;
+    let mut matched = 0;
     let mut at = 0;
-    let mut i: u64 = 0;
-    while i < cases {
-        let case = case_at(call, s, at);
-        matched += score(case.same);
-        at = case.next;
-        i += 1;
+    for _ in 0..cases {
+        let case = Case::new(call, s, at);
+        matched += u64::from(case.same());
+        at = case.parts.next;
     }
     matched
 }
 
 // The call of a number.
-fn call_of(number: u64) -> Named {
+fn call_of(number: u64) -> Option<Call> {
     match number {
-        1 => Named::Call(Call::Step),
-        2 => Named::Call(Call::Build),
-        3 => Named::Call(Call::Compact),
-        4 => Named::Call(Call::Normalize),
-        5 => Named::Call(Call::Evaluate),
-        6 => Named::Call(Call::Prepare),
-        7 => Named::Call(Call::Lower),
-        _ => Named::Nothing,
-    }
-}
-
-// A call's name.
-fn name_of(call: Call) -> &'static str
-    ensures { result.now ≡ Report.name call }
-{
-    match call {
-        Call::Step => "step",
-        Call::Build => "build",
-        Call::Compact => "compact",
-        Call::Normalize => "normalize",
-        Call::Evaluate => "evaluate",
-        Call::Prepare => "prepare",
-        Call::Lower => "lower",
+        1 => Some(Call::Step),
+        2 => Some(Call::Build),
+        3 => Some(Call::Compact),
+        4 => Some(Call::Normalize),
+        5 => Some(Call::Evaluate),
+        6 => Some(Call::Prepare),
+        7 => Some(Call::Lower),
+        _ => None,
     }
 }
 
@@ -219,11 +160,11 @@ fn tell<W: Write>(output: &mut W, call: Call, s: &[u8], cases: u64) -> io::Resul
 {
     let mut at = 0;
     for i in 0..cases {
-        let case = case_at(call, s, at);
-        if !case.same {
+        let case = Case::new(call, s, at);
+        if !case.same() {
             writeln!(output, "case {i} differs")?;
         }
-        at = case.next;
+        at = case.parts.next;
     }
     Ok(())
 }
@@ -239,10 +180,9 @@ fn report<W: Write>(
     requires { matched ≡ Cases.matched call s.now cases }
     ensures { OnOk result (Appends (W.contents output.old) (W.contents output.new) (Report.matching call s.now cases)) }
 {
-    let name = name_of(call);
     writeln!(
         output,
-        "{name}: {matched} of {cases} recorded answers match"
+        "{call}: {matched} of {cases} recorded answers match"
     )
 }
 
@@ -277,8 +217,7 @@ fn section<R: Read, W: Write>(
 ) -> io::Result<bool> {
     let mut head = [0u8; 24];
     streams::read_full(input, &mut head)?;
-    let found = call_of(word(&head, 0));
-    let Named::Call(call) = found else {
+    let Some(call) = call_of(word(&head, 0)) else {
         return Ok(false);
     };
     let words = word(&head, 2);

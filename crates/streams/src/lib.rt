@@ -1,8 +1,8 @@
 // Readers read to the end of their input, or as far as a lent buffer holds.
 #![tactic(auto)]
 
-ghost use Rattle.std.specs.Prelude.{◌≡◌, ◌<◌, ◌≤◌, IfOk, IfSome, length, take};
-ghost use Rattle.std.specs.Io.KnownBytes.{Consumes, IsAtEnd};
+ghost use Rattle.std.specs.Prelude.{◌≡◌, ◌≤◌, IfOk, IfSome, length, take};
+ghost use Rattle.std.specs.Io.KnownBytes.{Consumes};
 
 use std::io;
 use std::io::Read;
@@ -15,21 +15,10 @@ pub fn read_full<R: Read>(reader: &mut R, buffer: &mut [u8]) -> io::Result<usize
 {
     let mut done = 0;
     while done < buffer.len() {
-        let got = read_some(reader, &mut buffer[done..])?;
-        if got == 0 {
-            return Ok(done);
+        match reader.read(&mut buffer[done..])? {
+            0 => break,
+            got => done += got,
         }
-        done += got;
     }
     Ok(done)
-}
-
-// One read. Only at the end of the input does it read nothing into a buffer with room.
-fn read_some<R: Read>(reader: &mut R, buffer: &mut [u8]) -> io::Result<usize>
-    ensures within { IfOk result (λ n. n ≤ length buffer.new) }
-    ensures bytes { IfOk result (λ n. Consumes (R.remaining reader.old) (R.remaining reader.new) (take n buffer.new)) }
-    ensures end { IfOk result (λ n. n ≡ 0 → 0 < length buffer.new → IsAtEnd (R.remaining reader.new)) }
-{
-    let n = reader.read(buffer)?;
-    Ok(n)
 }

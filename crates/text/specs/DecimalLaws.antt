@@ -26,9 +26,9 @@ digits_fuel (suc f) (suc g) n h k = go (dec_le 10 n) (digits_fuel f g (n / 10))
     go (yes l) tenth = digits_more f n l ∙ (ap (λ t. t ++ ((48 + n % 10) ∷ [])) (tenth (omega arith) (omega arith)) ∙ sym (digits_more g n l))
     go (no l) tenth = digits_one f n (omega arith) ∙ sym (digits_one g n (omega arith))
 
-pub decimal_one : (n : ℕ) → n < 10 → (48 + n) ∷ [] ≡ decimal n
+pub decimal_one : (n : ℕ) → n < 10 → (48 + n % 10) ∷ [] ≡ decimal n
 unfolding decimal
-decimal_one n h = sym (digits_one n n h)
+decimal_one n h = let e : n % 10 ≡ n = omega arith in rw e (sym (digits_one n n h))
 
 pub decimal_more : (n : ℕ) → 10 ≤ n → decimal (n / 10) ++ ((48 + n % 10) ∷ []) ≡ decimal n
 unfolding decimal

@@ -3,7 +3,6 @@
 
 ghost use Rattle.std.specs.Prelude.{◌≡◌, [], ◌∷◌, ◌++◌, ◌+◌, ◌-◌, ◌<◌, ◌≤◌, length, take, replicate};
 ghost use Rattle.text.specs.Text.{decimal, end_byte, ended};
-ghost use Rattle.text.specs.Promises.{Wrote};
 
 // What ends a word: a space before the next one, or the line's newline.
 #[derive(Clone, Copy)]
@@ -12,92 +11,95 @@ pub enum End {
     Newline,
 }
 
-// The byte that ends a word.
-fn end_byte(end: End) -> u8
-    ensures { result ≡ end_byte end }
-{
-    match end {
-        End::Space => b' ',
-        End::Newline => b'\n',
+impl From<End> for u8 {
+    ghost from_gives = { λ end byte. byte ≡ end_byte end };
+
+    fn from(end: End) -> u8 {
+        match end {
+            End::Space => b' ',
+            End::Newline => b'\n',
+        }
     }
 }
 
-// Writes a byte at a place, and answers the place behind it.
-fn put_byte(out: &mut [u8], at: usize, byte: u8) -> usize
-    requires { at < length out.old }
-    ensures { Wrote out.old at (byte ∷ []) out.new result }
-{
-    out[at] = byte;
-    at + 1
+// A text that is written into a lent store, piece behind piece.
+#[derive(Drop)]
+pub struct Text<'a> {
+    store: &'a mut [u8],
+    len: usize,
+    ghost within: { len ≤ length store.now },
 }
 
-// Writes the byte that ends a word, and answers the place behind it.
-fn put_end(out: &mut [u8], at: usize, end: End) -> usize
-    requires { at < length out.old }
-    ensures { Wrote out.old at (end_byte end ∷ []) out.new result }
-{
-    put_byte(out, at, end_byte(end))
-}
+impl<'a> Text<'a> {
+    ghost use Rattle.text.specs.Promises.{HasRoom, Wrote};
 
-// Writes bytes from a place on, and answers the place behind them.
-fn put_bytes(out: &mut [u8], at: usize, bytes: &[u8]) -> usize
-    requires { at + length bytes.now ≤ length out.old }
-    ensures { Wrote out.old at bytes.now out.new result }
-{
-    let mut i = 0;
-    while i < bytes.len() {
-        out[at + i] = bytes[i];
-        i += 1;
+    // An empty text at the front of a store.
+    pub fn new(store: &'a mut [u8]) -> Text<'a>
+        ensures same_reference { result.store.ghost_name ≡ store.entry.ghost_name }
+        ensures held { result.store.now ≡ store.old }
+        ensures empty { result.len ≡ 0 }
+    {
+        Text { store, len: 0 }
     }
-    at + i
-}
 
-// The byte of a digit.
-fn digit(d: u64) -> u8
-    requires { d < 10 }
-    ensures { result ≡ 48 + d }
-{
-    48 + d as u8
-}
-
-// Writes a number in decimal from a place on, and answers the place behind it.
-fn put_decimal(out: &mut [u8], at: usize, n: u64) -> usize
-    requires { at + length (decimal n) ≤ length out.old }
-    ensures { Wrote out.old at (decimal n) out.new result }
-{
-    if n < 10 {
-        return put_byte(out, at, digit(n));
+    // Writes a byte.
+    fn byte(&mut self, byte: u8)
+        requires { HasRoom self.old (byte ∷ []) }
+        ensures { Wrote self.old (byte ∷ []) self.new }
+    {
+        self.store[self.len] = byte;
+        self.len += 1;
     }
-    let next = put_decimal(out, at, n / 10);
-    put_byte(out, next, digit(n % 10))
-}
 
-// Writes a word and the byte that ends it.
-pub fn put_word(out: &mut [u8], at: usize, word: &[u8], end: End) -> usize
-    requires { at + length (ended word.now (end_byte end)) ≤ length out.old }
-    ensures { Wrote out.old at (ended word.now (end_byte end)) out.new result }
-{
-    let next = put_bytes(out, at, word);
-    put_end(out, next, end)
-}
+    // Writes bytes.
+    fn bytes(&mut self, bytes: &[u8])
+        requires { HasRoom self.old bytes.now }
+        ensures { Wrote self.old bytes.now self.new }
+    {
+        let end = self.len + bytes.len();
+        let store = &mut *self.store;
+        store[self.len..end].copy_from_slice(bytes);
+        self.len = end;
+    }
 
-// Writes a number in decimal and the byte that ends it.
-pub fn put_number(out: &mut [u8], at: usize, n: u64, end: End) -> usize
-    requires { at + length (ended (decimal n) (end_byte end)) ≤ length out.old }
-    ensures { Wrote out.old at (ended (decimal n) (end_byte end)) out.new result }
-{
-    let next = put_decimal(out, at, n);
-    put_end(out, next, end)
-}
+    // Writes a number in decimal.
+    fn decimal(&mut self, n: u64)
+        requires { HasRoom self.old (decimal n) }
+        ensures { Wrote self.old (decimal n) self.new }
+    {
+        if 10 <= n {
+            self.decimal(n / 10);
+        }
+        self.byte(b'0' + (n % 10) as u8);
+    }
 
-// Fills a text store with 0 bytes from a place on.
-pub fn blank_text(out: &mut [u8], from: usize)
-    requires { from ≤ length out.old }
-    ensures { out.new ≡ take from out.old ++ replicate (length out.old - from) 0 }
-{
-    let mut i = from;
-    while i < out.len() {
-        out[i] = 0;
-        i += 1;
+    // Writes a word and the byte that ends it.
+    #[tactic(auto, using(crate::specs::WritingLaws::length_ended))]
+    pub fn word(&mut self, word: &[u8], end: End)
+        requires { HasRoom self.old (ended word.now (end_byte end)) }
+        ensures { Wrote self.old (ended word.now (end_byte end)) self.new }
+    {
+        self.bytes(word);
+        self.byte(u8::from(end));
+    }
+
+    // Writes a number in decimal and the byte that ends it.
+    #[tactic(auto, using(crate::specs::WritingLaws::length_ended))]
+    pub fn number(&mut self, n: u64, end: End)
+        requires { HasRoom self.old (ended (decimal n) (end_byte end)) }
+        ensures { Wrote self.old (ended (decimal n) (end_byte end)) self.new }
+    {
+        self.decimal(n);
+        self.byte(u8::from(end));
+    }
+
+    // Fills the rest of the store with 0 bytes, and answers the text's length.
+    pub fn finish(self) -> usize
+        ensures length { result ≡ self.entry.len }
+        ensures blank { self.exit.0.now ≡ take self.entry.len self.entry.store.now ++ replicate (length self.entry.store.now - self.entry.len) 0 }
+    {
+        let Text { store, len } = self;
+        store[len..].fill(0);
+        len
     }
 }

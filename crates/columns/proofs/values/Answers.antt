@@ -1,21 +1,27 @@
-use mathlib.Core.Path.{refl, ◌∙◌}
-use native.Mathlib.Omega.{arith}
+use Rattle.std.proofs.Common.{◌≡◌, sym, ◌∙◌, ap, get_or, eqb, arith, rules}
+use Rattle.std.specs.List.{list_any}
 use Rattle.columns.specs.Columns as Columns
-use Rattle.columns.specs.ClassLaws.{values_next, values_end}
+use Rattle.columns.specs.ClassLaws.{values_next, values_end, new_none, new_one}
 use Rattle.columns.proofs.values.Goals as goal
+use Rattle.columns.proofs.values.Goals.{then-not-contains, else-not-contains}
 
-pub loop-i-init : goal.loop-i-init
+pub loop-v-init : goal.loop-v-init
 unfolding Columns.values
-loop-i-init c = (omega arith, omega arith, refl, refl)
+loop-v-init c = search rules
 
-pub loop-i-preserved : goal.loop-i-preserved
-loop-i-preserved c = (
-  omega arith,
-  omega arith,
-  c.with_new-n.auto.store ∙ c.loop-i.invariant.2,
-  values_next _ _ _ _ _ c.loop-i-test.true
-      c.with_new-n.ensures.0 c.loop-i.invariant.3,
-)
+pub loop-v-preserved : goal.loop-v-preserved
+loop-v-preserved c =
+    let among : c.contains.result ≡ list_any (λ x. eqb x (get_or c.args.col.now c.loop-v.v-index 0)) c.loop-v.values.items = c.contains.ensures.value ∙ ap (list_any (λ x. eqb x (get_or c.args.col.now c.loop-v.v-index 0))) c.deref.ensures.0 in
+    elim c.if-not-contains.branch [
+      | then-not-contains w ↦ (
+        rw w.values-is (omega arith),
+        values_next _ _ _ _ _ c.loop-v-test.true (rw w.values-is (w.push.ensures.items ∙ new_one _ _ (sym among ∙ w.if-not-contains.true))) c.loop-v.invariant.1,
+      )
+      | else-not-contains w ↦ (
+        rw w.values-is (omega arith),
+        values_next _ _ _ _ _ c.loop-v-test.true (rw w.values-is (new_none _ _ (sym among ∙ w.if-not-contains.false))) c.loop-v.invariant.1,
+      )
+    ]
 
 pub returns : goal.returns
-returns c = (values_end _ _ _ _ c.loop-i-test.false c.loop-i.invariant.3, omega arith)
+returns c = values_end _ _ _ _ c.loop-v-test.false c.loop-v.invariant.1

@@ -16,4 +16,4 @@ written (Some s) old new front k e h = subst (λ l. Appends old new (report_of l
 pub returns : goal.returns
 returns g c =
     let e : length c.read_full.new.buffer ≡ 65536 = search rules in
-    on_ok_weaker _ (written _ _ _ _ 65536 (rw e at c.in_ok-n.ensures.front)) c.run.ensures
+    on_ok_weaker _ (written _ _ _ _ 65536 (rw e at c.in_ok-n.ensures.front)) c.report.ensures

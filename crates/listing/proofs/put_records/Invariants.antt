@@ -1,4 +1,3 @@
-use Prim.Native.Nat.{◌≤◌, ◌-◌}
 use Rattle.text.specs.Promises.{Wrote}
 use Rattle.dag.specs.View.{interleaved}
 use Rattle.dag.specs.Nodes as Nodes
@@ -6,7 +5,4 @@ use Rattle.listing.specs.Listing as Listing
 use Rattle.listing.proofs.put_records.Given as goal
 
 abbrev pub invariant-loop-i : goal.invariant-loop-i
-invariant-loop-i l = (l.i ≤ l.n) × Wrote l.initial.out l.at (Listing.record_lines (Nodes.nodes (interleaved l.list) l.n) l.i) l.out l.next
-
-abbrev pub decreases-loop-i : goal.decreases-loop-i
-decreases-loop-i l = l.n - l.i
+invariant-loop-i l = Wrote l.initial.text (Listing.record_lines (Nodes.nodes (interleaved l.list) l.n) l.i) l.text

@@ -1,5 +1,5 @@
--- the name and the number of the line are the call's
+-- the number of the line is the call's
 use Rattle.replay.proofs.report.Goals as goal
 
 pub returns : goal.returns
-returns g c = rw (← c.requires, ← c.name_of-name.ensures) c.writeln.ensures.bytes
+returns g c = rw (← c.requires) c.writeln.ensures.bytes

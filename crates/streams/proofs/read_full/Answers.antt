@@ -22,6 +22,6 @@ pub loop-done-preserved : goal.loop-done-preserved
 loop-done-preserved g c =
     let l = c.loop-done in
     let room = length l.buffer - l.done in
-    let part = slice_range-put_mid l.done room c.in_ok-got.got l.buffer c.read_some.new.buffer l.invariant.1 c.in_ok-got.ensures.within in
-    let joined = take_split l.done (l.done + c.in_ok-got.got) l.buffer (put_mid l.done room l.buffer c.read_some.new.buffer) (omega arith) (take-put_mid_below _ _ _ _ _ (le_refl _) l.invariant.1) in
-    (search rules, search rules, subst (Consumes _ _) (ap (λ xs. take l.done l.buffer ++ xs) (sym part) ∙ joined) (Consumes-trans _ _ _ _ _ l.invariant.2 c.in_ok-got.ensures.bytes))
+    let part = slice_range-put_mid l.done room c.in_ok-got.got l.buffer c.read.new.buf l.invariant.1 c.in_ok-got.ensures.bound.0 in
+    let joined = take_split l.done (l.done + c.in_ok-got.got) l.buffer (put_mid l.done room l.buffer c.read.new.buf) (omega arith) (take-put_mid_below _ _ _ _ _ (le_refl _) l.invariant.1) in
+    (search rules, search rules, subst (Consumes _ _) (ap (λ xs. take l.done l.buffer ++ xs) (sym part) ∙ joined) (Consumes-trans _ _ _ _ _ l.invariant.2 c.in_ok-got.ensures.bytes.0))

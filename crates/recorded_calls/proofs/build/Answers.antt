@@ -1,7 +1,0 @@
-use mathlib.Core.Path.{refl}
-use Rattle.recorded_calls.specs.Calls.{outcome}
-use Rattle.recorded_calls.proofs.build.Goals as goal
-
-pub returns : goal.returns
-unfolding outcome
-returns c = record { told = cc; first = cc; second = cc; third = refl }

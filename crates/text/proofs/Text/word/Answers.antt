@@ -1,0 +1,7 @@
+use Rattle.text.specs.Text.{ended}
+use Rattle.text.specs.WritingLaws.{and_then}
+use Rattle.text.proofs.Text.word.Goals as goal
+
+pub returns : goal.returns
+unfolding ended
+returns c = and_then c.bytes.ensures (rw c.from.ensures at c.byte.ensures)
