@@ -272,6 +272,8 @@ pub struct Columns<'a> {
 }
 
 impl<'a> Columns<'a> {
+    ghost use Rattle.columns.specs.Held as Held;
+
     // The columns, if they are few, their lengths are powers of two, their entries are there, and below the prime.
     #[tactic(auto, using(crate::specs::PrepareLaws::in_order))]
     pub fn new(prime: Prime, lengths: &'a [u64], entries: &'a [u64]) -> Result<Columns<'a>, Refusal>
@@ -296,7 +298,7 @@ impl<'a> Columns<'a> {
     // Column j.
     pub fn column(&self, j: usize) -> &'a [u64]
         requires { j < length self.now.lengths.now }
-        ensures { result.now ≡ Spec.column (Prepare.columns self.now.lengths.now self.now.entries.now) j }
+        ensures { result.now ≡ Spec.column (Held.columns self.now) j }
     {
         column(self.lengths, self.entries, j)
     }
@@ -304,7 +306,7 @@ impl<'a> Columns<'a> {
     // Whether an earlier column equals column j.
     fn is_repeated(&self, j: usize) -> bool
         requires { j < length self.now.lengths.now }
-        ensures { result ≡ Spec.is_among (Prepare.columns self.now.lengths.now self.now.entries.now) j j }
+        ensures { result ≡ Spec.is_among (Held.columns self.now) j j }
     {
         let col = self.column(j);
         (0..j).any(|i| self.column(i) == col)
@@ -314,7 +316,7 @@ impl<'a> Columns<'a> {
     #[tactic(auto, using(crate::specs::PrepareLaws::tested_column))]
     fn gain(&self, j: usize) -> u64
         requires { j < length self.now.lengths.now }
-        ensures { result ≡ Spec.gain (modulus_of self.now.prime) (Spec.column (Prepare.columns self.now.lengths.now self.now.entries.now) j) }
+        ensures { result ≡ Spec.gain (Held.modulus self.now) (Spec.column (Held.columns self.now) j) }
     {
         gain(self.prime, self.column(j)) as u64
     }
@@ -343,6 +345,8 @@ pub struct Weighed<'a> {
 }
 
 impl<'a> Weighed<'a> {
+    ghost use Rattle.columns.specs.Held as Held;
+
     // What each column saves, worked out.
     pub fn new(columns: Columns<'a>) -> Weighed<'a>
         ensures { result.columns ≡ columns.entry }
@@ -360,7 +364,7 @@ impl<'a> Weighed<'a> {
     #[tactic(auto, using(crate::specs::SavingLaws::going_over))]
     fn goes_over(&self, period: u64) -> bool
         requires { period ≤ 128 }
-        ensures { result ≡ Spec.goes_over (modulus_of self.now.columns.prime) (Prepare.columns self.now.columns.lengths.now self.now.columns.entries.now) period }
+        ensures { result ≡ Spec.goes_over (Held.modulus self.now.columns) (Held.columns self.now.columns) period }
     {
         2 <= period && 7 * period + 2 < savings(self.columns.lengths, &self.savings, period)
     }
@@ -369,7 +373,7 @@ impl<'a> Weighed<'a> {
     #[tactic(auto, using(crate::specs::SavingLaws::forms))]
     pub fn form(&self, j: usize) -> Form
         requires { j < length self.now.columns.lengths.now }
-        ensures { result ≡ Spec.form (modulus_of self.now.columns.prime) (Prepare.columns self.now.columns.lengths.now self.now.columns.entries.now) j }
+        ensures { result ≡ Spec.form (Held.modulus self.now.columns) (Held.columns self.now.columns) j }
     {
         let col = self.columns.column(j);
         if self.goes_over(col.len() as u64) && 0 < self.gains[j] {
@@ -383,7 +387,7 @@ impl<'a> Weighed<'a> {
 
     // The columns' forms as numbers, 0 past the last.
     fn forms(&self) -> [u64; 16]
-        ensures { result ≡ Prepare.forms (modulus_of self.now.columns.prime) (Prepare.columns self.now.columns.lengths.now self.now.columns.entries.now) }
+        ensures { result ≡ Prepare.forms (Held.modulus self.now.columns) (Held.columns self.now.columns) }
     {
         self.columns.each(|j| self.form(j) as u64)
     }
