@@ -2,7 +2,7 @@
 #![tactic(auto)]
 
 ghost use Rattle.field.specs.Field.{modulus_of};
-ghost use Rattle.std.specs.Prelude.{◌≡◌, true, cond, leb, ℕ, ◌+◌, ◌*◌, ◌-◌, ◌^◌, ◌<◌, ◌≤◌, length, take, IfOk, All};
+ghost use Rattle.std.specs.Prelude.{◌≡◌, ℕ, ◌^◌, ◌<◌, ◌≤◌, length, IfOk, All};
 ghost use Rattle.dag.specs.Refusals as Refusals;
 ghost use Rattle.columns.specs.Columns as Spec;
 ghost use Rattle.columns.specs.Prepare as Prepare;
@@ -14,7 +14,7 @@ use dag::Refusal;
 use field::{Prime, felt};
 
 // The most columns.
-const MOST_COLUMNS: usize = 16;
+pub const MOST_COLUMNS: usize = 16;
 
 // The longest column has 2^7 entries.
 const MOST_LOG: usize = 7;
@@ -34,7 +34,7 @@ pub enum Form {
 #[derive(Clone, Copy, PartialEq, Eq)]
 pub struct Prepared {
     pub count: usize,
-    pub forms: [u64; 16],
+    pub forms: [u64; MOST_COLUMNS],
 }
 
 // The greatest k up to `most` with 2^k at most n, else 0.
@@ -105,9 +105,10 @@ fn standalone(col: &[u64]) -> usize
     if is_sparse(col) {
         let t = others(col, 0);
         let log = log_length(col);
-        return sparse_ops(t, log) + 2 * (t + log);
+        sparse_ops(t, log) + 2 * (t + log)
+    } else {
+        dense_ops(col.len()) + 2 * col.len()
     }
-    dense_ops(col.len()) + 2 * col.len()
 }
 
 // A column's values, each once in order of their first places.
@@ -322,7 +323,7 @@ impl<'a> Columns<'a> {
     }
 
     // f at each column, 0 past the last.
-    fn each<F: Fn(usize) -> u64>(&self, f: F) -> [u64; 16]
+    fn each<F: Fn(usize) -> u64>(&self, f: F) -> [u64; MOST_COLUMNS]
         requires { (j : ℕ) → j < length self.now.lengths.now → F.pre f j }
         ensures { (g : ℕ → ℕ) → ((j r : ℕ) → j < length self.now.lengths.now → F.post f j r → r ≡ g j) → result ≡ padded 0 16 (up_to g (length self.now.lengths.now)) }
     {
@@ -338,8 +339,8 @@ impl<'a> Columns<'a> {
 #[derive(Clone, Copy)]
 pub struct Weighed<'a> {
     pub columns: Columns<'a>,
-    pub gains: [u64; 16],
-    pub savings: [u64; 16],
+    pub gains: [u64; MOST_COLUMNS],
+    pub savings: [u64; MOST_COLUMNS],
     ghost gained: { gains ≡ Promises.gains (modulus_of columns.prime) (Prepare.columns columns.lengths.now columns.entries.now) },
     ghost saved: { savings ≡ Promises.savings_each (modulus_of columns.prime) (Prepare.columns columns.lengths.now columns.entries.now) },
 }
@@ -386,7 +387,7 @@ impl<'a> Weighed<'a> {
     }
 
     // The columns' forms as numbers, 0 past the last.
-    fn forms(&self) -> [u64; 16]
+    fn forms(&self) -> [u64; MOST_COLUMNS]
         ensures { result ≡ Prepare.forms (Held.modulus self.now.columns) (Held.columns self.now.columns) }
     {
         self.columns.each(|j| self.form(j) as u64)
