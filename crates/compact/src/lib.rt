@@ -41,6 +41,7 @@ fn mark_operands(reachable: &mut [bool], x: NodeKind)
 }
 
 // Marks the roots.
+#[tactic(auto, using(crate::specs::LoopLaws::marked_turn), unfolding(crate::specs::Reach::marked, dag::specs::Roots::roots_of))]
 fn mark_roots(reachable: &mut [bool], roots: Roots)
     requires { Inside (length reachable.old) roots }
     ensures { reachable.new ≡ Reach.marked reachable.old (roots_of roots) }
@@ -64,6 +65,7 @@ fn mark_reachable(list: &[u64], n: usize, roots: Roots, reachable: &mut [bool])
 }
 
 // Fills in the new places of the first n records, and answers how many of them are marked.
+#[tactic(auto, using(crate::specs::ArrayLaws::ranks_more, crate::specs::ArrayLaws::rank_next, crate::specs::RankLaws::rank_le), unfolding(crate::specs::Compact::rank, crate::specs::Compact::ranks))]
 fn number_marked(reachable: &[bool], n: usize, remap: &mut [u64]) -> usize
     requires { (n ≤ length reachable.now) × (n ≤ length remap.old) }
     ensures value { result ≡ Places.rank reachable.now n }
@@ -122,6 +124,7 @@ pub fn write_numbered(
 }
 
 // Writes what the roots reach, renamed, to the start of the result store; at most so many records.
+#[tactic(auto, unfolding(crate::specs::Calls::kept_of))]
 fn compact_within<const RECORDS: usize>(
     list: &[u64],
     n: usize,

@@ -1,15 +1,16 @@
-use Rattle.std.proofs.Common.{lt-ltb, le-ltb}
+use Rattle.std.specs.Bool.{then_some}
+use Rattle.std.proofs.Common.{◌≡◌, Bool, true, false, cond, Some, None, refl, ◌∙◌}
 use Rattle.plan.specs.Plan.{onto_before}
 use Rattle.plan.proofs.Round.onto_before.Goals as goal
 
-pub returns-in-At : goal.returns-in-At
-unfolding onto_before
-returns-in-At c = rw (← c.in-At.ensures, lt-ltb _ _ c.if-existing-i.true)
+some_if : {A : Type 0} (b : Bool) (x : A) → then_some b x ≡ cond b (Some x) None
+some_if true x = refl
+some_if false x = refl
 
-pub returns-in_default : goal.returns-in_default
+pub returns-in_err-existing : goal.returns-in_err-existing
 unfolding onto_before
-returns-in_default c = rw (← c.in-At.ensures, le-ltb _ _ c.if-existing-i.false)
+returns-in_err-existing c = c.from_residual.ensures ∙ rw (← c.in_err-existing.ensures)
 
-pub returns-in_default-2 : goal.returns-in_default-2
+pub returns : goal.returns
 unfolding onto_before
-returns-in_default-2 c = rw (← c.in_default.ensures)
+returns c = c.then_some.ensures ∙ (some_if _ _ ∙ rw (← c.in_ok-existing.ensures))
