@@ -1,14 +1,18 @@
 -- The classes of a column in basis, by the tests that the code makes.
-use Rattle.std.specs.Prelude.{ℕ, ◌+◌, ◌-◌, ◌<◌, ◌≤◌, Bool, List, ◌≡◌, refl, get_or, length, take, replicate}
+use Rattle.std.specs.Prelude.{ℕ, zero, suc, [], ◌+◌, ◌-◌, ◌<◌, ◌≤◌, Bool, List, ◌≡◌, refl, get_or, length, take, replicate}
 use Rattle.std.proofs.Math.Bool.{true, false, not}
 use Rattle.std.specs.Bool.{beq}
-use Rattle.std.proofs.Common.{sym, ◌∙◌, ap, arith, eq-eqb, ne_eqb, take_at}
+use Rattle.std.proofs.Common.{sym, ◌∙◌, ap, ap₂, arith, eq-eqb, ne_eqb, take_at, get_or-take}
+use Rattle.std.proofs.Math.ListN.{get_or-append}
+use Rattle.std.proofs.Math.Seq.{take-length}
 use Rattle.std.proofs.Math.Path.{subst}
 use Rattle.std.proofs.Math.Dec.{eqb}
 use Rattle.field.specs.Fields.{Field, modulus, coordinate_laws}
 use Rattle.ring.specs.Power.{low_pow}
 use Rattle.columns.specs.Columns.{log_length, offset, values}
 use Rattle.columns.specs.Prepare.{all_below}
+use Rattle.columns.specs.Promises.{Column}
+use Rattle.field.specs.Field.{modulus_of}
 use Rattle.dag.specs.Arrays.{up_to, padded}
 use Rattle.columns.specs.ClassLaws.{below_values}
 use Rattle.dag.specs.ArrayLaws.{length_up_to, get_or_up_to, get_or_filled}
@@ -16,11 +20,23 @@ use Rattle.coefficients.specs.Terms.{root}
 use Rattle.coefficients.specs.Arrays.{roots}
 use Rattle.periodic.specs.Builder.{done, ◌>>=◌, add}
 use Rattle.periodic.specs.Periodic.{backwards, factor, element, class_turn, coefficient, is_added, is_subtracted, add_class, sub_class, term_turn}
-use Rattle.periodic.specs.Promises.{Inside, AllInside, Entering}
-use Rattle.periodic.specs.RunLaws.{ran_done}
-use Rattle.periodic.specs.ListLaws.{all_later}
+use Rattle.periodic.specs.Promises.{AllInside}
+use Rattle.periodic.specs.SameLaws.{same_is}
+use Rattle.periodic.specs.Runs.{State, Overlong}
+use Rattle.periodic.specs.RunLaws.{long_first, long_like, all_later}
 use Rattle.basis.specs.Promises as Said
-use Rattle.basis.specs.Promises.{Roots, Products, Offset}
+use Rattle.basis.specs.Promises.{Roots, Factors, Products, Class, Offset}
+use Rattle.basis.specs.declared.LagrangeBasis.{LagrangeBasis}
+use Rattle.dag.specs.declared.Refusal.{Refusal}
+use Rattle.field.specs.Fields.{field_of}
+use Rattle.field.specs.declared.Prime.{Prime}
+use Rattle.periodic.specs.Builder.{Builder, turns}
+use Rattle.periodic.specs.Periodic.{class_sum, all_terms}
+use Rattle.coefficients.specs.TermLaws.{up_to_entries}
+use Rattle.dag.specs.ArrayLaws.{length_padded}
+use mathlib.Core.List.{◌++◌, ◌∷◌, reverse}
+use Rattle.std.proofs.lemmas.List.{drop_at, drop-replicate, get_or-reverse, length-reverse, length-take-le}
+use Rattle.std.proofs.Math.ListN.{drop}
 
 -- what a test of two flags says
 unlike : (b d : Bool) → not (beq b d) ≡ true → b ≡ not d
@@ -36,10 +52,20 @@ alike true false e = e
 alike true true e = refl
 
 -- a list of places from its end
-pub backwards_is : (ps turned : List ℕ) (n : ℕ) → turned ≡ padded 0 128 (backwards ps) → length ps ≡ n → take n turned ≡ backwards ps
-unfolding backwards padded
-backwards_is ps turned n e h =
-    rw e (take_at (up_to (λ i. get_or ps (length ps - (i + 1)) 0) (length ps)) (replicate (128 - length (up_to (λ i. get_or ps (length ps - (i + 1)) 0) (length ps))) 0) n (length_up_to (λ i. get_or ps (length ps - (i + 1)) 0) (length ps) ∙ h))
+up_to_below : (f g : ℕ → ℕ) (n : ℕ) → ((i : ℕ) → i < n → f i ≡ g i) → up_to f n ≡ up_to g n
+unfolding up_to
+up_to_below f g zero h = refl
+up_to_below f g (suc n) h = ap₂ (λ l x. l ++ (x ∷ [])) (up_to_below f g n (λ i j. h i (omega arith))) (h n (omega arith))
+
+backwards_reverse : (ps : List ℕ) → reverse ps ≡ backwards ps
+unfolding backwards
+backwards_reverse ps = sym (up_to_below (λ i. get_or ps (length ps - (i + 1)) 0) (λ i. get_or (reverse ps) i 0) (length ps) at ∙ all)
+  where
+    at : (i : ℕ) → i < length ps → get_or ps (length ps - (i + 1)) 0 ≡ get_or (reverse ps) i 0
+    at i h = let j : length ps - (i + 1) ≡ length ps - 1 - i = omega arith in ap (λ k. get_or ps k 0) j ∙ sym (get_or-reverse ps i 0 h)
+
+    all : up_to (λ i. get_or (reverse ps) i 0) (length ps) ≡ reverse ps
+    all = ap (up_to (λ i. get_or (reverse ps) i 0)) (sym (length-reverse ps)) ∙ (up_to_entries (reverse ps) (length (reverse ps)) (omega arith) ∙ take-length (reverse ps))
 
 pub backwards_inside : (n : ℕ) (ps : List ℕ) → AllInside n ps → AllInside n (backwards ps)
 unfolding backwards
@@ -54,17 +80,41 @@ pub length_backwards : (ps : List ℕ) → length (backwards ps) ≡ length ps
 unfolding backwards
 length_backwards ps = length_up_to (λ i. get_or ps (length ps - (i + 1)) 0) (length ps)
 
-module _ (field : Field) where
-  pub entered_done : (s : List ℕ) (n a : ℕ) → Inside n a → Entering field s n (done a) s (record { place = a; count = n })
-  entered_done s n a h = record { ran = ran_done field s n a; inside = h }
+-- copied to the front of a blank array, and reversed there
+pub backwards_filled : (ps front turned : List ℕ) → front ≡ ps → turned ≡ reverse (take (length ps) (front ++ drop (length ps) (replicate 128 0)))
+    → turned ++ drop (length ps) (front ++ drop (length ps) (replicate 128 0)) ≡ padded 0 128 (backwards ps)
+unfolding padded
+backwards_filled ps front turned e h =
+    ap₂ (λ l r. l ++ r)
+    (h ∙ (ap (λ l. reverse (take (length ps) (l ++ drop (length ps) (replicate 128 0)))) e ∙ (ap reverse (take_at ps (drop (length ps) (replicate 128 0)) (length ps) refl) ∙ backwards_reverse ps)))
+    (ap (λ l. drop (length ps) (l ++ drop (length ps) (replicate 128 0))) e ∙ (drop_at ps (drop (length ps) (replicate 128 0)) (length ps) refl ∙ drop-replicate {X = ℕ} (length ps) 128 0))
+    ∙ ap (λ n. backwards ps ++ replicate {A = ℕ} (128 - n) 0) (sym (length_backwards ps))
 
+-- the first places of a list from its end
+module _ (ps turned : List ℕ) (k : ℕ) (e : turned ≡ padded 0 128 (backwards ps)) (short : length ps ≤ 128) (h : k ≤ length ps) where
+  pub turned_long : length (take k turned) ≡ k
+  turned_long = length-take-le k turned (omega (arith, ap length e, length_padded 0 128 (backwards ps) (omega (arith, length_backwards ps)), short))
+
+  pub turned_at : (i : ℕ) → i < k → get_or (take k turned) i 0 ≡ get_or (backwards ps) i 0
+  unfolding padded
+  turned_at i j = get_or-take k turned i 0 j ∙ rw e (get_or-append (backwards ps) (replicate (128 - length (backwards ps)) 0) 0 i (omega (arith, length_backwards ps)))
+
+  pub turned_inside : (n : ℕ) → AllInside n ps → AllInside n (take k turned)
+  turned_inside n a = record { at = λ i j. let l : i < k = omega (arith, turned_long) in rw (turned_at i l) ((backwards_inside n ps a).at i (omega (arith, length_backwards ps))) }
+
+-- the first of these places
+pub front_inside : (n k : ℕ) (ps : List ℕ) → k ≤ length ps → AllInside n ps → AllInside n (take k ps)
+front_inside n k ps h a = record { at = λ i j. let l : i < k = omega (arith, length-take-le k ps h) in rw (get_or-take k ps i 0 l) (a.at i (omega arith)) }
+
+module _ (field : Field) where
   -- the table of roots
-  pub roots_of_lem : (c rs : List ℕ) → rs ≡ roots field c → Roots field c rs
+  pub roots_of_lem : (c rs : List ℕ) → length c ≤ 128 → rs ≡ roots field c → Roots field c rs
   unfolding roots root
-  roots_of_lem c rs e =
+  roots_of_lem c rs short e =
       record {
         at = λ k h. rw e (get_or_filled 0 0 128 (root field c) (length c) k h);
         low = λ k h. rw (e, get_or_filled 0 0 128 (root field c) (length c) k h) (low_pow (coordinate_laws field) (field.generator (log_length c)) k);
+        many = omega (arith, ap length e, length_padded 0 128 (up_to (root field c) (length c)) (omega (arith, length_up_to (root field c) (length c))));
       }
 
   -- the factor of row k
@@ -72,27 +122,7 @@ module _ (field : Field) where
   unfolding Said.factor factor
   factor_at c rs point k d h = rw (d.at k h)
 
-  pub products_later : {n k : ℕ} {c roots prefix suffix : List ℕ} → n ≤ k → Products field n c roots prefix suffix → Products field k c roots prefix suffix
-  products_later h d =
-      record {
-        rows = d.rows;
-        short = d.short;
-        prefix_long = d.prefix_long;
-        suffix_long = d.suffix_long;
-        prefix_inside = all_later h d.prefix_inside;
-        suffix_inside = all_later h d.suffix_inside;
-      }
-
   module _ (c prefix suffix : List ℕ) where
-    module _ (v j acc : ℕ) where
-      pub row_skipped : (get_or c j 0 ≡ v → ⊥) → done acc ≡ class_turn field c prefix suffix v j acc
-      unfolding class_turn
-      row_skipped e = rw (ne_eqb _ _ e)
-
-      pub row_taken : get_or c j 0 ≡ v → (element field c prefix suffix j >>= λ e. add field.elements acc e) ≡ class_turn field c prefix suffix v j acc
-      unfolding class_turn
-      row_taken e = rw (eq-eqb _ _ e)
-
     module _ (d v k sum : ℕ) (ed : d ≡ offset (modulus field) c) where
       -- the offset is no class
       pub term_offset : (minus : Bool) → v ≡ d → done sum ≡ term_turn field c minus prefix suffix v sum
@@ -133,3 +163,54 @@ module _ (field : Field) where
 
   pub offset_of : (c vs : List ℕ) (d : ℕ) → all_below (modulus field) c ≡ true → vs ≡ values c → d ≡ offset (modulus field) c → d < modulus field → Offset field c vs d
   offset_of c vs d low e o h = record { are = e; low = rw e (below_values (modulus field) c low); offset_is = o; offset_low = h }
+
+-- the sum of a class that is asked for
+pub class_long : (b : State) (p : Prime) → b.prime ≡ p → (c prefix suffix : List ℕ) (d v k sum : ℕ) → d ≡ offset (modulus (field_of p)) c → (v ≡ d → ⊥) → k ≡ (field_of p).coordinates.sub v d
+    → (t : Bool) → t ≡ eqb k (modulus (field_of p) - 1) → (minus : Bool) → not (beq t minus) ≡ false → {r : Refusal} → Overlong b (λ field. class_sum field c prefix suffix v) r → Overlong b (λ field. term_turn field c minus prefix suffix v sum) r
+unfolding add_class sub_class
+class_long b p e c prefix suffix d v k sum ed n ek t et false h q =
+    long_like {m = λ field. add_class field c prefix suffix v sum} e (same_is (term_added (field_of p) c prefix suffix d v k sum ed n ek t et false h refl)) (long_first _ q)
+class_long b p e c prefix suffix d v k sum ed n ek t et true h q =
+    long_like {m = λ field. sub_class field c prefix suffix v sum} e (same_is (term_subtracted (field_of p) c prefix suffix d v k sum ed n ek t et true h refl)) (long_first _ q)
+
+-- a row tested
+module _ (c prefix suffix : List ℕ) (v j acc : ℕ) where
+  pub row_skipped : (get_or c j 0 ≡ v → ⊥) → ◌≡◌ {A = Field → Builder ℕ} (λ field. done acc) (λ field. class_turn field c prefix suffix v j acc)
+  unfolding class_turn
+  row_skipped e = rw (ne_eqb (get_or c j 0) v e)
+
+  pub row_taken : get_or c j 0 ≡ v → ◌≡◌ {A = Field → Builder ℕ} (λ field. element field c prefix suffix j >>= λ e. add field.elements acc e) (λ field. class_turn field c prefix suffix v j acc)
+  unfolding class_turn
+  row_taken e = rw (eq-eqb (get_or c j 0) v e)
+
+-- the terms of all classes, from the column's values
+pub terms_are : (c prefix suffix : List ℕ) (minus : Bool) (start : ℕ) (vs : List ℕ) → vs ≡ values c
+    → ◌≡◌ {A = Field → Builder ℕ} (λ field. turns (λ k sum. term_turn field c minus prefix suffix (get_or vs k 0) sum) (length vs) start) (λ field. all_terms field c minus prefix suffix start)
+unfolding all_terms
+terms_are c prefix suffix minus start vs e =
+    ap {B = Field → Builder ℕ} (λ us field. turns (λ k sum. term_turn field c minus prefix suffix (get_or us k 0) sum) (length us) start) e
+
+-- over more records, under the same prime
+module _ {p q : Prime} (e : p ≡ q) where
+  pub products_later : {n k : ℕ} {b : LagrangeBasis} → n ≤ k → Products (field_of q) n b → Products (field_of p) k b
+  products_later h d =
+      rw e
+      (record {
+        rows = d.rows;
+        prefix_long = d.prefix_long;
+        suffix_long = d.suffix_long;
+        prefix_inside = all_later h d.prefix_inside;
+        suffix_inside = all_later h d.suffix_inside;
+      })
+
+  pub roots_later : {c rs : List ℕ} → Roots (field_of q) c rs → Roots (field_of p) c rs
+  roots_later d = rw e d
+
+  pub class_later : {c : List ℕ} {d v : ℕ} → Class (field_of q) c d v → Class (field_of p) c d v
+  class_later d = rw e d
+
+  pub offset_later : {c vs : List ℕ} {d : ℕ} → Offset (field_of q) c vs d → Offset (field_of p) c vs d
+  offset_later d = rw e d
+
+  pub column_later : {c : List ℕ} → Column (modulus_of q) c → Column (modulus_of p) c
+  column_later d = rw e d

@@ -6,6 +6,7 @@ use Rattle.columns.specs.Prepare.{all_below}
 use Rattle.coefficients.specs.Terms.{root}
 use Rattle.periodic.specs.Builder.{Builder, constant, sub, ◌>>=◌}
 use Rattle.periodic.specs.Promises.{AllInside}
+use Rattle.basis.specs.declared.LagrangeBasis.{LagrangeBasis}
 
 module _ (field : Field) where
   -- point − root
@@ -18,15 +19,21 @@ module _ (field : Field) where
   pub record Roots (c rs : List ℕ) : Type 0 where
     pub at : (k : ℕ) → k < length c → get_or rs k 0 ≡ root field c k
     pub low : (k : ℕ) → k < length c → get_or rs k 0 < modulus field
+    pub many : length c ≤ length rs
 
-  -- the roots of a column's rows, and the products before and behind each row
-  pub record Products (n : ℕ) (c roots prefix suffix : List ℕ) : Type 0 where
-    pub rows : Roots c roots
-    pub short : length c ≤ 128
-    pub prefix_long : length prefix ≡ length c
-    pub suffix_long : length suffix ≡ length c
-    pub prefix_inside : AllInside n prefix
-    pub suffix_inside : AllInside n suffix
+  -- the factors of a column's rows
+  pub record Factors (n : ℕ) (c rs factors : List ℕ) : Type 0 where
+    pub rows : Roots c rs
+    pub long : length factors ≡ length c
+    pub inside : AllInside n factors
+
+  -- the basis of a column's rows, over n records
+  pub record Products (n : ℕ) (b : LagrangeBasis) : Type 0 where
+    pub rows : Roots b.col.now b.roots.now
+    pub prefix_long : length b.prefix.now ≡ length b.col.now
+    pub suffix_long : length b.suffix.now ≡ length b.col.now
+    pub prefix_inside : AllInside n b.prefix.now
+    pub suffix_inside : AllInside n b.suffix.now
 
   -- a value and the offset of a column
   pub record Class (c : List ℕ) (d v : ℕ) : Type 0 where

@@ -3,308 +3,214 @@
 
 ghost use Rattle.std.specs.Prelude.{◌≡◌, ◌+◌, ◌-◌, ◌<◌, ◌≤◌, length};
 ghost use Rattle.field.specs.Fields.{field_of};
-ghost use Rattle.field.specs.Field.{modulus_of, elements};
+ghost use Rattle.field.specs.Field.{modulus_of};
 ghost use Rattle.dag.specs.Arrays.{padded};
 ghost use Rattle.columns.specs.Promises as ColumnPromises;
 ghost use Rattle.periodic.specs.Periodic as Periodic;
-ghost use Rattle.periodic.specs.Promises as PeriodicPromises;
+ghost use Rattle.periodic.specs.Promises.{AllInside};
+ghost use Rattle.periodic.specs.Runs as Runs;
 ghost use Rattle.basis.specs.Promises as Promises;
 
-use builder::Entered;
-use field::{Prime, felt};
+use arrayvec::ArrayVec;
+use dag::Refusal;
+use field::felt;
+use periodic::PeriodicBuilder;
 
-// point − w^k, from w^k.
-fn basis_factor(prime: Prime, list: &mut [u64], n: usize, point: usize, root: u64) -> Entered
-    requires { PeriodicPromises.Ready (field_of prime) list.old n × PeriodicPromises.Inside n point × (root < modulus_of prime) }
-    ensures { PeriodicPromises.Entering (field_of prime) list.old n (Promises.factor (field_of prime) point root) list.new result }
-{
-    let root = periodic::constant(prime, list, n, root);
-    periodic::sub(prime, list, root.count, point, root.place)
+// The Lagrange basis of a column's rows: its entries, their roots, and the places of the products before and behind each row.
+#[derive(Clone, Copy)]
+struct LagrangeBasis<'a> {
+    col: &'a [u64],
+    roots: &'a [u64],
+    prefix: &'a [usize],
+    suffix: &'a [usize],
 }
 
-// point − w^k for each row k, into a store of places; answers the count.
-fn basis_factors(
-    prime: Prime,
-    list: &mut [u64],
-    n: usize,
-    point: usize,
-    roots: &[u64; 128],
-    col: &[u64],
-    places: &mut [u64],
-) -> usize
-    requires { PeriodicPromises.Ready (field_of prime) list.old n × PeriodicPromises.Inside n point × (length col.now ≤ length places.old) × Promises.Roots (field_of prime) col.now roots.now × (length col.now ≤ 128) }
-    ensures { PeriodicPromises.Listing (field_of prime) list.old n (Periodic.factors (field_of prime) col.now point) list.new result places.new (length col.now) }
-{
-    let mut count = n;
-    let mut k = 0;
-    while k < col.len() {
-        let e = basis_factor(prime, list, count, point, roots[k]);
-        places[k] = e.place as u64;
-        count = e.count;
-        k += 1;
+impl LagrangeBasis<'_> {
+    // Element j of the basis.
+    fn element(&self, builder: &mut PeriodicBuilder, j: usize) -> Result<usize, Refusal>
+        requires { Promises.Products (field_of builder.old.prime) builder.old.count self.now × (j < length self.now.col.now) }
+        ensures { Runs.Entering (Runs.held builder.old) (λ field. Periodic.element field self.now.col.now self.now.prefix.now self.now.suffix.now j) (Runs.held builder.new) result }
+    {
+        let product = builder.mul(self.prefix[j], self.suffix[self.col.len() - 1 - j])?;
+        let root = builder.constant(self.roots[j])?;
+        builder.mul(root, product)
     }
-    count
+
+    // The sum of a class with row j added, where its entry is v.
+    fn class_turn(
+        &self,
+        builder: &mut PeriodicBuilder,
+        v: u64,
+        j: usize,
+        acc: usize,
+    ) -> Result<usize, Refusal>
+        requires { Promises.Products (field_of builder.old.prime) builder.old.count self.now × (j < length self.now.col.now) × (acc < builder.old.count) }
+        ensures { Runs.Entering (Runs.held builder.old) (λ field. Periodic.class_turn field self.now.col.now self.now.prefix.now self.now.suffix.now v j acc) (Runs.held builder.new) result }
+    {
+        if self.col[j] != v {
+            return Ok(acc);
+        }
+        let element = self.element(builder, j)?;
+        builder.add(acc, element)
+    }
+
+    // The sum of the elements whose entry is v.
+    fn class_sum(&self, builder: &mut PeriodicBuilder, v: u64) -> Result<usize, Refusal>
+        requires { Promises.Products (field_of builder.old.prime) builder.old.count self.now }
+        ensures { Runs.Entering (Runs.held builder.old) (λ field. Periodic.class_sum field self.now.col.now self.now.prefix.now self.now.suffix.now v) (Runs.held builder.new) result }
+    {
+        let mut acc = builder.constant(0)?;
+        for j in 0..self.col.len() {
+            acc = self.class_turn(builder, v, j, acc)?;
+        }
+        Ok(acc)
+    }
+
+    // The sum with the term of the class of value v, where it is one asked for: of the classes with coefficient −1, or of the others.
+    fn term_turn(
+        &self,
+        builder: &mut PeriodicBuilder,
+        d: u64,
+        v: u64,
+        sum: usize,
+        minus: bool,
+    ) -> Result<usize, Refusal>
+        requires { Promises.Products (field_of builder.old.prime) builder.old.count self.now × (sum < builder.old.count) × Promises.Class (field_of builder.old.prime) self.now.col.now d v }
+        ensures { Runs.Entering (Runs.held builder.old) (λ field. Periodic.term_turn field self.now.col.now minus self.now.prefix.now self.now.suffix.now v sum) (Runs.held builder.new) result }
+    {
+        if v == d {
+            return Ok(sum);
+        }
+        let prime = builder.prime;
+        let k = felt::sub(prime, v, d);
+        if felt::is_minus_one(prime, k) != minus {
+            return Ok(sum);
+        }
+        let class = self.class_sum(builder, v)?;
+        if minus {
+            return builder.sub(sum, class);
+        }
+        let scale = builder.constant(k)?;
+        let term = builder.mul(scale, class)?;
+        builder.add(sum, term)
+    }
+
+    // The sum with those terms of all classes.
+    fn all_terms(
+        &self,
+        builder: &mut PeriodicBuilder,
+        values: &[u64],
+        d: u64,
+        start: usize,
+        minus: bool,
+    ) -> Result<usize, Refusal>
+        requires { Promises.Products (field_of builder.old.prime) builder.old.count self.now × (start < builder.old.count) × Promises.Offset (field_of builder.old.prime) self.now.col.now values.now d }
+        ensures { Runs.Entering (Runs.held builder.old) (λ field. Periodic.all_terms field self.now.col.now minus self.now.prefix.now self.now.suffix.now start) (Runs.held builder.new) result }
+    {
+        let mut sum = start;
+        for v in values {
+            sum = self.term_turn(builder, d, *v, sum, minus)?;
+        }
+        Ok(sum)
+    }
+
+    // The offset and the classes of the column.
+    fn basis_sum(&self, builder: &mut PeriodicBuilder) -> Result<usize, Refusal>
+        requires { Promises.Products (field_of builder.old.prime) builder.old.count self.now × ColumnPromises.Column (modulus_of builder.old.prime) self.now.col.now }
+        ensures { Runs.Entering (Runs.held builder.old) (λ field. Periodic.basis_sum field self.now.col.now self.now.prefix.now self.now.suffix.now) (Runs.held builder.new) result }
+    {
+        let values = columns::values(self.col);
+        let d = columns::offset(builder.prime, self.col, &values);
+        let start = builder.constant(d)?;
+        let sum = self.all_terms(builder, &values, d, start, false)?;
+        self.all_terms(builder, &values, d, sum, true)
+    }
+}
+
+// point − w^k, from w^k.
+fn basis_factor(builder: &mut PeriodicBuilder, point: usize, root: u64) -> Result<usize, Refusal>
+    requires { (point < builder.old.count) × (root < modulus_of builder.old.prime) }
+    ensures { Runs.Entering (Runs.held builder.old) (λ field. Promises.factor field point root) (Runs.held builder.new) result }
+{
+    let root = builder.constant(root)?;
+    builder.sub(point, root)
+}
+
+// point − w^k for each row k.
+fn basis_factors(
+    builder: &mut PeriodicBuilder,
+    point: usize,
+    roots: &[u64],
+    col: &[u64],
+) -> Result<ArrayVec<usize, 128>, Refusal>
+    requires { (point < builder.old.count) × Promises.Roots (field_of builder.old.prime) col.now roots.now × (length col.now ≤ 128) }
+    ensures { Runs.Listing (Runs.held builder.old) (λ field. Periodic.factors field col.now point) (Runs.held builder.new) (length col.now) result }
+{
+    let mut factors = ArrayVec::new();
+    for k in 0..col.len() {
+        let factor = basis_factor(builder, point, roots[k])?;
+        factors.push(factor);
+    }
+    Ok(factors)
 }
 
 // A list of places from its end, 0 past the last.
-fn backwards(places: &[u64]) -> [u64; 128]
+fn backwards(places: &[usize]) -> [usize; 128]
     requires { length places.now ≤ 128 }
     ensures { result ≡ padded 0 128 (Periodic.backwards places.now) }
 {
-    let mut turned = [0u64; 128];
-    let mut i = 0;
-    while i < places.len() {
-        turned[i] = places[places.len() - (i + 1)];
-        i += 1;
-    }
+    let mut turned = [0usize; 128];
+    turned[..places.len()].copy_from_slice(places);
+    turned[..places.len()].reverse();
     turned
-}
-
-// Element j of the basis, from the products before and behind it.
-fn element(
-    prime: Prime,
-    list: &mut [u64],
-    n: usize,
-    roots: &[u64; 128],
-    prefix: &[u64],
-    suffix: &[u64],
-    col: &[u64],
-    j: usize,
-) -> Entered
-    requires { PeriodicPromises.Ready (field_of prime) list.old n × Promises.Products (field_of prime) n col.now roots.now prefix.now suffix.now × (j < length col.now) }
-    ensures { PeriodicPromises.Entering (field_of prime) list.old n (Periodic.element (field_of prime) col.now prefix.now suffix.now j) list.new result }
-{
-    let product = periodic::mul(
-        prime,
-        list,
-        n,
-        prefix[j] as usize,
-        suffix[col.len() - 1 - j] as usize,
-    );
-    let root = periodic::constant(prime, list, product.count, roots[j]);
-    periodic::mul(prime, list, root.count, root.place, product.place)
-}
-
-// The sum of a class with row j added, where its entry is v.
-fn class_turn(
-    prime: Prime,
-    list: &mut [u64],
-    n: usize,
-    roots: &[u64; 128],
-    prefix: &[u64],
-    suffix: &[u64],
-    col: &[u64],
-    v: u64,
-    j: usize,
-    acc: usize,
-) -> Entered
-    requires { PeriodicPromises.Ready (field_of prime) list.old n × Promises.Products (field_of prime) n col.now roots.now prefix.now suffix.now × (j < length col.now) × PeriodicPromises.Inside n acc }
-    ensures { PeriodicPromises.Entering (field_of prime) list.old n (Periodic.class_turn (field_of prime) col.now prefix.now suffix.now v j acc) list.new result }
-{
-    if col[j] != v {
-        return Entered {
-            place: acc,
-            count: n,
-        };
-    }
-    let e = element(prime, list, n, roots, prefix, suffix, col, j);
-    periodic::add(prime, list, e.count, acc, e.place)
-}
-
-// The sum of the elements whose entry is v.
-fn class_sum(
-    prime: Prime,
-    list: &mut [u64],
-    n: usize,
-    roots: &[u64; 128],
-    prefix: &[u64],
-    suffix: &[u64],
-    col: &[u64],
-    v: u64,
-) -> Entered
-    requires { PeriodicPromises.Ready (field_of prime) list.old n × Promises.Products (field_of prime) n col.now roots.now prefix.now suffix.now }
-    ensures { PeriodicPromises.Entering (field_of prime) list.old n (Periodic.class_sum (field_of prime) col.now prefix.now suffix.now v) list.new result }
-{
-    let mut acc = periodic::constant(prime, list, n, 0);
-    let mut j = 0;
-    while j < col.len() {
-        acc = class_turn(
-            prime, list, acc.count, roots, prefix, suffix, col, v, j, acc.place,
-        );
-        j += 1;
-    }
-    acc
-}
-
-// The sum with the term of the class of value v, where it is one asked for: of the classes with coefficient −1, or of the others.
-fn term_turn(
-    prime: Prime,
-    list: &mut [u64],
-    n: usize,
-    roots: &[u64; 128],
-    prefix: &[u64],
-    suffix: &[u64],
-    col: &[u64],
-    d: u64,
-    v: u64,
-    sum: usize,
-    minus: bool,
-) -> Entered
-    requires { PeriodicPromises.Ready (field_of prime) list.old n × Promises.Products (field_of prime) n col.now roots.now prefix.now suffix.now × PeriodicPromises.Inside n sum × Promises.Class (field_of prime) col.now d v }
-    ensures { PeriodicPromises.Entering (field_of prime) list.old n (Periodic.term_turn (field_of prime) col.now minus prefix.now suffix.now v sum) list.new result }
-{
-    let same = Entered {
-        place: sum,
-        count: n,
-    };
-    if v == d {
-        return same;
-    }
-    let k = felt::sub(prime, v, d);
-    if felt::is_minus_one(prime, k) != minus {
-        return same;
-    }
-    let class = class_sum(prime, list, n, roots, prefix, suffix, col, v);
-    if minus {
-        return periodic::sub(prime, list, class.count, sum, class.place);
-    }
-    let scale = periodic::constant(prime, list, class.count, k);
-    let term = periodic::mul(prime, list, scale.count, scale.place, class.place);
-    periodic::add(prime, list, term.count, sum, term.place)
-}
-
-// The sum with those terms of all classes.
-fn all_terms(
-    prime: Prime,
-    list: &mut [u64],
-    n: usize,
-    roots: &[u64; 128],
-    prefix: &[u64],
-    suffix: &[u64],
-    col: &[u64],
-    values: &[u64],
-    d: u64,
-    start: usize,
-    minus: bool,
-) -> Entered
-    requires { PeriodicPromises.Ready (field_of prime) list.old n × Promises.Products (field_of prime) n col.now roots.now prefix.now suffix.now × PeriodicPromises.Inside n start × Promises.Offset (field_of prime) col.now values.now d }
-    ensures { PeriodicPromises.Entering (field_of prime) list.old n (Periodic.all_terms (field_of prime) col.now minus prefix.now suffix.now start) list.new result }
-{
-    let mut sum = Entered {
-        place: start,
-        count: n,
-    };
-    let mut k = 0;
-    while k < values.len() {
-        sum = term_turn(
-            prime, list, sum.count, roots, prefix, suffix, col, d, values[k], sum.place, minus,
-        );
-        k += 1;
-    }
-    sum
-}
-
-// The offset and the classes of a column, over the products before and behind each row.
-fn basis_sum(
-    prime: Prime,
-    list: &mut [u64],
-    n: usize,
-    roots: &[u64; 128],
-    prefix: &[u64],
-    suffix: &[u64],
-    col: &[u64],
-) -> Entered
-    requires { PeriodicPromises.Ready (field_of prime) list.old n × Promises.Products (field_of prime) n col.now roots.now prefix.now suffix.now × ColumnPromises.Column (modulus_of prime) col.now }
-    ensures { PeriodicPromises.Entering (field_of prime) list.old n (Periodic.basis_sum (field_of prime) col.now prefix.now suffix.now) list.new result }
-{
-    let mut store = [0u64; 128];
-    let t = columns::values(col, &mut store);
-    let values = &store[..t];
-    let d = columns::offset(prime, col, values);
-    let start = periodic::constant(prime, list, n, d);
-    let sum = all_terms(
-        prime,
-        list,
-        start.count,
-        roots,
-        prefix,
-        suffix,
-        col,
-        values,
-        d,
-        start.place,
-        false,
-    );
-    all_terms(
-        prime, list, sum.count, roots, prefix, suffix, col, values, d, sum.place, true,
-    )
 }
 
 // The products behind each row, from its factors and the products before it, and then the sum.
 fn basis_back(
-    prime: Prime,
-    list: &mut [u64],
-    n: usize,
-    roots: &[u64; 128],
-    factors: &[u64],
-    prefix: &[u64],
+    builder: &mut PeriodicBuilder,
+    roots: &[u64],
+    factors: &[usize],
+    prefix: &[usize],
     col: &[u64],
-) -> Entered
-    requires { PeriodicPromises.Ready (field_of prime) list.old n × Promises.Products (field_of prime) n col.now roots.now prefix.now factors.now × ColumnPromises.Column (modulus_of prime) col.now }
-    ensures { PeriodicPromises.Entering (field_of prime) list.old n (Periodic.basis_back (field_of prime) col.now factors.now prefix.now) list.new result }
+) -> Result<usize, Refusal>
+    requires { Promises.Factors (field_of builder.old.prime) builder.old.count col.now roots.now factors.now × (length prefix.now ≡ length col.now) × AllInside builder.old.count prefix.now × ColumnPromises.Column (modulus_of builder.old.prime) col.now }
+    ensures { Runs.Entering (Runs.held builder.old) (λ field. Periodic.basis_back field col.now factors.now prefix.now) (Runs.held builder.new) result }
 {
-    let period = col.len();
-    let one = periodic::constant(prime, list, n, 1);
+    let one = builder.constant(1)?;
     let turned = backwards(factors);
-    let mut suffix = [0u64; 128];
-    let count = periodic::chain(
-        prime,
-        list,
-        one.count,
-        one.place,
-        &turned[..period],
-        period - 1,
-        &mut suffix,
-    );
-    basis_sum(prime, list, count, roots, prefix, &suffix[..period], col)
+    let suffix = builder.chain(one, &turned[..col.len() - 1])?;
+    let basis = LagrangeBasis {
+        col,
+        roots,
+        prefix,
+        suffix: &suffix,
+    };
+    basis.basis_sum(builder)
 }
 
 // The factors and the products before each row, and then the rest.
 fn basis_front(
-    prime: Prime,
-    list: &mut [u64],
-    n: usize,
+    builder: &mut PeriodicBuilder,
     point: usize,
-    roots: &[u64; 128],
+    roots: &[u64],
     col: &[u64],
-) -> Entered
-    requires { PeriodicPromises.Ready (field_of prime) list.old n × PeriodicPromises.Inside n point × ColumnPromises.Column (modulus_of prime) col.now × Promises.Roots (field_of prime) col.now roots.now }
-    ensures { PeriodicPromises.Entering (field_of prime) list.old n (Periodic.basis_front (field_of prime) col.now point) list.new result }
+) -> Result<usize, Refusal>
+    requires { (point < builder.old.count) × ColumnPromises.Column (modulus_of builder.old.prime) col.now × Promises.Roots (field_of builder.old.prime) col.now roots.now }
+    ensures { Runs.Entering (Runs.held builder.old) (λ field. Periodic.basis_front field col.now point) (Runs.held builder.new) result }
 {
-    let period = col.len();
-    let mut store = [0u64; 128];
-    let listed = basis_factors(prime, list, n, point, roots, col, &mut store);
-    let factors = &store[..period];
-    let scale = periodic::constant(prime, list, listed, coefficients::size_inverse(prime, col));
-    let mut prefix = [0u64; 128];
-    let count = periodic::chain(
-        prime,
-        list,
-        scale.count,
-        scale.place,
-        factors,
-        period - 1,
-        &mut prefix,
-    );
-    basis_back(prime, list, count, roots, factors, &prefix[..period], col)
+    let scale = coefficients::size_inverse(builder.prime, col);
+    let factors = basis_factors(builder, point, roots, col)?;
+    let start = builder.constant(scale)?;
+    let prefix = builder.chain(start, &factors[..col.len() - 1])?;
+    basis_back(builder, roots, &factors, &prefix, col)
 }
 
 // The value of a column in basis whose point is ZK squared k times.
-pub fn basis_value(prime: Prime, list: &mut [u64], n: usize, col: &[u64], k: usize) -> Entered
-    requires { PeriodicPromises.Ready (field_of prime) list.old n × ColumnPromises.Column (modulus_of prime) col.now }
-    ensures { PeriodicPromises.Entering (field_of prime) list.old n (Periodic.basis_value (field_of prime) col.now k) list.new result }
+pub fn basis_value(builder: &mut PeriodicBuilder, col: &[u64], k: usize) -> Result<usize, Refusal>
+    requires { ColumnPromises.Column (modulus_of builder.old.prime) col.now }
+    ensures { Runs.Entering (Runs.held builder.old) (λ field. Periodic.basis_value field col.now k) (Runs.held builder.new) result }
 {
-    let z = periodic::z_power(prime, list, n, k);
-    let roots = coefficients::roots(prime, col);
-    basis_front(prime, list, z.count, z.place, &roots, col)
+    let roots = coefficients::roots(builder.prime, col);
+    let z = builder.z_power(k)?;
+    basis_front(builder, z, &roots, col)
 }

@@ -17,7 +17,8 @@ use Rattle.dag.specs.declared.NodeKind.{NodeKind}
 use Rattle.dag.specs.declared.NodeKind.TheVariants.{Input, Constant, Add, Sub, Mul, Neg}
 use Rattle.builder.specs.Steps.{Built, Replay, place_of, recorded, step, replay}
 use Rattle.builder.specs.ReplayLaws.{Replayed, replay_replayed, renamed_fine}
-use Rattle.builder.specs.Promises.{Request, Pushed, read, Holds}
+use Rattle.builder.specs.Promises.{Request, Pushed, read, Holds, SameStores}
+use Rattle.builder.specs.declared.DagBuilder.{DagBuilder}
 use Rattle.builder.specs.declared.Entered.{Entered}
 
 -- places that agree rename a record alike
@@ -92,3 +93,17 @@ module _ (field : Field) where
 pub filled_map : (map : List ℕ) (i words : ℕ) (places : List ℕ) → take i map ≡ places → length places ≡ i → length map ≡ words → take i map ++ replicate (length map - i) blank ≡ filled words places
 unfolding filled
 filled_map map i words places e k f = rw (e, ← f, k)
+
+-- a list that is built, over its first stores still
+pub same_stores : (b : DagBuilder) → SameStores b b
+same_stores b = record { prime = refl; list = refl; links = refl; list_words = refl; link_words = refl }
+
+pub same_still : (a b c : DagBuilder) → SameStores a b → SameStores b c → SameStores a c
+same_still a b c s t =
+    record {
+      prime = t.prime ∙ s.prime;
+      list = t.list ∙ s.list;
+      links = t.links ∙ s.links;
+      list_words = t.list_words ∙ s.list_words;
+      link_words = t.link_words ∙ s.link_words;
+    }

@@ -21,6 +21,7 @@ use Rattle.builder.specs.Calls.{step_room_check}
 use Rattle.builder.specs.declared.Outcome.{Outcome}
 use Rattle.builder.specs.declared.Outcome.TheVariants.{Place, Node}
 use Rattle.builder.specs.declared.AssociativeOp.{AssociativeOp}
+use Rattle.builder.specs.declared.DagBuilder.{DagBuilder}
 use Rattle.builder.specs.declared.Entered.{Entered}
 use Rattle.builder.specs.declared.BuiltDag.{BuiltDag}
 
@@ -140,10 +141,18 @@ module _ (field : Field) where
     pub inside : Inside n roots
     pub most : n ≤ most_records
 
--- a list that is built, empty, over stores that keep their lengths
-pub record Empty (prime : Prime) (list links : List ℕ) (p : Prime) (empty bare : List ℕ) (count : ℕ) : Type 0 where
-  pub prime_is : p ≡ prime
-  pub list_is : empty ≡ list
-  pub none : count ≡ 0
-  pub index : NodeIndex [] bare
-  pub link_words : length bare ≡ length links
+-- a list that is built, over the same stores as before
+pub record SameStores (before after : DagBuilder) : Type 0 where
+  pub prime : after.prime ≡ before.prime
+  pub list : after.list.ghost_name ≡ before.list.ghost_name
+  pub links : after.links.ghost_name ≡ before.links.ghost_name
+  pub list_words : length after.list.now ≡ length before.list.now
+  pub link_words : length after.links.now ≡ length before.links.now
+
+-- an empty list that is built, over stores that were `list` and `links`
+pub record Empty (prime : Prime) (list links : List ℕ) (b : DagBuilder) : Type 0 where
+  pub prime_is : b.prime ≡ prime
+  pub list_is : b.list.now ≡ list
+  pub none : b.count ≡ 0
+  pub index : NodeIndex [] b.links.now
+  pub link_words : length b.links.now ≡ length links

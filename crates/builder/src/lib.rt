@@ -290,7 +290,7 @@ impl<'list, 'links> DagBuilder<'list, 'links> {
         requires { Usable links.old }
         ensures same_list { result.list.ghost_name ≡ list.entry.ghost_name }
         ensures same_links { result.links.ghost_name ≡ links.entry.ghost_name }
-        ensures empty { Promises.Empty prime list.old links.old result.prime result.list.now result.links.now result.count }
+        ensures empty { Promises.Empty prime list.old links.old result }
     {
         index::clear(links);
         DagBuilder {
@@ -304,10 +304,7 @@ impl<'list, 'links> DagBuilder<'list, 'links> {
     // Enters one request; answers its place.
     pub fn push(&mut self, x: NodeKind) -> usize
         requires { Promises.Request (field_of self.old.prime) (interleaved self.old.list.now) self.old.count x × Promises.Room self.old.list.now self.old.count self.old.links.now }
-        ensures same_list { self.new.list.ghost_name ≡ self.old.list.ghost_name }
-        ensures same_links { self.new.links.ghost_name ≡ self.old.links.ghost_name }
-        ensures prime { self.new.prime ≡ self.old.prime }
-        ensures link_words { length self.new.links.now ≡ length self.old.links.now }
+        ensures same { Promises.SameStores self.old self.new }
         ensures noted { Promises.Noted (field_of self.old.prime) self.old.list.now self.old.count x self.new.list.now self.new.links.now (record { place = result; count = self.new.count }) }
     {
         let n = self.count;

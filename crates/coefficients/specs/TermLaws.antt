@@ -1,9 +1,11 @@
 -- A column's numbers, as they are worked out.
-use Rattle.std.specs.Prelude.{ℕ, zero, suc, ◌+◌, ◌*◌, ◌^◌, ◌≤◌, ◌<◌, Bool, ◌≡◌, eqb, get_or, take, drop, set}
+use Rattle.std.specs.Prelude.{ℕ, zero, suc, ◌+◌, ◌*◌, ◌-◌, ◌^◌, ◌≤◌, ◌<◌, Bool, ◌≡◌, eqb, get_or, take, drop, replicate}
 use Rattle.std.proofs.Math.Bool.{true, false, cond, not}
 use mathlib.Core.List.{List, [], ◌∷◌, ◌++◌, append-nil, append_assoc}
 use Rattle.std.proofs.Math.Path.{refl, ap}
-use Rattle.std.proofs.Common.{sym, ◌∙◌, ap₂, arith, drop_of_length-le, drop-cons, take-suc-set}
+use Rattle.std.proofs.Common.{sym, ◌∙◌, ap₂, arith, drop_of_length-le, drop-cons}
+use Rattle.std.proofs.Math.Seq.{take-suc, take-length}
+use Rattle.std.proofs.lemmas.List.{drop-replicate}
 use Rattle.std.proofs.Math.Nat.{two-pow-succ}
 use Rattle.std.proofs.Math.Numerals.{add-one}
 use borrow.Author.Tests.{eq-eqb, ne_eqb}
@@ -13,12 +15,25 @@ use Rattle.ring.specs.Power.{pow, pow_zero, pow_suc, pow_add, pow_mul}
 use Rattle.columns.specs.Columns.{log_length, count, others, places_from, support}
 use Rattle.dag.specs.Arrays.{up_to, padded}
 use Rattle.coefficients.specs.Terms.{root_inverse, size_inverse, scaled_value, twiddle}
-use Rattle.coefficients.specs.Arrays.{placed, squares, twiddles}
+use Rattle.coefficients.specs.Arrays.{placed, squares, copied, twiddles}
 
 up_to_cong : {A : Type 0} (f g : ℕ → A) (n : ℕ) → ((i : ℕ) → f i ≡ g i) → up_to f n ≡ up_to g n
 unfolding up_to
 up_to_cong f g zero h = refl
 up_to_cong f g (suc n) h = ap₂ (λ l x. l ++ (x ∷ [])) (up_to_cong f g n h) (h n)
+
+-- the first n entries
+pub up_to_entries : (c : List ℕ) (n : ℕ) → n ≤ length c → up_to (λ i. get_or c i 0) n ≡ take n c
+unfolding up_to
+up_to_entries c zero h = refl
+up_to_entries c (suc n) h = ap (λ l. l ++ (get_or c n 0 ∷ [])) (up_to_entries c n (omega arith)) ∙ sym (take-suc c n 0 h)
+
+-- a column copied to the front of a blank array
+pub copied_is : (c row : List ℕ) → row ≡ c → row ++ drop (length c) (replicate 128 0) ≡ copied c
+unfolding copied padded
+copied_is c row e =
+    ap₂ (λ l r. l ++ r) e (drop-replicate {X = ℕ} (length c) 128 0)
+    ∙ ap (λ l. l ++ replicate {A = ℕ} (128 - length l) 0) (sym (up_to_entries c (length c) (omega arith) ∙ take-length c))
 
 -- the places found before place j, and those from there on
 module _ (c : List ℕ) (j : ℕ) (h : j < length c) where
@@ -45,15 +60,15 @@ pub place_end : (c ps t : List ℕ) (j : ℕ) → length c ≤ j → ps ++ place
 unfolding places_from
 place_end c ps t j h inv = rw (drop_of_length-le c {i = j} h, append-nil ps) at inv
 
--- a store whose first n words are the places found
-module _ (s : List ℕ) (n j v : ℕ) where
-  pub place_none : v ≡ 0 → take n s ≡ take n s ++ placed j v
+-- the places found with place j tested
+module _ (ps : List ℕ) (j v : ℕ) where
+  pub place_none : v ≡ 0 → ps ≡ ps ++ placed j v
   unfolding placed
-  place_none e = rw (eq-eqb v 0 e) (sym (append-nil (take n s)))
+  place_none e = rw (eq-eqb v 0 e) (sym (append-nil ps))
 
-  pub place_one : (v ≡ 0 → ⊥) → n < length s → take (n + 1) (set s n j) ≡ take n s ++ placed j v
+  pub place_one : (qs : List ℕ) → (v ≡ 0 → ⊥) → qs ≡ ps ++ (j ∷ []) → qs ≡ ps ++ placed j v
   unfolding placed
-  place_one e h = rw (ne_eqb v 0 e, add-one n) (take-suc-set s n j h)
+  place_one qs e q = rw (ne_eqb v 0 e) q
 
 -- each place is inside, and there are as many as nonzero entries
 places_inside : (c : List ℕ) (i k : ℕ) → k < length (places_from (λ v. not (eqb v 0)) i c) → get_or (places_from (λ v. not (eqb v 0)) i c) k 0 < i + length c

@@ -11,7 +11,11 @@ ghost use Rattle.coefficients.specs.Terms as Terms;
 ghost use Rattle.coefficients.specs.Arrays as Arrays;
 ghost use Rattle.coefficients.specs.Split as Split;
 
+use arrayvec::ArrayVec;
 use field::{Prime, felt};
+
+// So many terms a sparse column has at most.
+pub const MOST_TERMS: usize = 11;
 
 // w^k, where w generates the subgroup of the column's rows.
 fn root(prime: Prime, col: &[u64], k: usize) -> u64
@@ -46,11 +50,9 @@ fn powers(prime: Prime, base: u64, n: usize) -> [u64; 128]
 {
     let mut row = [0u64; 128];
     let mut power: u64 = 1;
-    let mut i = 0;
-    while i < n {
+    for i in 0..n {
         row[i] = power;
         power = felt::mul(prime, base, power);
-        i += 1;
     }
     row
 }
@@ -73,11 +75,7 @@ fn copied(col: &[u64]) -> [u64; 128]
     ensures { result ≡ Arrays.copied col.now }
 {
     let mut row = [0u64; 128];
-    let mut i = 0;
-    while i < col.len() {
-        row[i] = col[i];
-        i += 1;
-    }
+    row[..col.len()].copy_from_slice(col);
     row
 }
 
@@ -93,10 +91,8 @@ fn join_row(prime: Prime, from: &[u64; 128], a: usize, x: u64, s: usize, to: &mu
     requires { Split.LowTable (field_of prime) from.now × Split.LowTable (field_of prime) to.old × (x < modulus_of prime) × (a + 2 * s ≤ 128) × (at + s ≤ length to.old) }
     ensures { Split.RowDone (field_of prime) (Split.joined (felt prime) from.now s x a) to.old at s to.new }
 {
-    let mut r = 0;
-    while r < s {
+    for r in 0..s {
         to[at + r] = felt::add(prime, from[a + r], felt::mul(prime, x, from[a + s + r]));
-        r += 1;
     }
 }
 
@@ -106,11 +102,9 @@ fn halved(prime: Prime, from: &[u64; 128], factors: &[u64; 128], s: usize, n: us
     ensures { Split.Halved (felt prime) from.now factors.now s n result × Split.LowTable (field_of prime) result }
 {
     let mut to = [0u64; 128];
-    let mut j = 0;
-    while j < 2 * n {
+    for j in 0..2 * n {
         let a = round(n, j) * (2 * s);
         join_row(prime, from, a, factors[j * s], s, &mut to, j * s);
-        j += 1;
     }
     to
 }
@@ -124,10 +118,11 @@ fn sums(prime: Prime, col: &[u64]) -> [u64; 128]
     let mut table = copied(col);
     let mut s = col.len();
     let mut n = 1;
+    // A while: s falls by half.
     while 1 < s {
-        s = s / 2;
+        s /= 2;
         table = halved(prime, &table, &factors, s, n);
-        n = 2 * n;
+        n *= 2;
     }
     table
 }
@@ -140,38 +135,24 @@ pub fn dense(prime: Prime, col: &[u64]) -> [u64; 128]
     let scale = size_inverse(prime, col);
     let sums = sums(prime, col);
     let mut coefficients = [0u64; 128];
-    let mut j = 0;
-    while j < col.len() {
+    for j in 0..col.len() {
         coefficients[j] = felt::mul(prime, sums[j], scale);
-        j += 1;
     }
     coefficients
 }
 
-// Appends place j to the first n words of a store unless v is 0; answers how many there are then.
-fn with_place(store: &mut [u64], n: usize, j: usize, v: u64) -> usize
-    requires { (n ≤ length store.old) × ((v ≡ 0 → ⊥) → n < length store.old) }
-    ensures { (take result store.new ≡ take n store.old ++ Arrays.placed j v) × (result ≤ length store.old) }
+// The places of a column's nonzero entries.
+pub fn support(col: &[u64]) -> ArrayVec<u64, MOST_TERMS>
+    requires { length (Columns.support col.now) ≤ MOST_TERMS }
+    ensures { result.items ≡ Columns.support col.now }
 {
-    if v == 0 {
-        return n;
+    let mut places = ArrayVec::new();
+    for (j, v) in col.iter().enumerate() {
+        if *v != 0 {
+            places.push(j as u64);
+        }
     }
-    store[n] = j as u64;
-    n + 1
-}
-
-// Writes the places of a column's nonzero entries to a store; answers their number.
-pub fn support(col: &[u64], store: &mut [u64]) -> usize
-    requires { length (Columns.support col.now) ≤ length store.old }
-    ensures { (take result store.new ≡ Columns.support col.now) × (result ≤ length store.old) }
-{
-    let mut n = 0;
-    let mut j = 0;
-    while j < col.len() {
-        n = with_place(store, n, j, col[j]);
-        j += 1;
-    }
-    n
+    places
 }
 
 // The powers base, base^2, base^4, .. below base^(2^log), then 0.
@@ -181,42 +162,36 @@ fn squares(prime: Prime, base: u64, log: usize) -> [u64; 7]
 {
     let mut row = [0u64; 7];
     let mut power = base;
-    let mut i = 0;
-    while i < log {
+    for i in 0..log {
         row[i] = power;
         power = felt::mul(prime, power, power);
-        i += 1;
     }
     row
 }
 
 // The twiddles of a sparse column's terms, at these places.
-pub fn sparse_twiddles(prime: Prime, col: &[u64], places: &[u64]) -> [[u64; 7]; 11]
+pub fn sparse_twiddles(prime: Prime, col: &[u64], places: &[u64]) -> [[u64; 7]; MOST_TERMS]
     requires { ColumnPromises.Column (modulus_of prime) col.now × Arrays.Places col.now places.now }
     ensures { result ≡ Arrays.sparse_twiddles (field_of prime) col.now }
 {
     let step = root_inverse(prime, col);
     let log = columns::log_length(col);
-    let mut rows = [[0u64; 7]; 11];
-    let mut k = 0;
-    while k < places.len() {
-        rows[k] = squares(prime, felt::pow(prime, step, places[k]), log);
-        k += 1;
+    let mut rows = [[0u64; 7]; MOST_TERMS];
+    for (k, place) in places.iter().enumerate() {
+        rows[k] = squares(prime, felt::pow(prime, step, *place), log);
     }
     rows
 }
 
 // The scaled values of a sparse column's terms, at these places.
-pub fn sparse_values(prime: Prime, col: &[u64], places: &[u64]) -> [u64; 11]
+pub fn sparse_values(prime: Prime, col: &[u64], places: &[u64]) -> [u64; MOST_TERMS]
     requires { ColumnPromises.Column (modulus_of prime) col.now × Arrays.Places col.now places.now }
     ensures { result ≡ Arrays.sparse_values (field_of prime) col.now }
 {
     let scale = size_inverse(prime, col);
-    let mut values = [0u64; 11];
-    let mut k = 0;
-    while k < places.len() {
-        values[k] = felt::mul(prime, col[places[k] as usize], scale);
-        k += 1;
+    let mut values = [0u64; MOST_TERMS];
+    for (k, place) in places.iter().enumerate() {
+        values[k] = felt::mul(prime, col[*place as usize], scale);
     }
     values
 }

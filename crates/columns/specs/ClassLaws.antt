@@ -1,10 +1,10 @@
 -- A column's classes: its values, the dominant one, and the coefficients that an offset leaves.
 use Prim.Native.Nat.{ℕ, zero, suc, ◌+◌, ◌*◌, ◌-◌, ◌≤◌, ◌<◌}
-use Rattle.std.specs.Prelude.{Bool, ◌≡◌, leb, ltb, eqb, get_or, take, drop, set}
+use Rattle.std.specs.Prelude.{Bool, ◌≡◌, leb, ltb, eqb, get_or, drop}
 use Rattle.std.proofs.Math.Bool.{true, false, cond}
 use mathlib.Core.List.{List, [], ◌∷◌, ◌++◌, append-nil, append_assoc}
 use Rattle.std.proofs.Math.Path.{refl, ap}
-use Rattle.std.proofs.Common.{sym, ◌∙◌, arith, drop_of_length-le, drop-cons, take-suc-set}
+use Rattle.std.proofs.Common.{sym, ◌∙◌, arith, drop_of_length-le, drop-cons}
 use Rattle.std.proofs.Math.Numerals.{add-one}
 use borrow.Author.Tests.{eq-eqb, ne_eqb, eqb-true, eqb-false, ltb-true, lt-ltb, le-ltb, le-leb}
 use Rattle.std.proofs.Math.ListN.{length}
@@ -16,7 +16,7 @@ use Rattle.std.proofs.lemmas.Bool.{not-true, not-false}
 use Rattle.std.proofs.lemmas.List.{get_or_default}
 use Rattle.std.proofs.lemmas.List.Recursion.{is_count_by}
 use Rattle.columns.specs.CountLaws.{one_more, among_count}
-use Rattle.columns.specs.Columns.{count, with_new, values_from, values, weight, heaviest, dominant, is_scaled, scalings, others, combination_cost, offset, equal_entries, gain, standalone}
+use Rattle.columns.specs.Columns.{count, with_new, values_from, values, weight, heaviest, dominant, is_scaled, scalings, others, combination_cost, offset}
 use Rattle.columns.specs.Prepare.{all_below}
 
 -- entries below m
@@ -172,15 +172,15 @@ module _ (m d : ℕ) (big : 1 < m) where
   unfolding values scalings all_below
   constants c e = fresh_values [] (scalings m d (values_from [] c)) (fresh_scaled [] (values_from [] c) refl (below_from m [] c refl e) (fresh_from [] c tt))
 
--- a store whose first n words are the values found
-module _ (s : List ℕ) (n v : ℕ) (h : n < length s) where
-  pub new_none : list_any (λ x. eqb x v) (take n s) ≡ true → take n s ≡ with_new (take n s) v
+-- one more value
+module _ (vs : List ℕ) (v : ℕ) where
+  pub new_none : list_any (λ x. eqb x v) vs ≡ true → vs ≡ with_new vs v
   unfolding with_new
-  new_none e = rw (not-true (eqb (count v (take n s)) 0) (sym (among_count v (take n s)) ∙ e))
+  new_none e = rw (not-true (eqb (count v vs) 0) (sym (among_count v vs) ∙ e))
 
-  pub new_one : list_any (λ x. eqb x v) (take n s) ≡ false → take (n + 1) (set s n v) ≡ with_new (take n s) v
+  pub new_one : list_any (λ x. eqb x v) vs ≡ false → vs ++ (v ∷ []) ≡ with_new vs v
   unfolding with_new
-  new_one e = rw (not-false (eqb (count v (take n s)) 0) (sym (among_count v (take n s)) ∙ e), add-one n) (take-suc-set s n v h)
+  new_one e = rw (not-false (eqb (count v vs) 0) (sym (among_count v vs) ∙ e))
 
 -- a column's cost in basis, where n classes are scaled
 module _ (m : ℕ) (c vs : List ℕ) (d n k : ℕ) (big : 1 < m) (low : all_below m c ≡ true) (ev : vs ≡ values c) (en : n ≡ length (scalings m d vs)) (ek : k ≡ others c d - 1) where
@@ -210,15 +210,6 @@ module _ (m : ℕ) (c vs : List ℕ) (d a b : ℕ) (ev : vs ≡ values c) (ed : 
 
 pub dominant_below : (m : ℕ) (c vs : List ℕ) (d : ℕ) → 0 < m → all_below m c ≡ true → vs ≡ values c → d ≡ heaviest c 0 vs → d < m
 dominant_below m c vs d pos low ev ed = rw (ed, ev) (below_heaviest m c 0 (values c) pos (below_values m c low))
-
--- what a column saves
-pub gain_equal : (m : ℕ) (c : List ℕ) → others c (get_or c 0 0) ≡ 0 → 0 ≡ gain m c
-unfolding gain equal_entries
-gain_equal m c e = rw (eq-eqb _ _ e)
-
-pub gain_told : (m : ℕ) (c : List ℕ) (d s k : ℕ) → (others c (get_or c 0 0) ≡ 0 → ⊥) → d ≡ offset m c → s ≡ standalone c → k ≡ combination_cost m c d → s - k ≡ gain m c
-unfolding gain equal_entries
-gain_told m c d s k n ed es ek = rw (ne_eqb _ _ n, ← ed, ← es, ← ek)
 
 -- a column's cost in basis, and its offset
 pub ruleset costs = (below_values, all_below_is, cost_zero, cost_offset)

@@ -52,20 +52,7 @@ gain_small m c h =
     cond_elim (λ n. n ≤ 4096) (equal_entries c) 0 (standalone c - combination_cost m c (offset m c)) (λ _. omega arith)
     (λ _. le_trans (sub-le (standalone c) (combination_cost m c (offset m c))) (standalone_small c h))
 
--- what the code works out, from what its parts say
-module _ (c : List ℕ) (t L s : ℕ) (et : t ≡ nonzero c) (eL : L ≡ log_length c) (es : s ≡ sparse_ops t L) where
-  pub sparse_told : (d : ℕ) → d ≡ dense_ops (length c) → (t ≡ 0 → ⊥) → ltb s d ≡ is_sparse c
-  unfolding is_sparse
-  sparse_told d ed n = rw (← et, ← eL, ne_eqb t 0 n, es, ed)
-
-  pub standalone_sparse : is_sparse c ≡ true → s + 2 * (t + L) ≡ standalone c
-  unfolding standalone
-  standalone_sparse e = rw (e, ← et, ← eL, es)
-
-pub standalone_dense : (c : List ℕ) (d : ℕ) → d ≡ dense_ops (length c) → is_sparse c ≡ false → d + 2 * length c ≡ standalone c
-unfolding standalone
-standalone_dense c d ed e = rw (e, ed)
-
+-- the tests of a coefficient, one by one
 module _ (field : Field) (d v k : ℕ) (n : v ≡ d → ⊥) (ek : k ≡ field.coordinates.sub v d) where
   pub unit_told : k ≡ 1 → false ≡ is_scaled (modulus field) d v
   unfolding is_scaled

@@ -1,8 +1,9 @@
 -- What the functions on columns ask and say.
-use Rattle.std.specs.Prelude.{ℕ, zero, suc, ◌+◌, ◌<◌, ◌≤◌, Bool, true, cond, ◌&&◌, List, ◌≡◌, leb, ltb, eqb, get_or, length}
-use Rattle.columns.specs.Columns.{is_power, values, column, gain, is_among, saving, threshold}
+use Rattle.std.specs.Prelude.{ℕ, zero, suc, ◌+◌, ◌<◌, ◌≤◌, true, cond, List, ◌≡◌, eqb, get_or, length}
+use Rattle.columns.specs.Columns.{is_power, values, column, gain, is_among, saving}
 use Rattle.columns.specs.Prepare.{total, columns, all_below, most_columns}
-use Rattle.std.specs.Prelude.{Result, Ok, Err}
+use Rattle.std.specs.Prelude.{Result, Ok, Err, sum, map, filter}
+use Rattle.std.specs.List.{zip}
 use Rattle.dag.specs.Arrays.{up_to, padded}
 use Rattle.dag.specs.Refusals.{Checked}
 use Rattle.dag.specs.declared.Refusal.{Refusal}
@@ -54,16 +55,11 @@ pub record Small (ls each : List ℕ) : Type 0 where
   pub room : length ls ≤ length each
   pub small : (j : ℕ) → j < length ls → get_or each j 0 ≤ 4096
 
--- the savings of period P in the first n columns, where each adds `each`
+-- what the columns of period P add, where each adds `each`
+abbrev pub added : List ℕ → List ℕ → ℕ → ℕ
+added ls each P = sum (map (λ (p : ℕ × ℕ). p.1) (filter (λ (p : ℕ × ℕ). eqb p.0 P) (zip ls each)))
+
+-- the same of the first n columns
 unfoldable pub savings_of : List ℕ → List ℕ → ℕ → ℕ → ℕ
 savings_of ls each P zero = 0
 savings_of ls each P (suc n) = savings_of ls each P n + cond (eqb (get_or ls n 0) P) (get_or each n 0) 0
-
-unfoldable pub over : List ℕ → List ℕ → ℕ → Bool
-over ls each P = leb 2 P && ltb (threshold P) (savings_of ls each P (length ls))
-
--- columns that passed, with what they save
-pub record Weighed (m : ℕ) (ls es gs each : List ℕ) : Type 0 where
-  pub tested : Tested m ls es
-  pub gained : gs ≡ gains m (columns ls es)
-  pub saved : each ≡ savings_each m (columns ls es)

@@ -1,5 +1,5 @@
 -- Savings and forms, from what is worked out for each column.
-use Prim.Native.Nat.{ℕ, zero, suc, ◌+◌, ◌*◌, ◌≤◌, ◌<◌}
+use Prim.Native.Nat.{ℕ, zero, suc, ◌+◌, ◌*◌, ◌^◌, ◌≤◌, ◌<◌}
 use Rattle.std.specs.Prelude.{Bool, ◌&&◌, List, [], ◌∷◌, ◌≡◌, leb, ltb, eqb, get_or, length, sum, map, filter}
 use Rattle.std.specs.List.{zip}
 use Rattle.std.proofs.lemmas.List.Sums.{sum_by-cons}
@@ -11,7 +11,7 @@ use Rattle.dag.specs.CaseLaws.{cond_elim}
 use Rattle.columns.specs.Columns.{column, gain, is_among, saving, savings, goes_over, is_sparse, form}
 use Rattle.columns.specs.Prepare.{columns, most_columns}
 use Rattle.dag.specs.Arrays.{up_to}
-use Rattle.columns.specs.Promises.{Handed, gains, savings_each, counted, Small, savings_of}
+use Rattle.columns.specs.Promises.{Handed, added, gains, savings_each, counted, Small, savings_of}
 use Rattle.columns.specs.ColumnLaws.{length_columns, column_length}
 use Rattle.dag.specs.ArrayLaws.{length_up_to, length_padded, get_or_filled}
 use Rattle.columns.specs.CostLaws.{gain_small}
@@ -20,15 +20,12 @@ use Rattle.columns.specs.declared.Form.TheVariants.{Sparse, Dense, Basis}
 
 -- the savings of period P, as a sum over the columns
 module _ (P : ℕ) where
-  abbrev pub Savings : List ℕ → List ℕ → ℕ
-  Savings ls each = sum (map (λ (p : ℕ × ℕ). p.1) (filter (λ (p : ℕ × ℕ). eqb p.0 P) (zip ls each)))
-
   savings_first : (l e : ℕ) (ls each : List ℕ) (n : ℕ) → savings_of (l ∷ ls) (e ∷ each) P (suc n) ≡ cond (eqb l P) e 0 + savings_of ls each P n
   unfolding savings_of
   savings_first l e ls each zero = omega arith
   savings_first l e ls each (suc n) = rw (savings_first l e ls each n) (omega arith)
 
-  pub savings_zip : (ls each : List ℕ) → length ls ≤ length each → savings_of ls each P (length ls) ≡ Savings ls each
+  savings_zip : (ls each : List ℕ) → length ls ≤ length each → savings_of ls each P (length ls) ≡ added ls each P
   unfolding savings_of
   savings_zip [] each h = refl
   savings_zip (l ∷ ls) [] h = absurd (omega arith)
@@ -46,7 +43,7 @@ module _ (P : ℕ) where
       (λ _. omega (arith, h n (omega arith), savings_le ls each n (λ j k. h j (omega arith))))
       (λ _. omega (arith, savings_le ls each n (λ j k. h j (omega arith))))
 
-  pub savings_fit : (ls each : List ℕ) → Small ls each → Savings ls each ≤ 65536
+  pub savings_fit : (ls each : List ℕ) → Small ls each → added ls each P < 2 ^ 64
   savings_fit ls each s = rw (sym (savings_zip ls each s.room)) (omega (arith, s.few, savings_le ls each (length ls) s.small))
 
 -- what each column saves
@@ -70,10 +67,6 @@ module _ (m : ℕ) (ls es : List ℕ) (h : Handed ls es) where
   unfolding savings_each
   length_each = length_padded 0 most_columns (up_to (saving m (columns ls es)) (length (columns ls es))) (rw (length_up_to (saving m (columns ls es)) (length (columns ls es)), length_columns ls es) h.few)
 
-  pub length_gains : length (gains m (columns ls es)) ≡ most_columns
-  unfolding gains
-  length_gains = length_padded 0 most_columns (up_to (λ j. gain m (column (columns ls es) j)) (length (columns ls es))) (rw (length_up_to (λ j. gain m (column (columns ls es) j)) (length (columns ls es)), length_columns ls es) h.few)
-
   saving_small : (j : ℕ) → j < length ls → saving m (columns ls es) j ≤ 4096
   unfolding saving
   saving_small j k =
@@ -94,8 +87,8 @@ module _ (m : ℕ) (ls es : List ℕ) (h : Handed ls es) where
   savings_are each P (suc n) e k =
       rw (savings_are each P n e (omega arith), column_length ls es n h.enough (omega arith), e, saving_at n (omega arith))
 
-  pub savings_is : (each : List ℕ) (P s : ℕ) → each ≡ savings_each m (columns ls es) → s ≡ savings_of ls each P (length ls) → s ≡ savings m (columns ls es) P (length (columns ls es))
-  savings_is each P s e q = q ∙ (savings_are each P (length ls) e (omega arith) ∙ ap (savings m (columns ls es) P) (sym (length_columns ls es)))
+  pub savings_is : (each : List ℕ) (P s : ℕ) → each ≡ savings_each m (columns ls es) → s ≡ added ls each P → s ≡ savings m (columns ls es) P (length (columns ls es))
+  savings_is each P s e q = q ∙ sym (savings_zip P ls each (small_each each e).room) ∙ (savings_are each P (length ls) e (omega arith) ∙ ap (savings m (columns ls es) P) (sym (length_columns ls es)))
 
 -- a period that goes over
 pub goes_short : (m : ℕ) (cs : List (List ℕ)) (P : ℕ) → P < 2 → leb 2 P ≡ goes_over m cs P
@@ -131,6 +124,6 @@ module _ (m : ℕ) (cs : List (List ℕ)) (j : ℕ) where
   form_dense e off = rw (off, e)
 
 -- a period that goes over, and a column's form
-pub ruleset going_over = (small_each, savings_is, goes_short, goes_told)
+pub ruleset going_over = (small_each, savings_fit, savings_is, goes_short, goes_told)
 
 pub ruleset forms = (column_short, gained_at, form_basis, form_sparse, form_dense, apart_alone, apart_dear)

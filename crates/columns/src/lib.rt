@@ -9,6 +9,7 @@ ghost use Rattle.columns.specs.Prepare as Prepare;
 ghost use Rattle.columns.specs.Promises as Promises;
 ghost use Rattle.dag.specs.Arrays.{up_to, padded};
 
+use arrayvec::ArrayVec;
 use dag::Refusal;
 use field::{Prime, felt};
 
@@ -17,6 +18,9 @@ const MOST_COLUMNS: usize = 16;
 
 // The longest column has 2^7 entries.
 const MOST_LOG: usize = 7;
+
+// So many entries the longest column has.
+pub const MOST_ENTRIES: usize = 128;
 
 // How a column is evaluated in the circuit.
 #[derive(Clone, Copy, PartialEq, Eq)]
@@ -106,19 +110,18 @@ fn standalone(col: &[u64]) -> usize
     dense_ops(col.len()) + 2 * col.len()
 }
 
-// Writes a column's values, each once in order of their first places, to a store; answers their number.
-pub fn values(col: &[u64], store: &mut [u64]) -> usize
-    requires { length col.now ≤ length store.old }
-    ensures { (take result store.new ≡ Spec.values col.now) × (result ≤ length col.now) }
+// A column's values, each once in order of their first places.
+pub fn values(col: &[u64]) -> ArrayVec<u64, MOST_ENTRIES>
+    requires { length col.now ≤ MOST_ENTRIES }
+    ensures { result.items ≡ Spec.values col.now }
 {
-    let mut n = 0;
+    let mut values = ArrayVec::new();
     for v in col {
-        if !store[..n].contains(v) {
-            store[n] = *v;
-            n += 1;
+        if !values.contains(v) {
+            values.push(*v);
         }
     }
-    n
+    values
 }
 
 // How often v stands in a list.
@@ -199,11 +202,9 @@ fn gain(prime: Prime, col: &[u64]) -> usize
     if others(col, col[0]) == 0 {
         return 0;
     }
-    let mut store = [0u64; 128];
-    let n = values(col, &mut store);
-    let classes = &store[..n];
-    let d = offset(prime, col, classes);
-    standalone(col).saturating_sub(combination_cost(prime, col, classes, d))
+    let values = values(col);
+    let d = offset(prime, col, &values);
+    standalone(col).saturating_sub(combination_cost(prime, col, &values, d))
 }
 
 // How many entries columns of these lengths have.
@@ -305,7 +306,8 @@ impl<'a> Columns<'a> {
         requires { j < length self.now.lengths.now }
         ensures { result ≡ Spec.is_among (Prepare.columns self.now.lengths.now self.now.entries.now) j j }
     {
-        (0..j).any(|i| self.column(i) == self.column(j))
+        let col = self.column(j);
+        (0..j).any(|i| self.column(i) == col)
     }
 
     // What column j saves in basis.
@@ -389,14 +391,14 @@ impl<'a> Weighed<'a> {
 
 // The savings of a period, where each column adds `each`.
 fn savings(lengths: &[u64], each: &[u64], period: u64) -> u64
-    requires { Promises.Small lengths.now each.now }
-    ensures { result ≡ Promises.savings_of lengths.now each.now period (length lengths.now) }
+    requires { Promises.added lengths.now each.now period < 2 ^ 64 }
+    ensures { result ≡ Promises.added lengths.now each.now period }
 {
     lengths
         .iter()
-        .zip(each.iter())
-        .filter(|p| *p.0 == period)
-        .map(|p| *p.1)
+        .zip(each)
+        .filter(|(length, _)| **length == period)
+        .map(|(_, saving)| *saving)
         .sum()
 }
 

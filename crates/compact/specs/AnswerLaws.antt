@@ -1,5 +1,5 @@
 -- Where Compact accepts: what its result store holds, from its answered count and root.
-use Rattle.std.specs.Prelude.{ℕ, ◌≤◌, ◌<◌, List, [], ◌∷◌, ◌↔◌, ◌≡◌, get_or, length}
+use Rattle.std.specs.Prelude.{ℕ, ◌≤◌, ◌<◌, List, [], ◌∷◌, Ok, ◌↔◌, ◌≡◌, get_or, length}
 use Rattle.std.proofs.Common.{arith}
 use Rattle.field.specs.Fields.{Field, Within}
 use Rattle.ring.specs.Ring.{Ops}
@@ -12,7 +12,6 @@ use Rattle.dag.specs.Check.{list_check}
 use Rattle.dag.specs.PassLaws.{Rooted, rooted}
 use Rattle.dag.specs.StoreLaws.{sound_well_formed}
 use Rattle.dag.specs.WellFormed.{WellFormed}
-use Rattle.dag.specs.declared.Checked.TheVariants.{Good}
 use Rattle.meaning.specs.Values.{value}
 use Rattle.compact.specs.Reach.{Reach}
 use Rattle.compact.specs.Reach.◌∈◌.{here}
@@ -27,7 +26,7 @@ use Rattle.compact.specs.Promises.{AllBelow}
 use Rattle.compact.specs.declared.Kept.{Kept}
 
 module _ (field : Field) where
-  module _ (s : View) (n at-root : ℕ) (result : List ℕ) (e : compact_check field s n at-root (interleaved result).room ≡ Good) where
+  module _ (s : View) (n at-root : ℕ) (result : List ℕ) (e : compact_check field s n at-root (interleaved result).room ≡ Ok tt) where
     -- the answer and the result store
     abbrev kept : Kept
     kept = kept_of (compacted s n (at-root ∷ []))
@@ -57,7 +56,7 @@ module _ (field : Field) where
     answer_list = rw store_is (nodes_stored result (compacted s n (at-root ∷ [])).list)
 
     -- it passes the list check
-    pub answer_passes : list_check field.bounds (interleaved store) kept.count new_root ≡ Good
+    pub answer_passes : list_check field.bounds (interleaved store) kept.count new_root ≡ Ok tt
     unfolding kept_of compacted compact
     answer_passes =
         rw store_is

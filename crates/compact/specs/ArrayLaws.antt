@@ -19,8 +19,8 @@ use Rattle.compact.specs.Reach.{marked, sweep, marks}
 use Rattle.compact.specs.Reach.◌∈◌.{here, there}
 use Rattle.compact.specs.Compact.{rank, ranks, kept}
 use Rattle.compact.specs.OperandLaws.{operands_below}
-use Rattle.compact.specs.RankLaws.{rank_marked, rank_unmarked}
-use Rattle.compact.specs.ReachLaws.{Marked, length_marked, length_swept_at, swept_at, blank_marks}
+use Rattle.std.specs.Int.{from_bool}
+use Rattle.compact.specs.ReachLaws.{length_marked, length_swept_at, swept_at, blank_marks}
 use Rattle.compact.specs.Promises.{AllBelow}
 
 -- marks behind the places that are marked stay as they are
@@ -104,8 +104,10 @@ module _ (m : List Bool) (n v : ℕ) (e : v ≡ rank m n) where
       rw (add-one n, q, drop-cons d n 0 h, set_at (ranks m n) _ (drop (suc n) d) v n (length_ranks m n), e)
       (sym (append_snoc (ranks m n) (rank m n) (drop (suc n) d)))
 
-  pub rank_up : Marked m n → v + 1 ≡ rank m (n + 1)
-  rank_up h = rw (add-one n, add-one v, e) (sym (rank_marked m n h))
-
-  pub rank_stays : get_or m n false ≡ false → v ≡ rank m (n + 1)
-  rank_stays h = rw (add-one n, e) (sym (rank_unmarked m n h))
+  pub rank_next : (k : ℕ) → k ≡ from_bool (get_or m n false) → v + k ≡ rank m (n + 1)
+  unfolding rank
+  rank_next k h = rw (add-one n, e, h) (ap (λ u. rank m n + u) (bit (get_or m n false)))
+    where
+      bit : (b : Bool) → from_bool b ≡ cond b 1 0
+      bit true = refl
+      bit false = refl

@@ -1,5 +1,5 @@
 -- From the marks in an array to the compacted list, and what Compact answers.
-use Rattle.std.specs.Prelude.{ℕ, ◌≤◌, ◌<◌, Bool, true, false, List, [], ◌∷◌, ◌++◌, map, ◌≡◌, length, drop, replicate}
+use Rattle.std.specs.Prelude.{ℕ, ◌≤◌, ◌<◌, Bool, false, List, [], ◌∷◌, ◌++◌, map, Ok, Err, ◌≡◌, length, drop, replicate}
 use Rattle.std.proofs.Common.{◌∙◌, arith}
 use Rattle.std.proofs.Math.Path.{ap}
 use Rattle.std.proofs.Math.ListN.{get_or}
@@ -8,18 +8,15 @@ use Rattle.field.specs.Fields.{Field, Within}
 use Rattle.dag.specs.View.{View, interleaved}
 use Rattle.dag.specs.Nodes.{most_records, nodes}
 use Rattle.dag.specs.NodeLaws.{length_nodes}
-use Rattle.dag.specs.Refusals.{is_refused}
 use Rattle.dag.specs.Roots.{roots_of, roots_from}
 use Rattle.dag.specs.RootLaws.{roots_from_lem, roots_agree, inside_one}
 use Rattle.dag.specs.Check.{list_check}
-use Rattle.dag.specs.CheckLaws.{then_good, refused_is}
+use Rattle.dag.specs.CheckLaws.{then_good}
 use Rattle.dag.specs.PassLaws.{room_enough, rooted}
 use Rattle.dag.specs.ViewLaws.{same_room}
 use Rattle.dag.specs.StoreLaws.{sound_well_formed}
 use Rattle.dag.specs.declared.Refusal.{Refusal}
 use Rattle.dag.specs.declared.Roots.{Roots}
-use Rattle.dag.specs.declared.Checked.{Checked}
-use Rattle.dag.specs.declared.Checked.TheVariants as Checked'
 use Rattle.compact.specs.Reach.{marked, sweep, marks}
 use Rattle.compact.specs.Compact.{rank, ranks, kept, compact}
 use Rattle.compact.specs.OperandLaws.{inside_below}
@@ -87,22 +84,18 @@ numbered s n roots m reach map after r g u fits er el ec ea es =
 module _ (field : Field) where
   module _ (s : View) (n root : ℕ) (result : List ℕ) where
     -- where Compact refuses
-    module _ (h : is_refused (compact_check field s n root (interleaved result).room) ≡ true) where
-      reason : (r : Refusal) × (compact_check field s n root (interleaved result).room ≡ Checked'.Refused r)
-      reason = refused_is (compact_check field s n root (interleaved result).room) h
-
-      pub answer_refused : (c : Checked) (roots : Roots) → c ≡ compact_check field s n root (interleaved result).room → roots ≡ roots_from []
-          → record { checked = c; count = 0; roots = roots } ≡ compact_answer field s n root (interleaved result).room
+    module _ (r : Refusal) (e : compact_check field s n root (interleaved result).room ≡ Err r) where
+      pub answer_refused : Err r ≡ compact_answer field s n root (interleaved result).room
       unfolding compact_answer
-      answer_refused c roots q e = rw (q, e, reason.1)
+      answer_refused = rw e
 
       pub result_refused : result ≡ compact_result field s n root result
       unfolding compact_result
-      result_refused = rw reason.1
+      result_refused = rw e
 
     -- where Compact accepts
-    module _ (e : compact_check field s n root (interleaved result).room ≡ Checked'.Good) where
-      pub tests : (list_check field.bounds s n root ≡ Checked'.Good) × (compact_stores n (interleaved result).room ≡ Checked'.Good)
+    module _ (e : compact_check field s n root (interleaved result).room ≡ Ok tt) where
+      pub tests : (list_check field.bounds s n root ≡ Ok tt) × (compact_stores n (interleaved result).room ≡ Ok tt)
       unfolding compact_check
       tests = then_good (list_check field.bounds s n root) (compact_stores n (interleaved result).room) e
 
@@ -120,17 +113,13 @@ module _ (field : Field) where
             (record { sound = (field.bounds, h.list.sound); inside = rw q (inside_one n root h.inside); fits = h.list.most }, rw roots_are room)
 
         module _ (k : Kept) (f : k ≡ kept_of (compacted s n (roots_of roots))) where
-          kept_is : k ≡ kept_of (compacted s n (root ∷ []))
-          kept_is = rw (f, roots_are)
-
-          pub answer_done : (c : Checked) → c ≡ compact_check field s n root (interleaved result).room
-              → record { checked = c; count = k.count; roots = k.roots } ≡ compact_answer field s n root (interleaved result).room
+          pub answer_done : Ok k ≡ compact_answer field s n root (interleaved result).room
           unfolding compact_answer
-          answer_done c g = rw (g, e, kept_is)
+          answer_done = rw (e, f, roots_are)
 
           count_is : k.count ≡ length (compacted s n (root ∷ [])).list
           unfolding kept_of
-          count_is = ap (λ k. k.count) kept_is
+          count_is = rw (f, roots_are)
 
           module _ (mid : List ℕ) (w : mid ≡ written result (compacted s n (roots_of roots)).list) where
             pub may_blank : k.count ≤ (interleaved mid).room

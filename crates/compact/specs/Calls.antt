@@ -1,17 +1,15 @@
--- Compact (document 01, 'Each call and when it says no'): the answer, and every word of the result store, on all inputs.
-use Rattle.std.specs.Prelude.{ℕ, List, [], ◌∷◌, length}
+-- Compact: the answer, and every word of the result store, on all inputs.
+use Rattle.std.specs.Prelude.{ℕ, List, [], ◌∷◌, Result, Ok, Err, length}
 use Rattle.field.specs.Fields.{Field}
 use Rattle.dag.specs.View.{View, interleaved}
 use Rattle.dag.specs.Nodes.{nodes}
 use Rattle.dag.specs.Store.{stored}
-use Rattle.dag.specs.Refusals.{◌then◌, unless_refused}
+use Rattle.dag.specs.Refusals.{Checked, ◌then◌, unless_refused}
 use Rattle.dag.specs.Roots.{roots_from}
 use Rattle.dag.specs.Check.{room_check, list_check}
-use Rattle.dag.specs.declared.Checked.{Checked}
-use Rattle.dag.specs.declared.Checked.TheVariants.{Good, Refused}
+use Rattle.dag.specs.declared.Refusal.{Refusal}
 use Rattle.compact.specs.Compact.{compact, Rooted}
 use Rattle.compact.specs.declared.Kept.{Kept}
-use Rattle.compact.specs.declared.CompactAnswer.{CompactAnswer}
 
 -- the list that a store holds, compacted to what its roots reach
 unfoldable pub compacted : View → ℕ → List ℕ → Rooted
@@ -31,12 +29,9 @@ module _ (field : Field) where
   compact_check s n root result_room = list_check field.bounds s n root then compact_stores n result_room
 
   -- count and root
-  unfoldable pub compact_answer : View → ℕ → ℕ → ℕ → CompactAnswer
+  unfoldable pub compact_answer : View → ℕ → ℕ → ℕ → Result Kept Refusal
   compact_answer s n root result_room =
-      let k = kept_of (compacted s n (root ∷ [])) in
-      unless_refused (compact_check s n root result_room)
-      (λ r. record { checked = Refused r; count = 0; roots = roots_from [] })
-      (record { checked = Good; count = k.count; roots = k.roots })
+      unless_refused (compact_check s n root result_room) Err (Ok (kept_of (compacted s n (root ∷ []))))
 
   -- the compacted list, blanks behind it
   unfoldable pub compact_result : View → ℕ → ℕ → List ℕ → List ℕ

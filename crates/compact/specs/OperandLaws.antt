@@ -125,24 +125,23 @@ operands_renamed m (Mul a b) = refl
 operands_renamed m (Neg a) = refl
 
 -- a record's operands, by its kind
-pub add_operands : {x : NodeKind} {a b c d : ℕ} → x ≡ Add c d → a ≡ c → b ≡ d → operands x ≡ a ∷ b ∷ []
+pub two_operands : (x : NodeKind) (a b : ℕ) → (x ≡ Add a b) ⊎ ((x ≡ Sub a b) ⊎ (x ≡ Mul a b)) → operands x ≡ a ∷ b ∷ []
 unfolding operands
-add_operands e p q = rw (e, p, q)
+two_operands x a b (inl e) = rw e
+two_operands x a b (inr (inl e)) = rw e
+two_operands x a b (inr (inr e)) = rw e
 
-pub sub_operands : {x : NodeKind} {a b c d : ℕ} → x ≡ Sub c d → a ≡ c → b ≡ d → operands x ≡ a ∷ b ∷ []
+pub one_operand : {x : NodeKind} {a : ℕ} → x ≡ Neg a → operands x ≡ a ∷ []
 unfolding operands
-sub_operands e p q = rw (e, p, q)
+one_operand e = rw e
 
-pub mul_operands : {x : NodeKind} {a b c d : ℕ} → x ≡ Mul c d → a ≡ c → b ≡ d → operands x ≡ a ∷ b ∷ []
+pub no_operands : (x : NodeKind) → ((k : ℕ) × (x ≡ Input k)) ⊎ ((q : QuadFelt) × (x ≡ Constant q)) → operands x ≡ []
 unfolding operands
-mul_operands e p q = rw (e, p, q)
-
-pub neg_operands : {x : NodeKind} {a : ℕ} → x ≡ Neg a → operands x ≡ a ∷ []
-unfolding operands
-neg_operands e = rw e
+no_operands x (inl w) = rw w.1
+no_operands x (inr w) = rw w.1
 
 pub first_below : {n a : ℕ} {is : List ℕ} (ps : List ℕ) → ps ≡ a ∷ is → AllBelow n ps → a < n
 first_below {a = a} ps e h = h a (rw e here)
 
-pub second_below_lem : {n a b : ℕ} {is : List ℕ} (ps : List ℕ) → ps ≡ a ∷ b ∷ is → AllBelow n ps → b < n
-second_below_lem {b = b} ps e h = h b (rw e (there here))
+pub second_below : {n a b : ℕ} {is : List ℕ} (ps : List ℕ) → ps ≡ a ∷ b ∷ is → AllBelow n ps → b < n
+second_below {b = b} ps e h = h b (rw e (there here))

@@ -1,4 +1,4 @@
--- Which records a list's roots reach (document 01, 'Normalising'; `AceDag::compact`), over a list of roots.
+-- Which records a list's roots reach (`AceDag::compact`), over a list of roots.
 use Rattle.std.specs.Prelude.{ℕ, zero, suc, Bool, true, false, cond, List, [], ◌∷◌, get_or, length, replicate, set}
 use Rattle.dag.specs.Nodes.{at, operands}
 use Rattle.dag.specs.declared.NodeKind.{NodeKind}

@@ -12,7 +12,7 @@ ghost use Rattle.dag.specs.Store.{written};
 ghost use Rattle.compact.specs.Promises.{most_marks, Unmarked, Markable, Numbered, Writing, AllBelow};
 ghost use Rattle.compact.specs.Calls as Calls;
 
-use dag::{Checked, NodeKind, Roots};
+use dag::{FEW_RECORDS, MOST_RECORDS, NodeKind, Refusal, Roots};
 use field::Prime;
 
 // The most marks: one for each record of a round's list.
@@ -21,14 +21,6 @@ pub const MOST_MARKS: usize = 8192;
 // How many records are kept, and the roots' new places.
 #[derive(Clone, Copy)]
 pub struct Kept {
-    pub count: usize,
-    pub roots: Roots,
-}
-
-// Compact's answer: no records and no roots where it is refused.
-#[derive(Clone, Copy)]
-pub struct CompactAnswer {
-    pub checked: Checked,
     pub count: usize,
     pub roots: Roots,
 }
@@ -49,14 +41,13 @@ fn mark_operands(reachable: &mut [bool], x: NodeKind)
 }
 
 // Marks the roots.
+#[tactic(auto, using(crate::specs::LoopLaws::marked_turn), unfolding(crate::specs::Reach::marked, dag::specs::Roots::roots_of))]
 fn mark_roots(reachable: &mut [bool], roots: Roots)
     requires { Inside (length reachable.old) roots }
     ensures { reachable.new ≡ Reach.marked reachable.old (roots_of roots) }
 {
-    let mut j = 0;
-    while j < roots.count {
-        reachable[dag::root_at(roots, j)] = true;
-        j += 1;
+    for j in 0..roots.count {
+        reachable[roots.at(j)] = true;
     }
 }
 
@@ -66,9 +57,7 @@ fn mark_reachable(list: &[u64], n: usize, roots: Roots, reachable: &mut [bool])
     ensures { reachable.new ≡ Reach.sweep (Nodes.nodes (interleaved list.now) n) n (Reach.marked reachable.old (roots_of roots)) }
 {
     mark_roots(reachable, roots);
-    let mut i = n;
-    while 0 < i {
-        i -= 1;
+    for i in (0..n).rev() {
         if reachable[i] {
             mark_operands(reachable, dag::node_at(list, i));
         }
@@ -76,20 +65,16 @@ fn mark_reachable(list: &[u64], n: usize, roots: Roots, reachable: &mut [bool])
 }
 
 // Fills in the new places of the first n records, and answers how many of them are marked.
+#[tactic(auto, using(crate::specs::ArrayLaws::ranks_more, crate::specs::ArrayLaws::rank_next, crate::specs::RankLaws::rank_le), unfolding(crate::specs::Compact::rank, crate::specs::Compact::ranks))]
 fn number_marked(reachable: &[bool], n: usize, remap: &mut [u64]) -> usize
     requires { (n ≤ length reachable.now) × (n ≤ length remap.old) }
     ensures value { result ≡ Places.rank reachable.now n }
     ensures remap_after { remap.new ≡ Places.ranks reachable.now n ++ drop n remap.old }
 {
     let mut count = 0;
-    let mut i = 0;
-    while i < n {
-        let marked = reachable[i];
+    for i in 0..n {
         remap[i] = count as u64;
-        i += 1;
-        if marked {
-            count += 1;
-        }
+        count += usize::from(reachable[i]);
     }
     count
 }
@@ -99,16 +84,10 @@ fn write_marked(list: &[u64], n: usize, reachable: &[bool], remap: &[u64], res: 
     requires { Writing (interleaved list.now) n reachable.now remap.now (interleaved res.old).room }
     ensures { res.new ≡ written res.old (Places.kept (Nodes.nodes (interleaved list.now) n) reachable.now n) }
 {
-    let mut next = 0;
-    while next < n {
-        let i = next;
-        next += 1;
+    for i in 0..n {
         if reachable[i] {
-            dag::put_node(
-                res,
-                dag::mapped(remap, i),
-                dag::renamed(remap, dag::node_at(list, i)),
-            );
+            let x = dag::node_at(list, i).renamed(remap);
+            dag::put_node(res, dag::mapped(remap, i), x);
         }
     }
 }
@@ -141,68 +120,72 @@ pub fn write_numbered(
     ensures { (result ≡ (Calls.kept_of (Calls.compacted (interleaved list.now) n (roots_of roots))).roots) × (res.new ≡ written res.old (Calls.compacted (interleaved list.now) n (roots_of roots)).list) }
 {
     write_marked(list, n, reachable, remap, res);
-    dag::renamed_roots(remap, roots)
+    roots.renamed(remap)
 }
 
-// Writes what the roots reach, renamed, to the start of the result store, with a store for the new places lent.
-fn compact_in(list: &[u64], n: usize, roots: Roots, remap: &mut [u64], res: &mut [u64]) -> Kept
-    requires { Markable (interleaved list.now) n roots most_marks × (n ≤ length remap.old) × (length (Calls.compacted (interleaved list.now) n (roots_of roots)).list ≤ (interleaved res.old).room) }
+// Writes what the roots reach, renamed, to the start of the result store; at most so many records.
+#[tactic(auto, unfolding(crate::specs::Calls::kept_of))]
+fn compact_within<const RECORDS: usize>(
+    list: &[u64],
+    n: usize,
+    roots: Roots,
+    res: &mut [u64],
+) -> Kept
+    requires { Markable (interleaved list.now) n roots most_marks × (n ≤ RECORDS) × (RECORDS ≤ Nodes.most_records) × (length (Calls.compacted (interleaved list.now) n (roots_of roots)).list ≤ (interleaved res.old).room) }
     ensures value { result ≡ Calls.kept_of (Calls.compacted (interleaved list.now) n (roots_of roots)) }
     ensures res_after { res.new ≡ written res.old (Calls.compacted (interleaved list.now) n (roots_of roots)).list }
 {
     let mut reachable = [false; MOST_MARKS];
-    let count = number_reachable(list, n, roots, &mut reachable, remap);
+    let mut remap = [0u64; RECORDS];
+    let count = number_reachable(list, n, roots, &mut reachable, &mut remap);
     Kept {
         count,
-        roots: write_numbered(list, n, roots, &reachable, remap, res),
+        roots: write_numbered(list, n, roots, &reachable, &remap, res),
     }
 }
 
-// The same, with a store for the new places of the list's length.
+// The same, with room for the new places by the list's length.
 fn compact_sized(list: &[u64], n: usize, roots: Roots, res: &mut [u64]) -> Kept
     requires markable { Markable (interleaved list.now) n roots Nodes.most_records }
     requires roots_len_bound { length (Calls.compacted (interleaved list.now) n (roots_of roots)).list ≤ (interleaved res.old).room }
     ensures value { result ≡ Calls.kept_of (Calls.compacted (interleaved list.now) n (roots_of roots)) }
     ensures res_after { res.new ≡ written res.old (Calls.compacted (interleaved list.now) n (roots_of roots)).list }
 {
-    if n <= dag::FEW_RECORDS {
-        let mut few = [0u64; dag::FEW_RECORDS];
-        return compact_in(list, n, roots, &mut few, res);
+    if n <= FEW_RECORDS {
+        compact_within::<FEW_RECORDS>(list, n, roots, res)
+    } else {
+        compact_within::<MOST_RECORDS>(list, n, roots, res)
     }
-    let mut remap = [0u64; dag::MOST_RECORDS];
-    compact_in(list, n, roots, &mut remap, res)
 }
 
 // Compact's tests.
-fn compact_check(prime: Prime, list: &[u64], n: usize, root: usize, result_room: usize) -> Checked
+#[tactic(auto, unfolding(crate::specs::Calls::compact_check))]
+fn compact_check(
+    prime: Prime,
+    list: &[u64],
+    n: usize,
+    root: usize,
+    result_room: usize,
+) -> Result<(), Refusal>
     ensures { result ≡ Calls.compact_check (field_of prime) (interleaved list.now) n root result_room }
 {
-    let checked = dag::list_check(prime, list, n, root);
-    if dag::is_refused(checked) {
-        return checked;
-    }
+    dag::list_check(prime, list, n, root)?;
     dag::room_check(n, result_room)
 }
 
 // Compact: the records that the root reaches, in order, into the result store.
-pub fn compact(prime: Prime, list: &[u64], n: usize, root: usize, res: &mut [u64]) -> CompactAnswer
+pub fn compact(
+    prime: Prime,
+    list: &[u64],
+    n: usize,
+    root: usize,
+    res: &mut [u64],
+) -> Result<Kept, Refusal>
     ensures answer { result ≡ Calls.compact_answer (field_of prime) (interleaved list.now) n root (interleaved res.old).room }
     ensures store { res.new ≡ Calls.compact_result (field_of prime) (interleaved list.now) n root res.old }
 {
-    let checked = compact_check(prime, list, n, root, dag::room(res));
-    if dag::is_refused(checked) {
-        return CompactAnswer {
-            checked,
-            count: 0,
-            roots: dag::no_roots(),
-        };
-    }
-    let kept = compact_sized(list, n, dag::one_root(root), res);
+    compact_check(prime, list, n, root, dag::room(res))?;
+    let kept = compact_sized(list, n, Roots::one(root), res);
     dag::blank_records(res, kept.count);
-    let roots = kept.roots;
-    CompactAnswer {
-        checked,
-        count: kept.count,
-        roots,
-    }
+    Ok(kept)
 }

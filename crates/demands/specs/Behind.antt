@@ -14,14 +14,13 @@ use Rattle.dag.specs.Nodes.{nodes, words_of}
 use Rattle.dag.specs.Refusals.{first_refused, ◌then◌, Checked}
 use Rattle.dag.specs.Store.{front, Alike}
 use Rattle.builder.specs.Calls.{has_room, step_answer, step_store}
-use Rattle.builder.specs.declared.StepAnswer.TheVariants.{Done}
 use Rattle.evaluate.specs.Entries.{entry_check, entries_check, entry_of}
 use Rattle.evaluate.specs.Calls.{entry_words, element_of, given, evaluate_check, evaluate_answer}
 use Rattle.columns.specs.Columns.{log_within}
 use Rattle.periodic.specs.Periodic.{build_periodic_nodes}
 use Rattle.columns.specs.Prepare.{total, columns, prepare_check, prepare}
 use Rattle.lower.specs.Lower.{lower_check, lowered, whole_check, lower_answer, lower_result, lower_work, lower_places}
-use Rattle.demands.specs.Stepping.{begins}
+use Rattle.demands.specs.Stepping.{Done, begins}
 use Rattle.demands.specs.Views.{same_stepped, step_answer_lem}
 
 -- two list stores, the first with room for n records, that begin with the same n records are alike, whatever lies behind them

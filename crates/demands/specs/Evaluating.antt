@@ -1,6 +1,6 @@
 -- Where Evaluate accepts a list, it accepts what Normalise, Compact or Build made of it, and answers the same.
 use Prim.Native.Nat.{ℕ, zero, suc, ◌<◌, ◌≤◌}
-use Rattle.std.specs.Prelude.{true, List, [], ◌∷◌, ◌≡◌, get_or, length, Option}
+use Rattle.std.specs.Prelude.{true, List, [], ◌∷◌, ◌≡◌, get_or, length, Option, Result, Ok, Err}
 use Rattle.std.proofs.Math.Path.{refl}
 use Rattle.std.proofs.Common.{sym, ◌∙◌, ap, arith}
 use Rattle.field.specs.Fields.{Field, Low, element_laws}
@@ -18,7 +18,6 @@ use Rattle.dag.specs.WellFormed.{WellFormed}
 use Rattle.dag.specs.declared.NodeKind.{NodeKind}
 use Rattle.dag.specs.declared.NodeKind.TheVariants.{Input, Constant, Add, Sub, Mul, Neg}
 use Rattle.dag.specs.declared.Refusal.TheVariants.{Unassigned}
-use Rattle.dag.specs.declared.Checked.TheVariants as Checked'
 use Rattle.meaning.specs.Values.{value}
 use Rattle.builder.specs.Steps.{Replay, place_of, replay}
 use Rattle.builder.specs.ReplayLaws.{Replayed, replay_replayed, replay_short, replay_faithful}
@@ -27,10 +26,10 @@ use Rattle.dag.specs.WordLaws.{nodes_stored, stored_pass}
 use Rattle.compact.specs.Calls.{compacted, kept_of, compact_check, compact_result}
 use Rattle.compact.specs.AnswerLaws as Compacted
 use Rattle.evaluate.specs.Entries.{entries_check, entry_of, is_found, has_entry, inputs_check}
-use Rattle.evaluate.specs.Calls.{entry_words, given, refused, evaluate_check, evaluate_answer}
+use Rattle.evaluate.specs.Calls.{entry_words, given, evaluate_check, evaluate_answer}
 use Rattle.evaluate.specs.CallLaws.{entries_pass}
 use Rattle.evaluate.specs.ValueStepLaws.{given_low}
-use Rattle.evaluate.specs.declared.EvaluateAnswer.{EvaluateAnswer}
+use Rattle.dag.specs.declared.Refusal.{Refusal}
 use Rattle.normalize.specs.Calls.{normalize_check, normalized, normalize_result}
 use Rattle.demands.specs.Views.{same_nodes, same_check}
 use Rattle.demands.specs.Inputs.{Keyed, Inputs, KeyOf, own_keys, inputs_through, replay_inputs, compact_inputs, normalize_inputs}
@@ -59,32 +58,32 @@ module _ (find : ℕ → Option ℕ) where
   has_entry_lem (Mul a b) e = refl
   has_entry_lem (Neg a) e = refl
 
-  checked_inputs : (l : List NodeKind) → inputs_check find l (length l) ≡ Checked'.Good → Inputs Assigned l
+  checked_inputs : (l : List NodeKind) → inputs_check find l (length l) ≡ Ok tt → Inputs Assigned l
   unfolding inputs_check
   checked_inputs l e i h =
       assigned (at l i) (need_good (has_entry find (at l i)) (Unassigned i) (first_good (λ i. need (has_entry find (at l i)) (Unassigned i)) (length l) e i h))
 
-  inputs_checked : (l : List NodeKind) → Inputs Assigned l → inputs_check find l (length l) ≡ Checked'.Good
+  inputs_checked : (l : List NodeKind) → Inputs Assigned l → inputs_check find l (length l) ≡ Ok tt
   unfolding inputs_check first_refused
   inputs_checked l f = go (length l) f
     where
-      go : (n : ℕ) → ((i : ℕ) → i < n → Keyed Assigned (at l i)) → inputs_check find l n ≡ Checked'.Good
+      go : (n : ℕ) → ((i : ℕ) → i < n → Keyed Assigned (at l i)) → inputs_check find l n ≡ Ok tt
       go zero f = refl
       go (suc n) f = rw (go n (λ i h. f i (omega arith)), has_entry_lem (at l n) (f n (omega arith)))
 
 -- an answer that is a value
-abbrev pub Value : QuadFelt → EvaluateAnswer
-Value v = record { checked = Checked'.Good; value = v }
+abbrev pub Value : QuadFelt → Result QuadFelt Refusal
+Value v = Ok v
 
 -- it was accepted
-accepts : (c : Checked) (w v : QuadFelt) → unless_refused c refused (Value w) ≡ Value v → c ≡ Checked'.Good
-accepts Checked'.Good w v e = refl
-accepts (Checked'.Refused r) w v e = let q : Checked'.Refused r ≡ Checked'.Good = ap (λ d. d.checked) e in let z : ◌≡◌ {A = ℕ} 0 1 = cc in absurd (omega arith)
+accepts : (c : Checked) (w v : QuadFelt) → unless_refused c Err (Value w) ≡ Value v → c ≡ Ok tt
+accepts (Ok u) w v e = refl
+accepts (Err r) w v e = let z : ◌≡◌ {A = ℕ} 0 1 = cc in absurd (omega arith)
 
 module _ (field : Field) where
   -- t, count and root' in place of s, n and root: the list passes the list check, brings no new inputs, and its root has the same value
   pub record InPlaceOf (s : View) (n root : ℕ) (t : View) (count root' : ℕ) : Type 0 where
-    pub passes : list_check field.bounds t count root' ≡ Checked'.Good
+    pub passes : list_check field.bounds t count root' ≡ Ok tt
     pub no_new : Inputs (KeyOf (nodes s n)) (nodes t count)
     pub worth : (given : ℕ → QuadFelt) → ((k : ℕ) → Low field (given k)) → value field.elements given (nodes t count) root' ≡ value field.elements given (nodes s n) root
 
@@ -100,23 +99,23 @@ module _ (field : Field) where
       }
 
   module _ (s : View) (n root : ℕ) (t : View) (count root' : ℕ) (h : InPlaceOf s n root t count root') (a : List ℕ) (m : ℕ) where
-    module _ (e : evaluate_check field s n root a m ≡ Checked'.Good) where
+    module _ (e : evaluate_check field s n root a m ≡ Ok tt) where
       find : ℕ → Option ℕ
       find = entry_of entry_words a m
 
-      tests : (entries_check field.bounds entry_words a m ≡ Checked'.Good) × (inputs_check find (nodes s n) n ≡ Checked'.Good)
+      tests : (entries_check field.bounds entry_words a m ≡ Ok tt) × (inputs_check find (nodes s n) n ≡ Ok tt)
       unfolding evaluate_check find
       tests =
           then_good (entries_check field.bounds entry_words a m) (inputs_check find (nodes s n) n)
           (then_good (list_check field.bounds s n root) (entries_check field.bounds entry_words a m then inputs_check find (nodes s n) n) e).1
 
-      inputs : inputs_check find (nodes t count) count ≡ Checked'.Good
+      inputs : inputs_check find (nodes t count) count ≡ Ok tt
       inputs =
           rw (length_nodes t count) at
           (inputs_checked find (nodes t count)
           (inputs_through (Assigned find) (nodes s n) (nodes t count) h.no_new (checked_inputs find (nodes s n) (rw (length_nodes s n) tests.1))))
 
-      accepted_too : evaluate_check field t count root' a m ≡ Checked'.Good
+      accepted_too : evaluate_check field t count root' a m ≡ Ok tt
       unfolding evaluate_check find
       accepted_too = rw (h.passes, tests.0, inputs)
 
@@ -134,7 +133,7 @@ module _ (field : Field) where
   evaluates_front s n root t count root' h u front = evaluates_alike s n root u count root' (in_place_front s n root t count root' h u front)
 
   -- Normalise: its answer stands in place of the list
-  pub normalized_in_place : (s : View) (n root : ℕ) (result : List ℕ) (work_room : ℕ) → normalize_check field s n root (interleaved result).room work_room ≡ Checked'.Good
+  pub normalized_in_place : (s : View) (n root : ℕ) (result : List ℕ) (work_room : ℕ) → normalize_check field s n root (interleaved result).room work_room ≡ Ok tt
       → InPlaceOf s n root (interleaved (normalize_result field s n root result work_room)) (count_of field s n root) (root_of field s n root)
   unfolding normalized
   normalized_in_place s n root result work_room e =
@@ -145,7 +144,7 @@ module _ (field : Field) where
       }
 
   -- where Normalise accepts a list and Evaluate answers a value for it, Evaluate answers the same for the list answered, in any store that begins with it
-  pub evaluate_same : (s : View) (n root : ℕ) (result : List ℕ) (work_room : ℕ) → normalize_check field s n root (interleaved result).room work_room ≡ Checked'.Good
+  pub evaluate_same : (s : View) (n root : ℕ) (result : List ℕ) (work_room : ℕ) → normalize_check field s n root (interleaved result).room work_room ≡ Ok tt
       → (u : View) → Alike (interleaved (normalize_result field s n root result work_room)) u (count_of field s n root)
       → (a : List ℕ) (m : ℕ) (v : QuadFelt) → evaluate_answer field s n root a m ≡ Value v → evaluate_answer field u (count_of field s n root) (root_of field s n root) a m ≡ Value v
   evaluate_same s n root result work_room e =
@@ -159,7 +158,7 @@ module _ (field : Field) where
   kept_root s n root = get_or (compacted s n (root ∷ [])).roots 0 0
 
   -- Compact: its answer stands in place of the list
-  pub compacted_in_place : (s : View) (n root : ℕ) (result : List ℕ) → compact_check field s n root (interleaved result).room ≡ Checked'.Good
+  pub compacted_in_place : (s : View) (n root : ℕ) (result : List ℕ) → compact_check field s n root (interleaved result).room ≡ Ok tt
       → InPlaceOf s n root (interleaved (compact_result field s n root result)) (kept_count s n root) (kept_root s n root)
   unfolding compacted kept_of
   compacted_in_place s n root result e =
@@ -169,7 +168,7 @@ module _ (field : Field) where
         worth = λ given low. Compacted.answer_value field s n root result e field.elements given;
       }
 
-  pub compact_evaluates : (s : View) (n root : ℕ) (result : List ℕ) → compact_check field s n root (interleaved result).room ≡ Checked'.Good
+  pub compact_evaluates : (s : View) (n root : ℕ) (result : List ℕ) → compact_check field s n root (interleaved result).room ≡ Ok tt
       → (u : View) → Alike (interleaved (compact_result field s n root result)) u (kept_count s n root)
       → (a : List ℕ) (m : ℕ) (v : QuadFelt) → evaluate_answer field s n root a m ≡ Value v
       → evaluate_answer field u (kept_count s n root) (kept_root s n root) a m ≡ Value v
@@ -177,7 +176,7 @@ module _ (field : Field) where
       evaluates_front s n root (interleaved (compact_result field s n root result)) (kept_count s n root) (kept_root s n root) (compacted_in_place s n root result e)
 
   -- Build: its answer stands in place of the list of requests
-  module _ (s : View) (n root : ℕ) (result : List ℕ) (map_words : ℕ) (e : build_check field s n root (interleaved result).room map_words ≡ Checked'.Good) where
+  module _ (s : View) (n root : ℕ) (result : List ℕ) (map_words : ℕ) (e : build_check field s n root (interleaved result).room map_words ≡ Ok tt) where
     abbrev built : Replay
     built = replay field.elements (nodes s n) n
 

@@ -1,5 +1,5 @@
--- Demand 3 about the call: where Normalise accepts, what its answer and its result store are.
-use Rattle.std.specs.Prelude.{ℕ, ◌+◌, ◌*◌, ◌≤◌, false, List, [], ◌∷◌, ◌⊎◌, ◌↔◌, length, Ok}
+-- Normalising, about the call: where Normalise accepts, what its answer and its result store are.
+use Rattle.std.specs.Prelude.{ℕ, ◌+◌, ◌*◌, ◌≤◌, false, List, [], ◌∷◌, ◌⊎◌, ◌↔◌, length, Ok, Result, Err}
 use Rattle.std.proofs.Math.Path.{◌≡◌, refl, sym, ap, ap₂}
 use Rattle.std.proofs.Common.{◌∙◌, subst, arith}
 use Rattle.std.proofs.Math.ListN.{get_or}
@@ -20,7 +20,6 @@ use Rattle.dag.specs.StoreLaws.{sound_well_formed, same_list_agree}
 use Rattle.dag.specs.WordLaws.{nodes_stored, sound_stored, stored_pass}
 use Rattle.dag.specs.WellFormed.{WellFormed}
 use Rattle.dag.specs.declared.NodeKind.{NodeKind}
-use Rattle.dag.specs.declared.Checked.TheVariants as Checked'
 use Rattle.meaning.specs.Values.{value}
 use Rattle.compact.specs.Reach.{◌∈◌}
 use Rattle.compact.specs.Reach.◌∈◌.{here}
@@ -31,13 +30,14 @@ use Rattle.normalize.specs.Rounds.{Normal, fired, rounded, normalize}
 use Rattle.normalize.specs.RepeatLaws.{Answered}
 use Rattle.normalize.specs.Demand3.{same_value_at, as_many_roots, answer_well_formed, never_more, rounds_at_most_lost, given_back_exactly_when, idempotent}
 use Rattle.normalize.specs.Calls.{normalize_stores, answer_of, normalize_check, normalized, normalize_answer, normalize_result}
-use Rattle.normalize.specs.declared.NormalizeAnswer.{NormalizeAnswer}
+use Rattle.normalize.specs.declared.NormalEnd.{NormalEnd}
+use Rattle.dag.specs.declared.Refusal.{Refusal}
 use Rattle.demands.specs.Views.{same_nodes, same_check}
 use Rattle.demands.specs.Repeated.{Repeated, rooted_of, normalize_repeats}
 
 -- an answer of a count, one root and rounds kept
-abbrev pub Done : ℕ → ℕ → ℕ → NormalizeAnswer
-Done count root rounds = record { checked = (Ok tt); count = count; roots = roots_from (root ∷ []); rounds = rounds }
+abbrev pub Done : ℕ → ℕ → ℕ → Result NormalEnd Refusal
+Done count root rounds = Ok (record { count = count; roots = roots_from (root ∷ []); rounds = rounds })
 
 -- a list of one
 one : (l : List ℕ) → length l ≡ 1 → l ≡ get_or l 0 0 ∷ []
@@ -71,15 +71,16 @@ module _ (field : Field) where
   unfolding normalize_answer
   done_accepted s n root result_room work_room count root' rounds e = go (normalize_check field s n root result_room work_room) (normalized field s n (root ∷ [])) e
     where
-      go : (c : Checked) (a : Normal) → unless_refused c (λ r. record { checked = Checked'.Refused r; count = 0; roots = roots_from []; rounds = 0 }) (answer_of a) ≡ Done count root' rounds
+      go : (c : Checked) (a : Normal) → unless_refused c Err (Ok (answer_of a)) ≡ Done count root' rounds
           → (c ≡ Ok tt) × (length a.list ≡ count) × (get_or a.roots 0 0 ≡ root') × (a.rounds ≡ rounds)
-      go (Ok u) a e = (
-        refl,
-        ap (λ d. d.count) e,
-        ap (λ l. get_or l 0 0) (sym (roots_from_lem a.roots) ∙ (ap (λ d. roots_of d.roots) e ∙ roots_from_lem (root' ∷ []))),
-        ap (λ d. d.rounds) e,
-      )
-      go (Checked'.Refused r) a e = let q : Checked'.Refused r ≡ Ok tt = ap (λ d. d.checked) e in let z : ◌≡◌ {A = ℕ} 0 1 = cc in absurd (omega arith)
+      go (Ok u) a e =
+          let f : answer_of a ≡ record { count = count; roots = roots_from (root' ∷ []); rounds = rounds } = cc in (
+            refl,
+            ap (λ d. d.count) f,
+            ap (λ l. get_or l 0 0) (sym (roots_from_lem a.roots) ∙ (ap (λ d. roots_of d.roots) f ∙ roots_from_lem (root' ∷ []))),
+            ap (λ d. d.rounds) f,
+          )
+      go (Err r) a e = let z : ◌≡◌ {A = ℕ} 0 1 = cc in absurd (omega arith)
 
   module _ (s : View) (n root : ℕ) (result : List ℕ) (work_room : ℕ) (accepted : normalize_check field s n root (interleaved result).room work_room ≡ Ok tt) where
     abbrev list : List NodeKind
@@ -111,7 +112,7 @@ module _ (field : Field) where
     -- it answers count, root and rounds kept
     pub answer_done : normalize_answer field s n root (interleaved result).room work_room ≡ Done count root' (rounds_of s n root)
     unfolding normalize_answer
-    answer_done = rw accepted (ap (λ rs. record { checked = (Ok tt); count = count; roots = roots_from rs; rounds = rounds_of s n root }) (one (normalized field s n (root ∷ [])).roots one_root))
+    answer_done = rw accepted (ap (λ rs. Ok (record { count = count; roots = roots_from rs; rounds = rounds_of s n root })) (one (normalized field s n (root ∷ [])).roots one_root))
 
     -- exactly those that the rounds give: as many as are kept before one isn't, and the list that this one started from
     pub answer_exact : Repeated field.elements (nodes s n) (root ∷ []) (rounds_of s n root) (rooted_of (normalized field s n (root ∷ [])))

@@ -1,14 +1,12 @@
 -- The calls by their field numbers. A number that names no field is 49 at place 0, whatever else is handed over, and every store stays as it
 -- was. For 1 and 2 a call is its field's, so that what is shown of every field holds of these numbers.
 use Rattle.dag.specs.Refusals.{Checked}
-use Rattle.std.specs.Prelude.{ℕ, List, [], ◌∷◌, ◌↔◌, ◌≡◌, get_or, length, Ok}
+use Rattle.std.specs.Prelude.{ℕ, List, [], ◌∷◌, ◌↔◌, ◌≡◌, get_or, length, Ok, Option, Some, None}
 use Rattle.std.proofs.Math.Path.{refl}
 use Rattle.std.proofs.Common.{sym, ◌∙◌, ap, ap₂, arith}
 use Rattle.field.specs.Fields.{Field, field_of, modulus}
 use Rattle.field.specs.NumberLaws.{by_known, by_unknown}
 use Rattle.field.specs.Numbers.{numbered, named, in_field}
-use Rattle.field.specs.declared.FieldNumber.{FieldNumber}
-use Rattle.field.specs.declared.FieldNumber.TheVariants.{Known, Unknown}
 use Rattle.field.specs.declared.Prime.{Prime}
 use Rattle.dag.specs.View.{interleaved}
 use Rattle.dag.specs.Nodes.{nodes}
@@ -35,7 +33,7 @@ use Rattle.demands.specs.Evaluating.{Value, evaluate_same}
 pub forty_nine : Calls.unknown_words ≡ 49 ∷ 0 ∷ 0 ∷ 0 ∷ []
 forty_nine = refl
 
-module _ (number : ℕ) (none : numbered number ≡ Unknown) where
+module _ (number : ℕ) (none : numbered number ≡ None) where
   pub step_unknown : (list : List ℕ) (n t a b : ℕ) → (Calls.step_answer number list n t a b ≡ Calls.unknown_words) × (Calls.step_list number list n t a b ≡ list)
   unfolding Calls.step_list Calls.step_answer
   step_unknown list n t a b = (by_unknown number _ _ none, by_unknown number _ _ none)
@@ -76,7 +74,7 @@ module _ (number : ℕ) (none : numbered number ≡ Unknown) where
   lower_unknown list n lengths entries period result work places = (by_unknown number _ _ none, by_unknown number _ _ none, by_unknown number _ _ none, by_unknown number _ _ none)
 
 -- For a number that names a field each call is that field's, so that what is shown of every field holds of it.
-module _ (number : ℕ) (prime : Prime) (known : numbered number ≡ Known prime) where
+module _ (number : ℕ) (prime : Prime) (known : numbered number ≡ Some prime) where
   pub step_known : (list : List ℕ) (n t a b : ℕ)
       → (Calls.step_answer number list n t a b ≡ step_words (Builder.step_answer (field_of prime) (interleaved list) n t a b))
       × (Calls.step_list number list n t a b ≡ Builder.step_store (field_of prime) list n t a b)
@@ -129,14 +127,14 @@ module _ (number : ℕ) (prime : Prime) (known : numbered number ≡ Known prime
 
 -- the number names a field, and there the tests pass
 abbrev pub Accepted : ℕ → (Prime → Checked) → Type 0
-Accepted number check = (prime : Prime) × (numbered number ≡ Known prime) × (check prime ≡ Ok tt)
+Accepted number check = (prime : Prime) × (numbered number ≡ Some prime) × (check prime ≡ Ok tt)
 
 -- an answer's first word is 0 exactly there
 module _ (number : ℕ) (unknown : List ℕ) (refuses : outcome unknown ≡ 49) (words : Prime → List ℕ) (check : Prime → Checked)
     (accepts : (prime : Prime) → (outcome (words prime) ≡ 0) ↔ (check prime ≡ Ok tt)) where
-  heard : (k : FieldNumber) → numbered number ≡ k → outcome (named k unknown words) ≡ 0 → Accepted number check
-  heard (Known prime) e z = (prime, e, (accepts prime).0 z)
-  heard Unknown e z = absurd (omega (arith, sym refuses ∙ z))
+  heard : (k : Option Prime) → numbered number ≡ k → outcome (named k unknown words) ≡ 0 → Accepted number check
+  heard (Some prime) e z = (prime, e, (accepts prime).0 z)
+  heard None e z = absurd (omega (arith, sym refuses ∙ z))
 
   pub accepted_in : (outcome (in_field number unknown words) ≡ 0) ↔ Accepted number check
   accepted_in = (
@@ -225,7 +223,7 @@ normalize_evaluates number list n root result work assignment m count root' roun
     let a = (normalize_number number list n root result work).0 (ap outcome e) in
     go a.0 a.1
   where
-    go : (prime : Prime) → numbered number ≡ Known prime
+    go : (prime : Prime) → numbered number ≡ Some prime
         → Calls.evaluate_answer number (Calls.normalize_result number list n root result work) count root' assignment m ≡ 0 ∷ c0 ∷ c1 ∷ 0 ∷ []
     go prime h =
         rw h

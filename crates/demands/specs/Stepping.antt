@@ -1,5 +1,5 @@
 -- Step reaches its call: what its answer and its store say together, where it answers a place and a count.
-use Rattle.std.specs.Prelude.{ℕ, ◌<◌, ◌≤◌, true, ◌||◌, List, ◌⊎◌, refl, leb, ltb, length, Ok}
+use Rattle.std.specs.Prelude.{ℕ, ◌<◌, ◌≤◌, true, ◌||◌, List, ◌⊎◌, refl, leb, ltb, length, Ok, Result, Err}
 use Rattle.std.proofs.Common.{inl, inr, arith}
 use Rattle.std.proofs.Math.Path.{◌≡◌}
 use borrow.Author.Tests.{leb-true, ltb-true}
@@ -17,7 +17,7 @@ use Rattle.dag.specs.StoreLaws.{sound_well_formed}
 use Rattle.dag.specs.WordLaws.{front_written, behind_written, nodes_written, words_rootless}
 use Rattle.dag.specs.WellFormed.{Fine, WellFormed}
 use Rattle.dag.specs.declared.Refusal.TheVariants.{NoRoom}
-use Rattle.dag.specs.declared.Checked.TheVariants as Checked'
+use Rattle.dag.specs.declared.Refusal.{Refusal}
 use Rattle.meaning.specs.Values.{value_of, value}
 use Rattle.builder.specs.Steps.{step}
 use Rattle.builder.specs.StepLaws.{Grown, step_grown}
@@ -25,7 +25,11 @@ use Rattle.builder.specs.StepValueLaws.{step_value, step_keeps}
 use Rattle.builder.specs.Calls.{step_check, has_room, stepped, step_room_check, step_whole_check, step_answer, step_store}
 use Rattle.builder.specs.CallLaws.{step_request}
 use Rattle.builder.specs.Promises.{Request}
-use Rattle.builder.specs.declared.StepAnswer.TheVariants.{Done, Refused}
+use Rattle.builder.specs.declared.Entered.{Entered}
+
+-- an answer of a place and a count
+abbrev pub Done : ℕ → ℕ → Result Entered Refusal
+Done place count = Ok (record { place = place; count = count })
 
 module _ (field : Field) where
   -- whoever hears a place and a count was accepted, and heard these
@@ -34,9 +38,11 @@ module _ (field : Field) where
   unfolding step_answer
   step_accepted s n t a b place count e = go (step_whole_check field (interleaved s) n t a b) (stepped field (interleaved s) n t a b).place (length (stepped field (interleaved s) n t a b).list) e
     where
-      go : (c : Checked) (i k : ℕ) → unless_refused c Refused (Done i k) ≡ Done place count → (c ≡ Ok tt) × (i ≡ place) × (k ≡ count)
-      go (Ok u) i k e = (refl, cc, cc)
-      go (Checked'.Refused r) i k e = let z : ◌≡◌ {A = ℕ} 0 1 = cc in absurd (omega arith)
+      go : (c : Checked) (i k : ℕ) → unless_refused c Err (Done i k) ≡ Done place count → (c ≡ Ok tt) × (i ≡ place) × (k ≡ count)
+      go (Ok u) i k e =
+          let f : ◌≡◌ {A = Entered} (record { place = i; count = k }) (record { place = place; count = count }) = cc in
+          (refl, ap (λ d. d.place) f, ap (λ d. d.count) f)
+      go (Err r) i k e = let z : ◌≡◌ {A = ℕ} 0 1 = cc in absurd (omega arith)
 
   module _ (s : List ℕ) (n t a b place count : ℕ) (done : step_answer field (interleaved s) n t a b ≡ Done place count) where
     abbrev store : List ℕ

@@ -1,37 +1,28 @@
--- Evaluate (document 01, 'Each call and when it says no'; `eval_dag`): the root's value under an assignment, on all inputs.
-use Rattle.std.specs.Prelude.{ℕ, ◌+◌, ◌*◌, List, get_or}
+-- Evaluate (`eval_dag`): the root's value under an assignment, on all inputs.
+use Rattle.std.specs.Prelude.{ℕ, List, Option, Some, None, Result, Ok, Err}
 use Rattle.field.specs.Fields.{Field}
 use Rattle.field.specs.Field.{new}
 use Rattle.field.specs.declared.QuadFelt.{QuadFelt}
 use Rattle.dag.specs.View.{View}
 use Rattle.dag.specs.Nodes.{nodes}
-use Rattle.dag.specs.Refusals.{◌then◌, unless_refused}
+use Rattle.dag.specs.Refusals.{Checked, ◌then◌, unless_refused}
 use Rattle.dag.specs.Check.{list_check}
-use Rattle.dag.specs.declared.Found.{Found}
-use Rattle.dag.specs.declared.Found.TheVariants.{At, Missing}
 use Rattle.dag.specs.declared.Refusal.{Refusal}
-use Rattle.dag.specs.declared.Checked.{Checked}
-use Rattle.dag.specs.declared.Checked.TheVariants.{Good, Refused}
 use Rattle.meaning.specs.Values.{value}
-use Rattle.evaluate.specs.Entries.{entries_check, entry_of, inputs_check}
-use Rattle.evaluate.specs.declared.EvaluateAnswer.{EvaluateAnswer}
+use Rattle.evaluate.specs.Entries.{element_at, entries_check, entry_of, inputs_check}
 
 -- the words of an assignment's entry: key number, c0, c1
 abbrev pub entry_words : ℕ
 entry_words = 3
 
 -- the element of an entry, 0 for none
-unfoldable pub element_of : List ℕ → Found → QuadFelt
-element_of a (At i) = new (get_or a (entry_words * i + 1) 0) (get_or a (entry_words * i + 2) 0)
-element_of a Missing = new 0 0
+unfoldable pub element_of : List ℕ → Option ℕ → QuadFelt
+element_of a (Some i) = element_at entry_words a i
+element_of a None = new 0 0
 
 -- the element that an assignment of m entries gives a key
 unfoldable pub given : List ℕ → ℕ → ℕ → QuadFelt
 given a m key = element_of a (entry_of entry_words a m key)
-
--- a refusal, without a value
-abbrev pub refused : Refusal → EvaluateAnswer
-refused r = record { checked = Refused r; value = new 0 0 }
 
 module _ (field : Field) where
   -- Evaluate's tests: the list check, the entries, then the inputs
@@ -42,6 +33,6 @@ module _ (field : Field) where
       then inputs_check (entry_of entry_words a m) (nodes s n) n
 
   -- the root's value
-  unfoldable pub evaluate_answer : View → ℕ → ℕ → List ℕ → ℕ → EvaluateAnswer
+  unfoldable pub evaluate_answer : View → ℕ → ℕ → List ℕ → ℕ → Result QuadFelt Refusal
   evaluate_answer s n root a m =
-      unless_refused (evaluate_check s n root a m) refused (record { checked = Good; value = value field.elements (given a m) (nodes s n) root })
+      unless_refused (evaluate_check s n root a m) Err (Ok (value field.elements (given a m) (nodes s n) root))

@@ -1,17 +1,16 @@
--- Entries of keys (document 01, Evaluate): `width` words each, a key number and then coordinates; of a key's entries the last counts.
-use Rattle.std.specs.Prelude.{ℕ, ◌+◌, ◌*◌, ◌<◌, ◌≤◌, Bool, true, false, ◌&&◌, List, leb, eqb, get_or, length}
+-- Entries of keys: `width` words each, a key number and then coordinates; of a key's entries the last counts.
+use Rattle.std.specs.Prelude.{ℕ, ◌+◌, ◌*◌, ◌<◌, ◌≤◌, Bool, true, ◌&&◌, List, Option, is_some, leb, eqb, get_or, length}
 use Rattle.field.specs.Fields.{Bounds}
+use Rattle.field.specs.Field.{new}
+use Rattle.field.specs.declared.QuadFelt.{QuadFelt}
 use Rattle.dag.specs.Check.{lowest}
 use Rattle.dag.specs.Keys.{is_key}
 use Rattle.dag.specs.Lookup.{greatest}
 use Rattle.dag.specs.Nodes.{at}
-use Rattle.dag.specs.Refusals.{need, ◌then◌, first_refused}
+use Rattle.dag.specs.Refusals.{Checked, need, ◌then◌, first_refused}
 use Rattle.dag.specs.declared.NodeKind.{NodeKind}
 use Rattle.dag.specs.declared.NodeKind.TheVariants.{Input, Constant, Add, Sub, Mul, Neg}
-use Rattle.dag.specs.declared.Found.{Found}
-use Rattle.dag.specs.declared.Found.TheVariants.{At, Missing}
 use Rattle.dag.specs.declared.Refusal.TheVariants.{StoreTooShort, Malformed, TooManyEntries, Unassigned}
-use Rattle.dag.specs.declared.Checked.{Checked}
 
 -- the most entries
 abbrev pub most_entries : ℕ
@@ -26,6 +25,10 @@ pub record Lent (width : ℕ) (e : List ℕ) (n : ℕ) : Type 0 where
 abbrev pub key_at : ℕ → List ℕ → ℕ → ℕ
 key_at width e i = get_or e (width * i) 0
 
+-- the element of entry i
+abbrev pub element_at : ℕ → List ℕ → ℕ → QuadFelt
+element_at width e i = new (get_or e (width * i + 1) 0) (get_or e (width * i + 2) 0)
+
 -- 4: a number no key has, or coordinates not in lowest form
 unfoldable pub entry_check : Bounds → ℕ → List ℕ → ℕ → Checked
 entry_check m width e i =
@@ -39,17 +42,12 @@ entries_check m width e n =
     then first_refused (entry_check m width e) n
 
 -- the last entry of a key among the first n
-unfoldable pub entry_of : ℕ → List ℕ → ℕ → ℕ → Found
+unfoldable pub entry_of : ℕ → List ℕ → ℕ → ℕ → Option ℕ
 entry_of width e n key = greatest (λ i. eqb (key_at width e i) key) n
 
--- something was found
-abbrev pub is_found : Found → Bool
-is_found (At i) = true
-is_found Missing = false
-
 -- an input's key has an entry; other records need none
-abbrev pub has_entry : (ℕ → Found) → NodeKind → Bool
-has_entry find (Input k) = is_found (find k)
+abbrev pub has_entry : (ℕ → Option ℕ) → NodeKind → Bool
+has_entry find (Input k) = is_some (find k)
 has_entry find (Constant c) = true
 has_entry find (Add a b) = true
 has_entry find (Sub a b) = true
@@ -57,5 +55,5 @@ has_entry find (Mul a b) = true
 has_entry find (Neg a) = true
 
 -- 12: the first input among the first n records, reachable or not, whose key has no entry
-unfoldable pub inputs_check : (ℕ → Found) → List NodeKind → ℕ → Checked
+unfoldable pub inputs_check : (ℕ → Option ℕ) → List NodeKind → ℕ → Checked
 inputs_check find l = first_refused (λ i. need (has_entry find (at l i)) (Unassigned i))

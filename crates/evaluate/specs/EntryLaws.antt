@@ -1,42 +1,18 @@
 -- The turns of the loops over entries, and what entries that pass are known to be.
-use Rattle.std.specs.Prelude.{ℕ, ◌+◌, ◌*◌, ◌≤◌, ◌<◌, Bool, false, ◌&&◌, List, ◌≡◌, eqb, get_or, length}
+use Rattle.std.specs.Prelude.{ℕ, ◌+◌, ◌*◌, ◌≤◌, ◌<◌, Bool, false, List, Option, Some, None, is_some, Ok, Err, ◌≡◌, eqb, length}
 use Rattle.std.proofs.Math.Bool.{true}
 use Rattle.std.proofs.Common.{true≢false, ◌∙◌, ap, subst, mul-suc, mul-le-mul_left, arith}
 use Rattle.std.proofs.Math.Path.{refl, sym}
 use borrow.Author.Tests.{eqb-true, eqb-false}
-use Rattle.field.specs.Fields.{Bounds}
 use Rattle.dag.specs.View.{View}
-use Rattle.dag.specs.Check.{lowest}
-use Rattle.dag.specs.Keys.{is_key}
 use Rattle.dag.specs.Nodes.{nodes, at, record_at}
 use Rattle.dag.specs.NodeLaws.{at_nodes}
 use Rattle.dag.specs.SearchLaws.{Greatest, greatest_says}
 use Rattle.dag.specs.declared.NodeKind.{NodeKind}
 use Rattle.dag.specs.Refusals.{need}
 use Rattle.dag.specs.CheckLaws.{first_next, first_bad}
-use Rattle.dag.specs.declared.Found.{Found}
-use Rattle.dag.specs.declared.Found.TheVariants.{At, Missing}
-use Rattle.dag.specs.declared.Refusal.TheVariants.{Malformed, Unassigned}
-use Rattle.dag.specs.declared.Checked.TheVariants.{Good, Refused}
-use Rattle.evaluate.specs.Entries.{Lent, key_at, entry_check, entry_of, is_found, has_entry, inputs_check}
-
--- the test of one entry
-module _ (m : Bounds) (width : ℕ) (e : List ℕ) (i : ℕ) where
-  pub bad_key : is_key (key_at width e i) ≡ false → Refused (Malformed i) ≡ entry_check m width e i
-  unfolding entry_check
-  bad_key k = rw k
-
-  bad_rest : (k w : Bool) → w ≡ false → Refused (Malformed i) ≡ need (k && w) (Malformed i)
-  bad_rest true w e = rw e
-  bad_rest false w e = refl
-
-  pub bad_words : lowest m (get_or e (width * i + 1) 0) (get_or e (width * i + 2) 0) ≡ false → Refused (Malformed i) ≡ entry_check m width e i
-  unfolding entry_check
-  bad_words w = bad_rest (is_key (key_at width e i)) (lowest m (get_or e (width * i + 1) 0) (get_or e (width * i + 2) 0)) w
-
-  pub good_entry : is_key (key_at width e i) ≡ true → lowest m (get_or e (width * i + 1) 0) (get_or e (width * i + 2) 0) ≡ true → Good ≡ entry_check m width e i
-  unfolding entry_check
-  good_entry k w = rw (k, w)
+use Rattle.dag.specs.declared.Refusal.TheVariants.{Unassigned}
+use Rattle.evaluate.specs.Entries.{Lent, key_at, entry_of, has_entry, inputs_check}
 
 -- the words of an entry are in the store
 module _ (width : ℕ) (e : List ℕ) (n : ℕ) (lent : Lent width e n) where
@@ -59,33 +35,33 @@ module _ (width : ℕ) (e : List ℕ) (key : ℕ) where
   its i = eqb (key_at width e i) key
 
   -- what is found is an entry
-  pub entry_inside : (n i : ℕ) → entry_of width e n key ≡ At i → i < n
+  pub entry_inside : (n i : ℕ) → entry_of width e n key ≡ Some i → i < n
   unfolding entry_of
   entry_inside n i q = (subst (Greatest its n) q (greatest_says its n)).0
 
   -- a found entry is the key's last one
-  pub found_last : (n : ℕ) → is_found (entry_of width e n key) ≡ true → (i : ℕ) × (entry_of width e n key ≡ At i) × Last width e n key i
+  pub found_last : (n : ℕ) → is_some (entry_of width e n key) ≡ true → (i : ℕ) × (entry_of width e n key ≡ Some i) × Last width e n key i
   unfolding entry_of
   found_last n q = go (entry_of width e n key) refl (greatest_says its n) q
     where
-      go : (f : Found) → entry_of width e n key ≡ f → Greatest its n f → is_found f ≡ true → (i : ℕ) × (entry_of width e n key ≡ At i) × Last width e n key i
-      go (At i) r says q =
+      go : (f : Option ℕ) → entry_of width e n key ≡ f → Greatest its n f → is_some f ≡ true → (i : ℕ) × (entry_of width e n key ≡ Some i) × Last width e n key i
+      go (Some i) r says q =
           (i, r, record { inside = says.0; its_key = eqb-true (key_at width e i) key says.1; none_later = λ j h k. eqb-false (key_at width e j) key (says.2 j (omega arith) k) })
-      go Missing r says q = absurd (true≢false (sym q))
+      go None r says q = absurd (true≢false (sym q))
 
 -- the inputs, one record a turn
-module _ (find : ℕ → Found) (s : View) (n i : ℕ) (x : NodeKind) (h : i < n) (before : inputs_check find (nodes s n) i ≡ Good) (e : x ≡ record_at s i) where
+module _ (find : ℕ → Option ℕ) (s : View) (n i : ℕ) (x : NodeKind) (h : i < n) (before : inputs_check find (nodes s n) i ≡ Ok tt) (e : x ≡ record_at s i) where
   here : has_entry find x ≡ has_entry find (at (nodes s n) i)
   here = ap (has_entry find) (e ∙ sym (at_nodes s n i h))
 
-  refused : has_entry find x ≡ false → need (has_entry find (at (nodes s n) i)) (Unassigned i) ≡ Refused (Unassigned i)
+  refused : has_entry find x ≡ false → need (has_entry find (at (nodes s n) i)) (Unassigned i) ≡ Err (Unassigned i)
   refused q = rw (← here, q)
 
-  pub no_entry : has_entry find x ≡ false → Refused (Unassigned i) ≡ inputs_check find (nodes s n) n
+  pub no_entry : has_entry find x ≡ false → Err (Unassigned i) ≡ inputs_check find (nodes s n) n
   unfolding inputs_check
   no_entry q =
       sym (refused q) ∙ first_bad (λ i. need (has_entry find (at (nodes s n) i)) (Unassigned i)) i n before (rw (refused q)) h
 
-  pub an_entry : has_entry find x ≡ true → inputs_check find (nodes s n) (i + 1) ≡ Good
+  pub an_entry : has_entry find x ≡ true → inputs_check find (nodes s n) (i + 1) ≡ Ok tt
   unfolding inputs_check
   an_entry q = first_next (λ i. need (has_entry find (at (nodes s n) i)) (Unassigned i)) i before (rw (← here, q))

@@ -1,7 +1,7 @@
 -- An index of entries by their keys.
 use Rattle.std.specs.Prelude.{ℕ, ◌≤◌, List}
 use Rattle.index.specs.Index.{half, hash, bucket_of, Usable, Indexed}
-use Rattle.evaluate.specs.Entries.{key_at}
+use Rattle.evaluate.specs.Entries.{Lent, key_at}
 
 -- one of b buckets for a key
 abbrev pub key_bucket : ℕ → ℕ → ℕ
@@ -12,3 +12,8 @@ pub record Keyed (width : ℕ) (e : List ℕ) (n : ℕ) (links : List ℕ) : Typ
   pub usable : Usable links
   pub room : n ≤ half links
   pub indexed : Indexed (half links) (λ i. key_bucket (half links) (key_at width e i)) n links
+
+-- n entries in a store, and links that index them
+pub record Lookup (width : ℕ) (e : List ℕ) (n : ℕ) (links : List ℕ) : Type 0 where
+  pub lent : Lent width e n
+  pub keyed : Keyed width e n links

@@ -1,21 +1,19 @@
 // `eval_dag`: assignments and Evaluate.
 #![tactic(auto)]
 
-ghost use Rattle.std.specs.Prelude.{◌≡◌, ◌+◌, ◌*◌, ◌^◌, ◌<◌, ◌≤◌, length, set};
-ghost use Rattle.dag.specs.View.{interleaved};
-ghost use Rattle.dag.specs.Refusals as Refusals;
+ghost use Rattle.std.specs.Prelude.{◌≡◌, ℕ, ◌+◌, ◌*◌, ◌^◌, ◌<◌, ◌≤◌, Ok, option_map, length, nat_eq};
 ghost use Rattle.field.specs.Fields.{field_of};
+ghost use Rattle.dag.specs.View.{interleaved};
 ghost use Rattle.dag.specs.Nodes as Nodes;
-ghost use Rattle.dag.specs.Refusals.{◌then◌};
-ghost use Rattle.dag.specs.Check.{list_check};
+ghost use Rattle.dag.specs.Refusals as Refusals;
 ghost use Rattle.index.specs.Index as Index;
+ghost use Rattle.evaluate.specs.Entries as Places;
 ghost use Rattle.evaluate.specs.Entries.{Lent};
-ghost use Rattle.evaluate.specs.Entries as Entries;
 ghost use Rattle.evaluate.specs.KeyIndex as KeyIndex;
 ghost use Rattle.evaluate.specs.Calls as Calls;
 ghost use Rattle.evaluate.specs.Promises as Promises;
 
-use dag::{Checked, Found, NodeKind, Refusal};
+use dag::{MOST_RECORDS, NodeKind, Refusal, Words};
 use field::{Prime, QuadFelt};
 
 // The most entries that an assignment has.
@@ -24,282 +22,224 @@ const MOST_ENTRIES: usize = 4096;
 // The words of an assignment's entry: key number, c0, c1.
 const ENTRY_WORDS: usize = 3;
 
-// Evaluate's answer.
-#[derive(Clone, Copy)]
-pub struct EvaluateAnswer {
-    pub checked: Checked,
-    pub value: QuadFelt,
-}
-
-// The records and entries that the smallest stores hold.
+// The records and entries that the smallest stores hold, and the links of their index.
 const FEW: usize = 64;
+
+const FEW_LINKS: usize = 128;
 
 // Those that the next larger stores hold.
 const MANY: usize = 512;
 
-// A record's value; none for an input whose key has no entry.
+const MANY_LINKS: usize = 1024;
+
+// The links of the largest index.
+const MOST_LINKS: usize = 8192;
+
+// The first `count` entries of a store, WIDTH words each: a key number, then an element's coordinates.
 #[derive(Clone, Copy)]
-pub enum Assigned {
-    Element(QuadFelt),
-    Absent,
+struct Entries<'a, const WIDTH: usize> {
+    words: &'a [u64],
+    count: usize,
 }
 
-// The key number of entry i.
-fn key_at(entries: &[u64], width: usize, i: usize) -> u64
-    requires { width * i < length entries.now }
-    ensures { result ≡ Entries.key_at width entries.now i }
-{
-    entries[width * i]
-}
-
-// The test of entry i: a number that a key has, coordinates in lowest form.
-fn entry_check(prime: Prime, entries: &[u64], width: usize, i: usize) -> Checked
-    requires { (2 < width) × (width * i + width ≤ length entries.now) }
-    ensures { result ≡ Entries.entry_check (field_of prime).bounds width entries.now i }
-{
-    let at = width * i;
-    if !dag::is_key(key_at(entries, width, i)) {
-        return Checked::Refused(Refusal::Malformed(i));
+impl<const WIDTH: usize> Entries<'_, WIDTH> {
+    // The key number of entry i.
+    fn key_at(&self, i: usize) -> u64
+        requires { WIDTH * i < length self.now.words.now }
+        ensures { result ≡ Places.key_at WIDTH self.now.words.now i }
+    {
+        self.words[WIDTH * i]
     }
-    if !dag::lowest(prime, entries[at + 1], entries[at + 2]) {
-        return Checked::Refused(Refusal::Malformed(i));
+
+    // The element of entry i.
+    fn element_at(&self, i: usize) -> QuadFelt
+        requires { (2 < WIDTH) × (WIDTH * i + WIDTH ≤ length self.now.words.now) }
+        ensures { result ≡ Places.element_at WIDTH self.now.words.now i }
+    {
+        let at = WIDTH * i;
+        QuadFelt::new(self.words[at + 1], self.words[at + 2])
     }
-    Checked::Good
-}
 
-// The first bad entry among the first m.
-fn first_bad_entry(prime: Prime, entries: &[u64], width: usize, m: usize) -> Checked
-    requires { (2 < width) × Lent width entries.now m }
-    ensures { result ≡ Refusals.first_refused (Entries.entry_check (field_of prime).bounds width entries.now) m }
-{
-    let mut i = 0;
-    while i < m {
-        let checked = entry_check(prime, entries, width, i);
-        if dag::is_refused(checked) {
-            return checked;
-        }
-        i += 1;
-    }
-    Checked::Good
-}
-
-// The tests of m entries: 11, 2, then the first bad entry.
-fn entries_check(prime: Prime, entries: &[u64], width: usize, m: usize) -> Checked
-    requires { (2 < width) × (width ≤ 3) }
-    ensures { result ≡ Entries.entries_check (field_of prime).bounds width entries.now m }
-{
-    if MOST_ENTRIES < m {
-        return Checked::Refused(Refusal::TooManyEntries);
-    }
-    if entries.len() < width * m {
-        return Checked::Refused(Refusal::StoreTooShort);
-    }
-    first_bad_entry(prime, entries, width, m)
-}
-
-// A count that two counts do not pass: the larger.
-fn larger(a: usize, b: usize) -> usize
-    ensures { (a ≤ result) × (b ≤ result) }
-{
-    if a < b { b } else { a }
-}
-
-// The bucket of a key among so many.
-fn key_bucket(buckets: usize, key: u64) -> usize
-    requires { (0 < buckets) × (buckets ≤ 2 ^ 32) }
-    ensures { (result ≡ KeyIndex.key_bucket buckets key) × (result < buckets) }
-{
-    index::bucket_of(buckets, index::hash(0, key, 0))
-}
-
-// Notes entry i in the bucket of its key.
-fn note_key(entries: &[u64], width: usize, i: usize, links: &mut [u64])
-    requires { KeyIndex.Keyed width entries.now i links.old × (i < Index.half links.old) × (width * i < length entries.now) }
-    ensures { KeyIndex.Keyed width entries.now (i + 1) links.new }
-{
-    index::note(links, i, 0, key_at(entries, width, i), 0);
-}
-
-// Indexes the first m entries by their keys, in links that index none.
-fn index_keys(entries: &[u64], width: usize, m: usize, links: &mut [u64])
-    requires { Lent width entries.now m × KeyIndex.Keyed width entries.now 0 links.old × (m ≤ Index.half links.old) }
-    ensures { KeyIndex.Keyed width entries.now m links.new }
-{
-    let mut i = 0;
-    while i < m {
-        note_key(entries, width, i, links);
-        i += 1;
-    }
-}
-
-// The last entry of a key among the first m, by the plain search.
-fn entry_search(entries: &[u64], width: usize, m: usize, key: u64) -> Found
-    requires { Lent width entries.now m }
-    ensures { result ≡ Entries.entry_of width entries.now m key }
-{
-    let mut i = m;
-    while 0 < i {
-        i -= 1;
-        let number = key_at(entries, width, i);
-        if number == key {
-            return Found::At(i);
+    // The test of entry i: a number that a key has, coordinates in lowest form.
+    #[tactic(auto, unfolding(crate::specs::Entries::entry_check))]
+    fn entry_check(&self, prime: Prime, i: usize) -> Result<(), Refusal>
+        requires { (2 < WIDTH) × (WIDTH * i + WIDTH ≤ length self.now.words.now) }
+        ensures { result ≡ Places.entry_check (field_of prime).bounds WIDTH self.now.words.now i }
+    {
+        let element = self.element_at(i);
+        if dag::is_key(self.key_at(i)) && dag::lowest(prime, element.c0, element.c1) {
+            Ok(())
+        } else {
+            Err(Refusal::Malformed(i))
         }
     }
-    Found::Missing
-}
 
-// The same along the key's bucket; behind many others of the bucket by the plain search.
-fn entry_of(entries: &[u64], width: usize, m: usize, links: &[u64], key: u64) -> Found
-    requires { Lent width entries.now m × KeyIndex.Keyed width entries.now m links.now }
-    ensures { result ≡ Entries.entry_of width entries.now m key }
-{
-    let half = links.len() / 2;
-    let mut link = links[key_bucket(half, key)];
-    let mut steps = 0;
-    while 0 < link {
-        if index::MOST_STEPS <= steps {
-            return entry_search(entries, width, link as usize, key);
+    // The first bad entry.
+    #[tactic(auto, using(dag::specs::CheckLaws::first_next, dag::specs::CheckLaws::first_stop, crate::specs::EntryLaws::entry_room), unfolding(dag::specs::Refusals::first_refused))]
+    fn each_check(&self, prime: Prime) -> Result<(), Refusal>
+        requires { (2 < WIDTH) × Lent WIDTH self.now.words.now self.now.count }
+        ensures { result ≡ Refusals.first_refused (Places.entry_check (field_of prime).bounds WIDTH self.now.words.now) self.now.count }
+    {
+        for i in 0..self.count {
+            self.entry_check(prime, i)?;
         }
-        let entry = (link - 1) as usize;
-        if key_at(entries, width, entry) == key {
-            return Found::At(entry);
+        Ok(())
+    }
+
+    // The tests of the entries: 11, 2, then the first bad entry.
+    #[tactic(auto, unfolding(crate::specs::Entries::entries_check))]
+    fn check(&self, prime: Prime) -> Result<(), Refusal>
+        requires { (2 < WIDTH) × (WIDTH ≤ 3) }
+        ensures { result ≡ Places.entries_check (field_of prime).bounds WIDTH self.now.words.now self.now.count }
+    {
+        if MOST_ENTRIES < self.count {
+            return Err(Refusal::TooManyEntries);
         }
-        link = links[half + entry];
-        steps += 1;
+        if self.words.len() < WIDTH * self.count {
+            return Err(Refusal::StoreTooShort);
+        }
+        self.each_check(prime)
     }
-    Found::Missing
+
+    // Notes entry i in the bucket of its key.
+    #[tactic(auto, using(crate::specs::KeyIndexLaws::keyed_next))]
+    fn note(&self, i: usize, links: &mut [u64])
+        requires { KeyIndex.Keyed WIDTH self.now.words.now i links.old × (i < Index.half links.old) × (WIDTH * i < length self.now.words.now) }
+        ensures { KeyIndex.Keyed WIDTH self.now.words.now (i + 1) links.new }
+    {
+        index::note(links, i, words_of_key(self.key_at(i)));
+    }
+
+    // Indexes the entries by their keys, in links that index none.
+    #[tactic(auto, using(crate::specs::EntryLaws::key_room))]
+    fn index(&self, links: &mut [u64])
+        requires { Lent WIDTH self.now.words.now self.now.count × KeyIndex.Keyed WIDTH self.now.words.now 0 links.old × (self.now.count ≤ Index.half links.old) }
+        ensures { KeyIndex.Keyed WIDTH self.now.words.now self.now.count links.new }
+    {
+        for i in 0..self.count {
+            self.note(i, links);
+        }
+    }
+
+    // The last entry of a key among the first m, by the plain search.
+    fn search(&self, m: usize, key: u64) -> Option<usize>
+        requires { Lent WIDTH self.now.words.now m }
+        ensures { result ≡ Places.entry_of WIDTH self.now.words.now m key }
+    {
+        for i in (0..m).rev() {
+            if self.key_at(i) == key {
+                return Some(i);
+            }
+        }
+        None
+    }
+
+    // The last entry of a key, along its bucket; behind many others of the bucket by the plain search.
+    fn find(&self, links: &[u64], key: u64) -> Option<usize>
+        requires { KeyIndex.Lookup WIDTH self.now.words.now self.now.count links.now }
+        ensures { result ≡ Places.entry_of WIDTH self.now.words.now self.now.count key }
+    {
+        let k = index::bucket_of(links.len() / 2, index::hash(words_of_key(key)));
+        index::walk(
+            links,
+            k,
+            |i: usize| -> bool
+                requires { WIDTH * i < length self.now.words.now }
+                ensures { result ≡ nat_eq (Places.key_at WIDTH self.entry.now.words.now i) key }
+            { self.key_at(i) == key },
+            |below: usize| -> Option<usize>
+                requires { Lent WIDTH self.now.words.now below }
+                ensures { result ≡ Places.entry_of WIDTH self.entry.now.words.now below key }
+            { self.search(below, key) },
+        )
+    }
+
+    // The element that the entries give a key: that of its last entry.
+    fn given(&self, links: &[u64], key: u64) -> Option<QuadFelt>
+        requires { (2 < WIDTH) × KeyIndex.Lookup WIDTH self.now.words.now self.now.count links.now }
+        ensures { result ≡ option_map (Places.element_at WIDTH self.now.words.now) (Places.entry_of WIDTH self.now.words.now self.now.count key) }
+    {
+        let i = self.find(links, key)?;
+        Some(self.element_at(i))
+    }
 }
 
-// The element that an assignment gives a key: that of its last entry.
-fn given(assignment: &[u64], m: usize, links: &[u64], key: u64) -> Assigned
-    requires { Lent Calls.entry_words assignment.now m × KeyIndex.Keyed Calls.entry_words assignment.now m links.now }
-    ensures { result ≡ Promises.assigned (Entries.is_found (Entries.entry_of Calls.entry_words assignment.now m key)) (Calls.given assignment.now m key) }
+// The words of a key's record.
+fn words_of_key(key: u64) -> Words
+    ensures { result ≡ Nodes.three (NodeKind.Input key) }
 {
-    let found = entry_of(assignment, ENTRY_WORDS, m, links, key);
-    match found {
-        Found::At(i) => Assigned::Element(QuadFelt {
-            c0: assignment[ENTRY_WORDS * i + 1],
-            c1: assignment[ENTRY_WORDS * i + 2],
-        }),
-        Found::Missing => Assigned::Absent,
-    }
+    Words::from(NodeKind::Input(key))
 }
 
-// The element with its coordinates at place i.
-fn element_at(c0: &[u64], c1: &[u64], i: usize) -> QuadFelt
-    requires { (i < length c0.now) × (i < length c1.now) }
-    ensures { result ≡ Promises.element_at c0.now c1.now i }
+// The value at place i.
+fn value_at(values: &[QuadFelt], i: usize) -> QuadFelt
+    requires { i < length values.now }
+    ensures { result ≡ Promises.at_place values.now i }
 {
-    QuadFelt {
-        c0: c0[i],
-        c1: c1[i],
-    }
+    values[i]
 }
 
-// The value of the record at place i, on the values before it.
+// The value of the record at place i, on the values before it; none for an input whose key has no entry.
+#[tactic(auto, unfolding(crate::specs::Promises::record_answer, meaning::specs::Values::value_of))]
 fn value_of(
     prime: Prime,
     list: &[u64],
     i: usize,
-    assignment: &[u64],
-    m: usize,
+    entries: Entries<ENTRY_WORDS>,
     links: &[u64],
-    c0: &[u64],
-    c1: &[u64],
-) -> Assigned
-    requires valued { Promises.Valued (field_of prime) (interleaved list.now) i c0.now c1.now }
-    requires lent { Lent Calls.entry_words assignment.now m × KeyIndex.Keyed Calls.entry_words assignment.now m links.now }
-    ensures { result ≡ Promises.record_answer (field_of prime) assignment.now m (Promises.element_at c0.now c1.now) (Nodes.record_at (interleaved list.now) i) }
+    values: &[QuadFelt],
+) -> Option<QuadFelt>
+    requires valued { Promises.Valued (field_of prime) (interleaved list.now) i values.now }
+    requires indexed { KeyIndex.Lookup Calls.entry_words entries.words.now entries.count links.now }
+    ensures { result ≡ Promises.record_answer (field_of prime) entries.entry.words.now entries.entry.count (Promises.at_place values.now) (Nodes.record_at (interleaved list.now) i) }
 {
-    let x = dag::node_at(list, i);
-    match x {
-        NodeKind::Input(k) => given(assignment, m, links, k),
-        NodeKind::Constant(c) => Assigned::Element(c),
-        NodeKind::Add(a, b) => {
-            Assigned::Element(element_at(c0, c1, a).add(prime, element_at(c0, c1, b)))
-        }
-        NodeKind::Sub(a, b) => {
-            Assigned::Element(element_at(c0, c1, a).sub(prime, element_at(c0, c1, b)))
-        }
-        NodeKind::Mul(a, b) => {
-            Assigned::Element(element_at(c0, c1, a).mul(prime, element_at(c0, c1, b)))
-        }
-        NodeKind::Neg(a) => Assigned::Element(element_at(c0, c1, a).neg(prime)),
+    match dag::node_at(list, i) {
+        NodeKind::Input(k) => entries.given(links, k),
+        NodeKind::Constant(c) => Some(c),
+        NodeKind::Add(a, b) => Some(value_at(values, a).add(prime, value_at(values, b))),
+        NodeKind::Sub(a, b) => Some(value_at(values, a).sub(prime, value_at(values, b))),
+        NodeKind::Mul(a, b) => Some(value_at(values, a).mul(prime, value_at(values, b))),
+        NodeKind::Neg(a) => Some(value_at(values, a).neg(prime)),
     }
 }
 
-// Writes the coordinates of v at place i.
-fn put_element(c0: &mut [u64], c1: &mut [u64], i: usize, v: QuadFelt)
-    requires { (i < length c0.old) × (i < length c1.old) }
-    ensures { (c0.new ≡ set c0.old i v.c0) × (c1.new ≡ set c1.old i v.c1) }
-{
-    c0[i] = v.c0;
-    c1[i] = v.c1;
-}
-
-// Fills in the values of the first n records, coordinate by coordinate, up to the first input whose key has no entry: 12.
+// Fills in the values of the first n records, up to the first input whose key has no entry: 12.
 fn fill_values(
     prime: Prime,
     list: &[u64],
     n: usize,
-    assignment: &[u64],
-    m: usize,
+    entries: Entries<ENTRY_WORDS>,
     links: &[u64],
-    c0: &mut [u64],
-    c1: &mut [u64],
-) -> Checked
-    requires ready { Promises.Ready (field_of prime) (interleaved list.now) n assignment.now m (length c0.old) × (n ≤ length c1.old) }
-    requires keyed { KeyIndex.Keyed Calls.entry_words assignment.now m links.now }
-    ensures value { result ≡ Entries.inputs_check (Entries.entry_of Calls.entry_words assignment.now m) (Nodes.nodes (interleaved list.now) n) n }
-    ensures filled { result ≡ Checked.Good → Promises.Filled (field_of prime) (interleaved list.now) n assignment.now m c0.new c1.new n }
+    values: &mut [QuadFelt],
+) -> Result<(), Refusal>
+    requires ready { Promises.Ready (field_of prime) (interleaved list.now) n entries.words.now entries.count (length values.old) }
+    requires keyed { KeyIndex.Keyed Calls.entry_words entries.words.now entries.count links.now }
+    ensures value { result ≡ Places.inputs_check (Places.entry_of Calls.entry_words entries.entry.words.now entries.entry.count) (Nodes.nodes (interleaved list.now) n) n }
+    ensures filled { result ≡ Ok tt → Promises.Filled (field_of prime) (interleaved list.now) n entries.entry.words.now entries.entry.count values.new n }
 {
-    let mut i = 0;
-    while i < n {
-        let value = value_of(prime, list, i, assignment, m, links, c0, c1);
-        match value {
-            Assigned::Absent => return Checked::Refused(Refusal::Unassigned(i)),
-            Assigned::Element(v) => put_element(c0, c1, i, v),
-        }
-        i += 1;
+    for i in 0..n {
+        values[i] = value_of(prime, list, i, entries, links, values).ok_or(Refusal::Unassigned(i))?;
     }
-    Checked::Good
+    Ok(())
 }
 
-// Evaluate's answer where a test refuses.
-fn refused(r: Refusal) -> EvaluateAnswer
-    ensures { result ≡ Calls.refused r }
-{
-    EvaluateAnswer {
-        checked: Checked::Refused(r),
-        value: QuadFelt::ZERO,
-    }
-}
-
-// Evaluate behind the tests of its words, with stores for the values and the index lent.
-fn evaluate_in(
+// Evaluate behind the tests of its words, with stores for so many values, and links for the index.
+fn evaluate_within<const VALUES: usize, const LINKS: usize>(
     prime: Prime,
     list: &[u64],
     n: usize,
     root: usize,
-    assignment: &[u64],
-    m: usize,
-    c0: &mut [u64],
-    c1: &mut [u64],
-    links: &mut [u64],
-) -> EvaluateAnswer
-    requires tested { Promises.Tested (field_of prime) (interleaved list.now) n root assignment.now m }
-    requires stores { Promises.Stores n m c0.old c1.old links.old }
-    ensures { result ≡ Calls.evaluate_answer (field_of prime) (interleaved list.now) n root assignment.now m }
+    entries: Entries<ENTRY_WORDS>,
+) -> Result<QuadFelt, Refusal>
+    requires tested { Promises.Tested (field_of prime) (interleaved list.now) n root entries.words.now entries.count }
+    requires sized { Promises.Sized VALUES LINKS n entries.count }
+    ensures { result ≡ Calls.evaluate_answer (field_of prime) (interleaved list.now) n root entries.entry.words.now entries.entry.count }
 {
-    index_keys(assignment, ENTRY_WORDS, m, links);
-    let filled = fill_values(prime, list, n, assignment, m, links, c0, c1);
-    match filled {
-        Checked::Refused(r) => refused(r),
-        Checked::Good => EvaluateAnswer {
-            checked: Checked::Good,
-            value: element_at(c0, c1, root),
-        },
-    }
+    let mut links = [0u64; LINKS];
+    entries.index(&mut links);
+    let mut values = [QuadFelt::ZERO; VALUES];
+    fill_values(prime, list, n, entries, &links, &mut values)?;
+    Ok(value_at(&values, root))
 }
 
 // The same, with stores for the lengths of the list and of the assignment.
@@ -308,56 +248,23 @@ fn evaluate_sized(
     list: &[u64],
     n: usize,
     root: usize,
-    assignment: &[u64],
-    m: usize,
-) -> EvaluateAnswer
-    requires { Promises.Tested (field_of prime) (interleaved list.now) n root assignment.now m }
-    ensures { result ≡ Calls.evaluate_answer (field_of prime) (interleaved list.now) n root assignment.now m }
+    entries: Entries<ENTRY_WORDS>,
+) -> Result<QuadFelt, Refusal>
+    requires { Promises.Tested (field_of prime) (interleaved list.now) n root entries.words.now entries.count }
+    ensures { result ≡ Calls.evaluate_answer (field_of prime) (interleaved list.now) n root entries.entry.words.now entries.entry.count }
 {
-    let most = larger(n, m);
+    let most = n.max(entries.count);
     if most <= FEW {
-        let mut c0 = [0u64; FEW];
-        let mut c1 = [0u64; FEW];
-        let mut links = [0u64; 2 * FEW];
-        return evaluate_in(
-            prime, list, n, root, assignment, m, &mut c0, &mut c1, &mut links,
-        );
+        evaluate_within::<FEW, FEW_LINKS>(prime, list, n, root, entries)
+    } else if most <= MANY {
+        evaluate_within::<MANY, MANY_LINKS>(prime, list, n, root, entries)
+    } else {
+        evaluate_within::<MOST_RECORDS, MOST_LINKS>(prime, list, n, root, entries)
     }
-    if most <= MANY {
-        let mut c0 = [0u64; MANY];
-        let mut c1 = [0u64; MANY];
-        let mut links = [0u64; 2 * MANY];
-        return evaluate_in(
-            prime, list, n, root, assignment, m, &mut c0, &mut c1, &mut links,
-        );
-    }
-    let mut c0 = [0u64; dag::MOST_RECORDS];
-    let mut c1 = [0u64; dag::MOST_RECORDS];
-    let mut links = [0u64; 2 * MOST_ENTRIES];
-    evaluate_in(
-        prime, list, n, root, assignment, m, &mut c0, &mut c1, &mut links,
-    )
-}
-
-// Evaluate's tests of its words: the list, then the entries.
-fn words_check(
-    prime: Prime,
-    list: &[u64],
-    n: usize,
-    root: usize,
-    assignment: &[u64],
-    m: usize,
-) -> Checked
-    ensures { result ≡ (list_check (field_of prime).bounds (interleaved list.now) n root then Entries.entries_check (field_of prime).bounds Calls.entry_words assignment.now m) }
-{
-    let listed = dag::list_check(prime, list, n, root);
-    if dag::is_refused(listed) {
-        return listed;
-    }
-    entries_check(prime, assignment, ENTRY_WORDS, m)
 }
 
 // Evaluate: the root's value under an assignment.
+#[tactic(auto, unfolding(crate::specs::Calls::evaluate_answer, crate::specs::Calls::evaluate_check))]
 pub fn evaluate(
     prime: Prime,
     list: &[u64],
@@ -365,12 +272,14 @@ pub fn evaluate(
     root: usize,
     assignment: &[u64],
     m: usize,
-) -> EvaluateAnswer
+) -> Result<QuadFelt, Refusal>
     ensures { result ≡ Calls.evaluate_answer (field_of prime) (interleaved list.now) n root assignment.now m }
 {
-    let checked = words_check(prime, list, n, root, assignment, m);
-    match checked {
-        Checked::Refused(r) => refused(r),
-        Checked::Good => evaluate_sized(prime, list, n, root, assignment, m),
-    }
+    let entries = Entries::<ENTRY_WORDS> {
+        words: assignment,
+        count: m,
+    };
+    dag::list_check(prime, list, n, root)?;
+    entries.check(prime)?;
+    evaluate_sized(prime, list, n, root, entries)
 }

@@ -1,6 +1,7 @@
--- Examples A to L of document 01, I and J in both fields: each is an answer of a definition and the answer that the document gives.
-use Rattle.std.specs.Prelude.{ℕ, zero, suc, ◌*◌, ◌-◌, List, [], ◌∷◌, ◌++◌, map, ◌≡◌, refl, length, replicate, Err}
+-- Examples A to L, I and J in both fields: each is an answer of a definition and the answer that is stated.
+use Rattle.std.specs.Prelude.{ℕ, zero, suc, ◌*◌, ◌-◌, List, [], ◌∷◌, ◌++◌, map, ◌≡◌, refl, length, replicate, Err, Result, Ok}
 use Rattle.field.specs.Fields.{field_of, goldilocks}
+use Rattle.dag.specs.declared.Refusal.{Refusal}
 use Rattle.dag.specs.Refusals.{first_refused, Checked}
 use Rattle.dag.specs.declared.Refusal.TheVariants.{Malformed}
 use Rattle.field.specs.Field.{p, q, felt, elements, same, new}
@@ -26,8 +27,6 @@ use Rattle.dag.specs.Check.{formed, earlier, record_check, check_at, room_check,
 use Rattle.periodic.specs.Builder.{turns, done}
 use Rattle.periodic.specs.Periodic.{build_periodic_nodes}
 use Rattle.lower.specs.Lower.{lower_room, lower_stores, period_good, lower_check, lowered, whole_check, lower_answer, lower_result}
-use Rattle.lower.specs.declared.LowerAnswer.{LowerAnswer}
-use Rattle.lower.specs.declared.LowerAnswer.TheVariants.{Done}
 use Rattle.normalize.specs.Calls.{normalized}
 use Rattle.text.specs.Text.{ascii, digits, decimal, ended, line}
 use Rattle.house_file.specs.File.{number, words_at, file_view, is_count, head_check, form_check, held_check, file_check}
@@ -201,9 +200,9 @@ K-copies = record {
 -- without columns the shared period 3 isn't read: Lower accepts, and copies the list
 abbrev L : Example
 L = record {
-  Answer = LowerAnswer;
+  Answer = Result ℕ Refusal;
   computed = lower_answer goldilocks (interleaved (0 ∷ 0 ∷ 0 ∷ [])) 1 [] [] 3 (7 ∷ 7 ∷ 7 ∷ 7 ∷ []) (replicate (record_words * most_records) 7) [];
-  stated = Done 1;
+  stated = Ok 1;
 }
 
 abbrev L-copied : Example

@@ -1,6 +1,8 @@
 -- Lower: its tests, what is built past them, and its answer and stores.
-use Rattle.std.specs.Prelude.{ℕ, zero, suc, ◌+◌, ◌*◌, ◌-◌, ◌<◌, ◌≤◌, Bool, true, false, cond, ◌&&◌, List, [], ◌∷◌, ◌++◌, ◌⊎◌, ◌≡◌, refl, eqb, length, take, drop, replicate}
+use Rattle.std.specs.Prelude.{ℕ, zero, suc, ◌+◌, ◌*◌, ◌-◌, ◌<◌, ◌≤◌, Bool, true, false, cond, ◌&&◌, List, [], ◌∷◌, ◌++◌, ◌⊎◌, ◌≡◌, refl, eqb, length, take, drop, replicate, max, fold, Result, Ok, Err}
 use Rattle.std.proofs.Common.{inl, inr, sym, ◌∙◌, add-one, arith, drop_of_length-le, drop_at, drop-cons, get_or-take, length-take-le}
+use Rattle.std.specs.List.{reduce}
+use Rattle.std.specs.Option.{unwrap_or}
 use Rattle.std.proofs.Math.Path.{ap, subst}
 use Rattle.std.proofs.Math.Nat.{le_trans}
 use borrow.Author.Tests.{le-leb, lt-leb, eq-eqb, ne_eqb, leb-true, leb-false, eqb-true}
@@ -14,7 +16,7 @@ use Rattle.dag.specs.View.{View, interleaved}
 use Rattle.dag.specs.ViewLaws.{words_room, words_agree, front_agree, agree_nodes, agree_sound, agree_trans}
 use Rattle.dag.specs.Nodes.{blank, most_records, record_words, nodes, filled}
 use Rattle.dag.specs.NodeLaws.{length_nodes}
-use Rattle.dag.specs.Refusals.{need, ◌then◌, is_refused, unless_refused}
+use Rattle.dag.specs.Refusals.{Checked, need, ◌then◌, is_refused, unless_refused}
 use Rattle.dag.specs.Check.{room_check, rootless_check}
 use Rattle.dag.specs.CheckLaws.{then_good, need_good, refused_then}
 use Rattle.dag.specs.PassLaws.{room_enough, listed}
@@ -22,8 +24,6 @@ use Rattle.dag.specs.Store.{Sound, front, stored}
 use Rattle.dag.specs.WordLaws.{filled_front}
 use Rattle.dag.specs.declared.Refusal.{Refusal}
 use Rattle.dag.specs.declared.Refusal.TheVariants.{NoRoom, SharedPeriod}
-use Rattle.dag.specs.declared.Checked.{Checked}
-use Rattle.dag.specs.declared.Checked.TheVariants.{Good, Refused}
 use Rattle.columns.specs.Columns.{log_within, is_power}
 use Rattle.columns.specs.Prepare.{columns, prepare_check}
 use Rattle.columns.specs.PrepareLaws.{prepared}
@@ -35,17 +35,20 @@ use Rattle.periodic.specs.StoreLaws.{links_back}
 use Rattle.lower.specs.Lower.{longest_from, longest, period_good, lower_check, lowered, lower_stores, lower_room, whole_check, lower_answer, lower_result, lower_places, lower_work}
 use Rattle.lower.specs.Promises.{Passed, Stored, has_room, HandedOver, Finished}
 use Rattle.lower.specs.FormLaws.{covered}
-use Rattle.lower.specs.declared.LowerAnswer.{LowerAnswer}
-use Rattle.lower.specs.declared.LowerAnswer.TheVariants as LowerAnswer'
 
--- the longest before place i, and those from there on
-pub longest_next : (ls : List ℕ) (i m k t : ℕ) → i < length ls → k ≡ cond (leb m (get_or ls i 0)) (get_or ls i 0) m → longest_from m (drop i ls) ≡ t → longest_from k (drop (i + 1) ls) ≡ t
+-- the longest, as std has the greatest
+longest_fold : (m : ℕ) (ls : List ℕ) → longest_from m ls ≡ fold max m ls
 unfolding longest_from
-longest_next ls i m k t h e inv = rw e (rw (drop-cons ls i 0 h, ← add-one i) at inv)
+longest_fold m [] = refl
+longest_fold m (n ∷ ls) = rw (longest_fold (cond (leb m n) n m) ls) (ap (λ k. fold max k ls) (greater m n))
+  where
+    greater : (m n : ℕ) → cond (leb m n) n m ≡ max m n
+    greater m n = cond_elim (λ k. k ≡ max m n) (leb m n) n m (λ e. omega (arith, leb-true m n e)) (λ e. omega (arith, leb-false m n e))
 
-pub longest_end : (ls : List ℕ) (i m t : ℕ) → length ls ≤ i → longest_from m (drop i ls) ≡ t → m ≡ t
-unfolding longest_from
-longest_end ls i m t h inv = rw (drop_of_length-le ls {i = i} h) at inv
+pub longest_is : (ls : List ℕ) → unwrap_or (reduce max ls) 0 ≡ longest ls
+unfolding longest
+longest_is [] = sym (longest_fold 0 [])
+longest_is (n ∷ ls) = let first : max 0 n ≡ n = omega arith in sym (longest_fold 0 (n ∷ ls) ∙ ap (λ k. fold max k ls) first)
 
 from_le : (m : ℕ) (ls : List ℕ) → m ≤ longest_from m ls
 unfolding longest_from
@@ -62,18 +65,6 @@ longest_le m (n ∷ ls) zero h =
 
 -- the shared period
 module _ (field : Field) (ls : List ℕ) (period : ℕ) where
-  pub period_none : length ls ≡ 0 → true ≡ period_good field ls period
-  unfolding period_good
-  period_none e = rw (eq-eqb (length ls) 0 e)
-
-  pub period_odd : (k : ℕ) → k ≡ field.most_log → (length ls ≡ 0 → ⊥) → is_power k period ≡ false → false ≡ period_good field ls period
-  unfolding period_good
-  period_odd k q n e = rw (ne_eqb (length ls) 0 n, ← q, e)
-
-  pub period_told : (k m : ℕ) → k ≡ field.most_log → (length ls ≡ 0 → ⊥) → is_power k period ≡ true → m ≡ longest ls → leb m period ≡ period_good field ls period
-  unfolding period_good
-  period_told k m r n e q = rw (ne_eqb (length ls) 0 n, ← r, e, q)
-
   covers : period_good field ls period ≡ true → (j : ℕ) → j < length ls → get_or ls j 0 ≤ period
   unfolding period_good longest
   covers e j h = go (or_true (eqb (length ls) 0) (is_power field.most_log period && leb (longest_from 0 ls) period) e)
@@ -82,26 +73,18 @@ module _ (field : Field) (ls : List ℕ) (period : ℕ) where
       go (inl z) = let q = eqb-true (length ls) 0 z in absurd (omega arith)
       go (inr b) = le_trans (longest_le 0 ls j h) (leb-true (longest_from 0 ls) period (and_true (is_power field.most_log period) (leb (longest_from 0 ls) period) b).1)
 
-pub blank_whole : (s t : List ℕ) (n : ℕ) → length s ≡ n → t ≡ take 0 s ++ replicate (length s - 0) blank → t ≡ replicate n blank
-blank_whole s t n e q = let k : length s - 0 ≡ n = omega arith in q ∙ ap (λ k. replicate k blank) k
-
--- a store filled from another
-pub filled_told : (a b c : List ℕ) (m n : ℕ) → m ≤ length a → take m b ≡ take m a → length b ≡ n → c ≡ take m b ++ replicate (length b - m) blank → c ≡ filled n (take m a)
-unfolding filled
-filled_told a b c m n h e k q = q ∙ rw (e, k, length-take-le m a h)
-
 module _ (work : List ℕ) (count : ℕ) (ns result places : List ℕ) where
-  refuses : has_room count result ≡ false → HandedOver work count ns result places (LowerAnswer'.Refused NoRoom) result places
+  refuses : has_room count result ≡ false → HandedOver work count ns result places (Err NoRoom) result places
   refuses e = record { answer = rw e; result_is = rw e; places_are = rw e }
 
-  pub handed_long : most_records < count → HandedOver work count ns result places (LowerAnswer'.Refused NoRoom) result places
+  pub handed_long : most_records < count → HandedOver work count ns result places (Err NoRoom) result places
   handed_long h = refuses (rw (lt-leb count most_records h))
 
-  pub handed_short : count ≤ most_records → (interleaved result).room < count → HandedOver work count ns result places (LowerAnswer'.Refused NoRoom) result places
+  pub handed_short : count ≤ most_records → (interleaved result).room < count → HandedOver work count ns result places (Err NoRoom) result places
   handed_short h k = refuses (rw (le-leb count most_records h) (lt-leb count (interleaved result).room k))
 
   pub handed_done : (after listed : List ℕ) → count ≤ most_records → count ≤ (interleaved result).room → after ≡ filled (length result) (front count work) → listed ≡ filled (length places) (take (length ns) ns)
-      → HandedOver work count ns result places (LowerAnswer'.Done count) after listed
+      → HandedOver work count ns result places (Ok count) after listed
   handed_done after listed h k e f =
       let t : has_room count result ≡ true = rw (le-leb count most_records h) (le-leb count (interleaved result).room k) in
       record { answer = rw t; result_is = rw t e; places_are = rw t (f ∙ ap (filled (length places)) (take-length ns)) }
@@ -128,27 +111,9 @@ module _ (n : ℕ) (few : n ≤ most_records) where
       same k h = rw (links_back u ys long) (sym (get_or-append (take list_words u) ys 0 k (omega (arith, before)) ∙ get_or-take list_words u k 0 (omega arith)))
 
 module _ (field : Field) where
-  -- the tests in their order
+  -- what the tests give
   module _ (s : View) (n : ℕ) (ls es : List ℕ) (period work_room place_words : ℕ) where
-    pub check_list : (r : Checked) → r ≡ rootless_check field.bounds 0 s n → is_refused (rootless_check field.bounds 0 s n) ≡ true → r ≡ lower_check field s n ls es period work_room place_words
-    unfolding lower_check
-    check_list r e bad = e ∙ refused_then (rootless_check field.bounds 0 s n) _ bad
-
-    module _ (good : rootless_check field.bounds 0 s n ≡ Good) where
-      pub check_columns : (r : Checked) → r ≡ prepare_check (modulus field) ls es → is_refused (prepare_check (modulus field) ls es) ≡ true → r ≡ lower_check field s n ls es period work_room place_words
-      unfolding lower_check
-      check_columns r e bad = rw good (e ∙ refused_then (prepare_check (modulus field) ls es) _ bad)
-
-      module _ (fine : prepare_check (modulus field) ls es ≡ Good) where
-        pub check_stores : (r : Checked) → r ≡ lower_stores ls work_room place_words → is_refused (lower_stores ls work_room place_words) ≡ true → r ≡ lower_check field s n ls es period work_room place_words
-        unfolding lower_check
-        check_stores r e bad = rw (good, fine) (e ∙ refused_then (lower_stores ls work_room place_words) _ bad)
-
-        pub check_period : (t : Bool) → lower_stores ls work_room place_words ≡ Good → t ≡ period_good field ls period → need t SharedPeriod ≡ lower_check field s n ls es period work_room place_words
-        unfolding lower_check
-        check_period t h e = rw (good, fine, h, e)
-
-    pub passed : lower_check field s n ls es period work_room place_words ≡ Good → Passed field s n ls es period place_words
+    pub passed : lower_check field s n ls es period work_room place_words ≡ Ok tt → Passed field s n ls es period place_words
     unfolding lower_check lower_stores
     passed e =
         let one = then_good (rootless_check field.bounds 0 s n) (prepare_check (modulus field) ls es then lower_stores ls work_room place_words then need (period_good field ls period) SharedPeriod) e in
@@ -183,7 +148,7 @@ module _ (field : Field) where
     stored_ready = record { long = d.long; sound = λ _. stored_sound; indexed = stored_holds.indexed }
 
   module _ (result places : List ℕ) (L : Run (List ℕ)) (work : List ℕ) (count : ℕ) (ns : List ℕ) (holds : Holds field work count L.list) (answers : count ≤ most_records → ns ≡ L.answer)
-      (r : LowerAnswer) (after listed : List ℕ) (h : HandedOver work count ns result places r after listed) where
+      (r : Result ℕ Refusal) (after listed : List ℕ) (h : HandedOver work count ns result places r after listed) where
     fits : count ≤ most_records → length L.list ≡ count
     fits i = ap length (sym (holds.list_is i)) ∙ length_nodes (interleaved work) count
 
@@ -202,10 +167,10 @@ module _ (field : Field) where
         go true q = ap (λ w. cond (leb count (interleaved result).room) w z) (e (leb-true count most_records q))
         go false q = refl
 
-    room_answer : r ≡ unless_refused (lower_room L (interleaved result).room) LowerAnswer'.Refused (LowerAnswer'.Done (length L.list))
+    room_answer : r ≡ unless_refused (lower_room L (interleaved result).room) Err (Ok (length L.list))
     unfolding lower_room
     room_answer =
-        h.answer ∙ (when_room (LowerAnswer'.Done count) (LowerAnswer'.Done (length L.list)) (LowerAnswer'.Refused NoRoom) (λ i. ap LowerAnswer'.Done (sym (fits i))) ∙ need_cond (has_room (length L.list) result) NoRoom LowerAnswer'.Refused (LowerAnswer'.Done (length L.list)))
+        h.answer ∙ (when_room (Ok count) (Ok (length L.list)) (Err NoRoom) (λ i. ap Ok (sym (fits i))) ∙ need_cond (has_room (length L.list) result) NoRoom Err (Ok (length L.list)))
 
     room_result : after ≡ unless_refused (lower_room L (interleaved result).room) (λ q. result) (stored result L.list)
     unfolding lower_room
@@ -221,7 +186,7 @@ module _ (field : Field) where
         ∙ (when_room (filled (length places) ns) (filled (length places) L.answer) places (λ i. ap (filled (length places)) (answers i))
         ∙ need_cond (has_room (length L.list) result) NoRoom (λ q. places) (filled (length places) L.answer))
 
-  pub finished : (s : View) (n : ℕ) (ls es : List ℕ) (period : ℕ) (result places : List ℕ) (words : List ℕ) (log : ℕ) (built : List ℕ) (count : ℕ) (ns : List ℕ) (r : LowerAnswer) (after listed : List ℕ)
+  pub finished : (s : View) (n : ℕ) (ls es : List ℕ) (period : ℕ) (result places : List ℕ) (words : List ℕ) (log : ℕ) (built : List ℕ) (count : ℕ) (ns : List ℕ) (r : Result ℕ Refusal) (after listed : List ℕ)
       → Passed field s n ls es period (length places)
       → Stored s n words
       → log ≡ log_within field.most_log period
@@ -242,18 +207,18 @@ module _ (field : Field) where
       }
 
   -- the whole call
-  pub record Called (s : View) (n : ℕ) (ls es : List ℕ) (period : ℕ) (result work places : List ℕ) (r : LowerAnswer) (after blanked listed : List ℕ) : Type 0 where
+  pub record Called (s : View) (n : ℕ) (ls es : List ℕ) (period : ℕ) (result work places : List ℕ) (r : Result ℕ Refusal) (after blanked listed : List ℕ) : Type 0 where
     pub answer : r ≡ lower_answer field s n ls es period result work places
     pub result_is : after ≡ lower_result field s n ls es period result work places
     pub work_is : blanked ≡ lower_work field s n ls es period result work places
     pub places_are : listed ≡ lower_places field s n ls es period result work places
 
   module _ (s : View) (n : ℕ) (ls es : List ℕ) (period : ℕ) (result work places : List ℕ) where
-    pub lower_refused : (r : Refusal) → lower_check field s n ls es period (interleaved work).room (length places) ≡ Refused r → Called s n ls es period result work places (LowerAnswer'.Refused r) result work places
+    pub lower_refused : (r : Refusal) → lower_check field s n ls es period (interleaved work).room (length places) ≡ Err r → Called s n ls es period result work places (Err r) result work places
     unfolding lower_answer lower_result lower_work lower_places whole_check
     lower_refused r e = record { answer = rw e; result_is = rw e; work_is = rw e; places_are = rw e }
 
-    pub lower_done : (r : LowerAnswer) (after blanked listed : List ℕ) → lower_check field s n ls es period (interleaved work).room (length places) ≡ Good
+    pub lower_done : (r : Result ℕ Refusal) (after blanked listed : List ℕ) → lower_check field s n ls es period (interleaved work).room (length places) ≡ Ok tt
         → Finished field s n ls es period result places r after listed → blanked ≡ replicate (length work) blank
         → Called s n ls es period result work places r after blanked listed
     unfolding lower_answer lower_result lower_work lower_places whole_check

@@ -1,19 +1,17 @@
 -- Lower (document 01): its tests, its answer, and every word of every lent store.
-use Rattle.std.specs.Prelude.{ℕ, Bool, cond, ◌&&◌, ◌||◌, List, [], ◌∷◌, leb, eqb, length, replicate}
+use Rattle.std.specs.Prelude.{ℕ, Bool, cond, ◌&&◌, ◌||◌, List, [], ◌∷◌, leb, eqb, length, replicate, Result, Ok, Err}
 use Rattle.field.specs.Fields.{Field, modulus}
 use Rattle.dag.specs.View.{View, interleaved}
 use Rattle.dag.specs.Nodes.{blank, most_records, nodes, filled}
 use Rattle.dag.specs.Store.{stored}
-use Rattle.dag.specs.Refusals.{need, ◌then◌, unless_refused}
+use Rattle.dag.specs.Refusals.{Checked, need, ◌then◌, unless_refused}
 use Rattle.dag.specs.Check.{room_check, rootless_check}
+use Rattle.dag.specs.declared.Refusal.{Refusal}
 use Rattle.dag.specs.declared.Refusal.TheVariants.{NoRoom, SharedPeriod}
-use Rattle.dag.specs.declared.Checked.{Checked}
 use Rattle.columns.specs.Columns.{log_within, is_power}
 use Rattle.columns.specs.Prepare.{columns, prepare_check}
 use Rattle.periodic.specs.Builder.{Run}
 use Rattle.periodic.specs.Periodic.{build_periodic_nodes}
-use Rattle.lower.specs.declared.LowerAnswer.{LowerAnswer}
-use Rattle.lower.specs.declared.LowerAnswer.TheVariants as LowerAnswer'
 
 -- the longest of m and these lengths
 unfoldable pub longest_from : ℕ → List ℕ → ℕ
@@ -52,8 +50,8 @@ module _ (field : Field) where
     unfoldable pub whole_check : Checked
     whole_check = lower_check s n ls es period (interleaved work).room (length places) then lower_room (lowered s n ls es period) (interleaved result).room
 
-    unfoldable pub lower_answer : LowerAnswer
-    lower_answer = unless_refused whole_check LowerAnswer'.Refused (LowerAnswer'.Done (length (lowered s n ls es period).list))
+    unfoldable pub lower_answer : Result ℕ Refusal
+    lower_answer = unless_refused whole_check Err (Ok (length (lowered s n ls es period).list))
 
     unfoldable pub lower_result : List ℕ
     lower_result = unless_refused whole_check (λ r. result) (stored result (lowered s n ls es period).list)

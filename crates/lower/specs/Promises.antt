@@ -1,5 +1,5 @@
 -- What the functions of Lower ask and say.
-use Rattle.std.specs.Prelude.{ℕ, ◌<◌, ◌≤◌, List, ◌≡◌, Bool, cond, ◌&&◌, length, leb}
+use Rattle.std.specs.Prelude.{ℕ, ◌<◌, ◌≤◌, List, ◌≡◌, Bool, cond, ◌&&◌, length, leb, Result, Ok, Err}
 use Rattle.field.specs.Fields.{Field, modulus}
 use Rattle.dag.specs.View.{View, interleaved, Agree}
 use Rattle.dag.specs.Nodes.{most_records, nodes, filled}
@@ -12,11 +12,10 @@ use Rattle.columns.specs.Promises.{Tested}
 use Rattle.columns.specs.declared.Form.{Form}
 use Rattle.columns.specs.declared.Form.TheVariants.{Sparse}
 use Rattle.periodic.specs.Promises.{Few, store_words, links}
+use Rattle.dag.specs.declared.Refusal.{Refusal}
 use Rattle.dag.specs.declared.Refusal.TheVariants.{NoRoom}
 use Rattle.index.specs.Index.{NodeIndex}
 use Rattle.lower.specs.Lower.{lowered, lower_room}
-use Rattle.lower.specs.declared.LowerAnswer.{LowerAnswer}
-use Rattle.lower.specs.declared.LowerAnswer.TheVariants as LowerAnswer'
 
 -- a column in a form that it can have
 pub record Formed (c : List ℕ) (f : Form) : Type 0 where
@@ -27,8 +26,8 @@ abbrev pub has_room : ℕ → List ℕ → Bool
 has_room count result = leb count most_records && leb count (interleaved result).room
 
 -- what was built is handed over where it has room
-pub record HandedOver (work : List ℕ) (count : ℕ) (ns result places : List ℕ) (r : LowerAnswer) (after listed : List ℕ) : Type 0 where
-  pub answer : r ≡ cond (has_room count result) (LowerAnswer'.Done count) (LowerAnswer'.Refused NoRoom)
+pub record HandedOver (work : List ℕ) (count : ℕ) (ns result places : List ℕ) (r : Result ℕ Refusal) (after listed : List ℕ) : Type 0 where
+  pub answer : r ≡ cond (has_room count result) (Ok count) (Err NoRoom)
   pub result_is : after ≡ cond (has_room count result) (filled (length result) (front count work)) result
   pub places_are : listed ≡ cond (has_room count result) (filled (length places) ns) places
 
@@ -52,7 +51,7 @@ module _ (field : Field) where
     pub covered : Covered ls es (log_within field.most_log period)
 
   -- the answer and the stores, past the first tests
-  pub record Finished (s : View) (n : ℕ) (ls es : List ℕ) (period : ℕ) (result places : List ℕ) (r : LowerAnswer) (after listed : List ℕ) : Type 0 where
-    pub answer : r ≡ unless_refused (lower_room (lowered field s n ls es period) (interleaved result).room) LowerAnswer'.Refused (LowerAnswer'.Done (length (lowered field s n ls es period).list))
+  pub record Finished (s : View) (n : ℕ) (ls es : List ℕ) (period : ℕ) (result places : List ℕ) (r : Result ℕ Refusal) (after listed : List ℕ) : Type 0 where
+    pub answer : r ≡ unless_refused (lower_room (lowered field s n ls es period) (interleaved result).room) Err (Ok (length (lowered field s n ls es period).list))
     pub result_is : after ≡ unless_refused (lower_room (lowered field s n ls es period) (interleaved result).room) (λ q. result) (stored result (lowered field s n ls es period).list)
     pub places_are : listed ≡ unless_refused (lower_room (lowered field s n ls es period) (interleaved result).room) (λ q. places) (filled (length places) (lowered field s n ls es period).answer)

@@ -1,5 +1,5 @@
 -- Computations on a builder's list: requests one after the other, with an answer at the end.
-use Rattle.std.specs.Prelude.{ℕ, zero, suc, List, [], ◌∷◌, ◌++◌, ◌≡◌, refl, length}
+use Rattle.std.specs.Prelude.{ℕ, zero, suc, List, [], ◌∷◌, ◌++◌, ◌≡◌, refl, length, Option, Some, None}
 use Rattle.std.proofs.Common.{append-nil, append_assoc, sym, ◌∙◌, ap}
 use Rattle.ring.specs.Ring.{Ops}
 use Rattle.field.specs.Field.{new}
@@ -7,8 +7,6 @@ use Rattle.field.specs.declared.QuadFelt.{QuadFelt}
 use Rattle.dag.specs.Lookup.{lookup}
 use Rattle.dag.specs.declared.NodeKind.{NodeKind}
 use Rattle.dag.specs.declared.NodeKind.TheVariants.{Input, Constant, Add, Sub, Mul}
-use Rattle.dag.specs.declared.Found.{Found}
-use Rattle.dag.specs.declared.Found.TheVariants.{At, Missing}
 use Rattle.builder.specs.Steps as Steps
 use Rattle.builder.specs.declared.Outcome.{Outcome}
 use Rattle.builder.specs.declared.Outcome.TheVariants.{Place, Node}
@@ -52,10 +50,10 @@ turns f zero a = done a
 turns f (suc n) a = turns f n a >>= f n
 
 -- a step appends at most one record
-interned_extends : (l : List NodeKind) (x : NodeKind) (f : Found) → Extends l (Steps.interned l x f).list
+interned_extends : (l : List NodeKind) (x : NodeKind) (f : Option ℕ) → Extends l (Steps.interned l x f).list
 unfolding Steps.interned
-interned_extends l x (At i) = extends_none l
-interned_extends l x Missing = (x ∷ [], refl)
+interned_extends l x (Some i) = extends_none l
+interned_extends l x None = (x ∷ [], refl)
 
 enter_extends : (l : List NodeKind) (o : Outcome) → Extends l (Steps.enter l o).list
 unfolding Steps.enter Steps.intern

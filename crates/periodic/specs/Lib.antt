@@ -1,11 +1,11 @@
 pub mod Builder
 pub mod Periodic
 pub mod Promises
+pub mod Runs
+pub mod SameLaws
 pub mod RunLaws
-pub mod StoreLaws
 pub mod EnterLaws
 pub mod ListLaws
-pub mod SparseLaws
-pub mod SameLaws
 pub mod NumberLaws
 pub mod ValueLaws
+pub mod LoadLaws

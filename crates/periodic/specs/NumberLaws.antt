@@ -6,7 +6,7 @@ use Rattle.std.proofs.Math.Path.{refl}
 use Rattle.std.proofs.Common.{◌∙◌, take_at}
 use Rattle.std.proofs.Math.ListN.{length}
 use Rattle.std.proofs.Math.Seq.{get_or-take}
-use Rattle.field.specs.Fields.{Field, modulus, coordinate_laws}
+use Rattle.field.specs.Fields.{Field, field_of, modulus, coordinate_laws}
 use Rattle.ring.specs.Power.{low_pow}
 use Rattle.columns.specs.Columns.{log_length, support}
 use Rattle.columns.specs.Prepare.{all_below}
@@ -16,7 +16,8 @@ use Rattle.columns.specs.CostLaws.{log_length_le}
 use Rattle.columns.specs.ClassLaws.{below_snoc}
 use Rattle.coefficients.specs.Terms.{dense, scaled_value, twiddle}
 use Rattle.coefficients.specs.Arrays.{coefficients, twiddles, sparse_twiddles, sparse_values}
-use Rattle.periodic.specs.Promises.{Rows}
+use Rattle.field.specs.declared.Prime.{Prime}
+use Rattle.periodic.specs.Promises.{Row, Rows}
 
 module _ (field : Field) where
   module _ (c : List ℕ) where
@@ -74,3 +75,10 @@ module _ (field : Field) where
 
     pub length_dense : (numbers : List ℕ) → numbers ≡ coefficients field c → length (take (length c) numbers) ≡ length c
     length_dense numbers e = rw (dense_are numbers e) (length_up_to (dense field c) (length c))
+
+-- under the same prime
+pub row_later : {p q : Prime} (row : List ℕ) (log : ℕ) → p ≡ q → Row (field_of q) row log → Row (field_of p) row log
+row_later row log e d = rw e d
+
+pub rows_later : {p q : Prime} (rows : List (List ℕ)) (log : ℕ) (values : List ℕ) (t : ℕ) → p ≡ q → Rows (field_of q) rows log values t → Rows (field_of p) rows log values t
+rows_later rows log values t e d = rw e d

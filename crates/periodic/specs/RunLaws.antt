@@ -1,124 +1,205 @@
 -- Computations run one after the other.
-use Rattle.std.specs.Prelude.{ℕ, ◌+◌, ◌<◌, ◌≤◌, ◌⊎◌, ◌≡◌, length, replicate}
-use mathlib.Core.List.{List}
-use Rattle.std.proofs.Common.{inl, inr, ◌∙◌, ap, subst, lt_of_lt_of_le, add-one, length-append}
+use Rattle.std.specs.Prelude.{ℕ, zero, suc, ◌+◌, ◌<◌, ◌≤◌, ◌⊎◌, ◌≡◌, get_or, length, Result, Ok, Err, IsErr}
+use Rattle.std.specs.Result.{IsErrAnd}
+use Rattle.std.proofs.lemmas.Result.{err_from_is_err_and}
+use mathlib.Core.List.{List, [], ◌∷◌, ◌++◌}
+use Rattle.std.proofs.Common.{inl, inr, sym, ◌∙◌, ap, subst, lt_of_lt_of_le, add-one, length-append}
+use Rattle.std.proofs.Math.ListN.{get_or-append}
+use Rattle.std.proofs.lemmas.List.{get_or_at}
 use Rattle.std.proofs.Math.Path.{refl}
 use Rattle.std.proofs.Math.Nat.{le_trans}
 use native.Mathlib.Omega.{arith}
-use Rattle.std.proofs.lemmas.List.{length-replicate}
-use Rattle.field.specs.Fields.{Field}
-use Rattle.dag.specs.View.{interleaved}
-use Rattle.dag.specs.CaseLaws.{le_or_lt}
-use Rattle.dag.specs.Nodes.{most_records, nodes}
+use Rattle.arrayvec.specs.ArrayVec.{ArrayVec}
+use Rattle.field.specs.Fields.{Field, field_of}
+use Rattle.field.specs.Field.{modulus_of}
+use Rattle.field.specs.declared.Prime.{Prime}
+use Rattle.dag.specs.CaseLaws.{below_suc}
+use Rattle.dag.specs.Nodes.{most_records}
 use Rattle.dag.specs.declared.NodeKind.{NodeKind}
-use Rattle.dag.specs.declared.NodeKind.TheVariants.{Input}
-use Rattle.builder.specs.declared.Entered.{Entered}
-use Rattle.periodic.specs.Builder.{Builder, done, ◌>>=◌, turns}
-use Rattle.periodic.specs.Promises.{Holds, Ready, Inside, Ran, Entering}
+use Rattle.dag.specs.declared.Refusal.{Refusal}
+use Rattle.periodic.specs.Builder.{Builder, done, ◌>>=◌, turns, also}
+use Rattle.periodic.specs.Promises.{AllInside}
+use Rattle.periodic.specs.SameLaws.{Same}
+use Rattle.periodic.specs.Runs.{State, Ran, Overlong, Entered, Answered, Entering, Listed, Listing}
 
--- a longer list is still too long
 grows : {A : Type 0} (m : Builder A) (l : List NodeKind) → length l ≤ length (m.run l).list
 grows m l = omega (arith, ap length (m.extends l).1, length-append l (m.extends l).0)
 
--- places stay inside a longer list
-pub inside_later : {n k a : ℕ} → n ≤ k → Inside n a → Inside k a
-inside_later h f j = lt_of_lt_of_le (f (omega arith)) h
+-- a list that is too long stays so
+pub long_first : {A B : Type 0} {b : State} {m : Field → Builder A} (f : Field → A → Builder B) {r : Refusal} → Overlong b m r → Overlong b (λ field. m field >>= f field) r
+unfolding ◌>>=◌
+long_first {b = b} {m = m} f d =
+    let l = (m (field_of b.prime)).run b.list in
+    record { reason = d.reason; long = omega (arith, d.long, grows (f (field_of b.prime) l.answer) l.list) }
 
-module _ (field : Field) where
-  pub stays_long : {A : Type 0} (m : Builder A) (s : List ℕ) (k : ℕ) (l : List NodeKind) → most_records < k → most_records < length l → Holds field s k (m.run l).list
-  stays_long m s k l h j =
+-- one computation, then the next on its answer
+module _ {A B : Type 0} {b c : State} {m : Field → Builder A} {a : A} (f : Field → A → Builder B) (d : Ran b m c a) where
+  same_run : (f (field_of c.prime) a).run c.list ≡ (m (field_of b.prime) >>= f (field_of b.prime)).run b.list
+  unfolding ◌>>=◌
+  same_run =
+      ap (λ p. (f (field_of p) a).run c.list) d.prime_is
+      ∙ (ap (λ x. (f (field_of b.prime) x).run c.list) d.answer_is
+      ∙ ap (λ l. (f (field_of b.prime) ((m (field_of b.prime)).run b.list).answer).run l) d.list_is)
+
+  pub then_ran : {e : State} {x : B} → Ran c (λ field. f field a) e x → Ran b (λ field. m field >>= f field) e x
+  then_ran q =
       record {
-        sound = λ i. absurd (omega arith);
-        list_is = λ i. absurd (omega arith);
-        indexed = λ i. absurd (omega arith);
-        too_long = λ _. lt_of_lt_of_le j (grows m l);
+        prime_is = q.prime_is ∙ d.prime_is;
+        longer = le_trans d.longer q.longer;
+        list_is = q.list_is ∙ ap (λ r. r.list) same_run;
+        answer_is = q.answer_is ∙ ap (λ r. r.answer) same_run;
       }
 
-  -- some list is held
-  held : (s : List ℕ) (n : ℕ) → Ready field s n → (l : List NodeKind) × Holds field s n l
-  held s n r = go (le_or_lt n most_records)
+  pub then_long : {r : Refusal} → Overlong c (λ field. f field a) r → Overlong b (λ field. m field >>= f field) r
+  then_long q = record { reason = q.reason; long = subst (λ r. most_records < length r.list) same_run q.long }
+
+then_told : {A : Type 0} {b c : State} {m : Field → Builder A} {a : A} (f : Field → A → Builder ℕ) (e : State) (r : Result ℕ Refusal)
+    → Ran b m c a → Answered c (λ field. f field a) e r → Answered b (λ field. m field >>= f field) e r
+then_told f e (Ok x) d q = record { ran = then_ran f d q.ran; inside = q.inside }
+then_told f e (Err x) d q = then_long f d q
+
+pub then_enter : {A : Type 0} {b c : State} {m : Field → Builder A} {a : A} (f : Field → A → Builder ℕ) {e : State} {r : Result ℕ Refusal}
+    → Ran b m c a → Entering c (λ field. f field a) e r → Entering b (λ field. m field >>= f field) e r
+then_enter f {e} {r} d q = record { told = then_told f e r d q.told }
+
+pub then_entered : {A : Type 0} {b c : State} {m : Field → Builder A} {a : A} (f : Field → A → Builder ℕ) {e : State} {x : ℕ}
+    → Ran b m c a → Entered c (λ field. f field a) e x → Entered b (λ field. m field >>= f field) e x
+then_entered f d q = record { ran = then_ran f d q.ran; inside = q.inside }
+
+pub enter_done : {b : State} {a : ℕ} → a < b.count → Entering b (λ field. done a) b (Ok a)
+unfolding done
+enter_done h = record { told = record { ran = record { prime_is = refl; longer = omega arith; list_is = refl; answer_is = refl }; inside = h } }
+
+-- a refusal is passed on
+pub refused : {b : State} {m : Field → Builder ℕ} (c : State) (r : Result ℕ Refusal) {x : Refusal} → IsErr r × IsErrAnd r (λ y. y ≡ x) → Overlong b m x → Entering b m c r
+refused c r h d = let p = err_from_is_err_and r h.1 in rw (p.1, p.2) (record { told = d })
+
+-- turns
+module _ {A : Type 0} (f : Field → ℕ → A → Builder A) (b : State) (a : A) where
+  pub turn_none : Ran b (λ field. turns (f field) 0 a) b a
+  unfolding turns done
+  turn_none = record { prime_is = refl; longer = omega arith; list_is = refl; answer_is = refl }
+
+  pub turn_next : {i : ℕ} {c : State} {x : A} {e : State} {y : A} → Ran b (λ field. turns (f field) i a) c x → Ran c (λ field. f field i x) e y → Ran b (λ field. turns (f field) (i + 1) a) e y
+  unfolding turns
+  turn_next {i} d q = rw (add-one i) (then_ran (λ field. f field i) d q)
+
+  more_turns : (i k : ℕ) (r : Refusal) → i ≤ k → Overlong b (λ field. turns (f field) i a) r → Overlong b (λ field. turns (f field) k a) r
+  unfolding turns
+  more_turns i zero r h d = let e : i ≡ 0 = omega arith in subst (λ n. Overlong b (λ field. turns (f field) n a) r) e d
+  more_turns i (suc k) r h d = go (below_suc i (suc k) (omega arith)) (λ j. more_turns i k r j d)
     where
-      go : (n ≤ most_records) ⊎ (most_records < n) → (l : List NodeKind) × Holds field s n l
-      go (inl h) = (nodes (interleaved s) n, record { sound = r.sound; list_is = λ _. refl; indexed = r.indexed; too_long = λ j. absurd (omega arith) })
-      go (inr h) =
-          (replicate n (Input 0), record { sound = r.sound; list_is = λ j. absurd (omega arith); indexed = r.indexed; too_long = λ _. omega (arith, length-replicate n (Input 0)) })
+      go : (i < suc k) ⊎ (i ≡ suc k) → (i ≤ k → Overlong b (λ field. turns (f field) k a) r) → Overlong b (λ field. turns (f field) (suc k) a) r
+      go (inl j) before = long_first (λ field. f field k) (before (omega arith))
+      go (inr e) before = subst (λ n. Overlong b (λ field. turns (f field) n a) r) e d
 
-  module _ {A : Type 0} (s : List ℕ) (n : ℕ) (m : Builder A) (after : List ℕ) (k : ℕ) (Is : A → Type 0) where
-    pub ready_after : Ready field s n → Ran field s n m after k Is → Ready field after k
-    ready_after r d =
-        record {
-          long = d.kept ∙ r.long;
-          sound = (d.gives (held s n r).0 (held s n r).1).sound;
-          indexed = (d.gives (held s n r).0 (held s n r).1).indexed;
-        }
+  pub turn_long : {i k : ℕ} {c : State} {x : A} {r : Refusal} → i < k → Ran b (λ field. turns (f field) i a) c x → Overlong c (λ field. f field i x) r → Overlong b (λ field. turns (f field) k a) r
+  unfolding turns
+  turn_long {i} {k} {r = r} h d q = more_turns (suc i) k r (omega arith) (then_long (λ field. f field i) d q)
 
-    pub ran_as : (q : Builder A) → ((l : List NodeKind) → m.run l ≡ q.run l) → Ran field s n m after k Is → Ran field s n q after k Is
-    ran_as q e d =
-        record {
-          kept = d.kept;
-          longer = d.longer;
-          gives = λ l h. subst (λ r. Holds field after k r.list) (e l) (d.gives l h);
-          answers = λ l h j. subst (λ r. Is r.answer) (e l) (d.answers l h j);
-        }
+  pub turn_all : {i k : ℕ} {c : State} {x : A} → i ≤ k → k ≤ i → Ran b (λ field. turns (f field) i a) c x → Ran b (λ field. turns (f field) k a) c x
+  turn_all {i} {k} {c} {x} h j d = let e : i ≡ k = omega arith in subst (λ n. Ran b (λ field. turns (f field) n a) c x) e d
 
-    pub ran_is : (Js : A → Type 0) → ((a : A) → Is a → Js a) → Ran field s n m after k Is → Ran field s n m after k Js
-    ran_is Js f d = record { kept = d.kept; longer = d.longer; gives = d.gives; answers = λ l h j. f (m.run l).answer (d.answers l h j) }
+-- turns on a place
+module _ (f : Field → ℕ → ℕ → Builder ℕ) (b : State) (a : ℕ) where
+  pub enter_none : a < b.count → Entered b (λ field. turns (f field) 0 a) b a
+  enter_none h = record { ran = turn_none f b a; inside = h }
 
-  pub ran_done : {A : Type 0} (s : List ℕ) (n : ℕ) (a : A) → Ran field s n (done a) s n (λ b. a ≡ b)
-  unfolding done
-  ran_done s n a = record { kept = refl; longer = omega arith; gives = λ l h. h; answers = λ l h j. refl }
+  pub enter_next : {i : ℕ} {c : State} {x : ℕ} {e : State} {y : ℕ} → Entered b (λ field. turns (f field) i a) c x → Entered c (λ field. f field i x) e y → Entered b (λ field. turns (f field) (i + 1) a) e y
+  enter_next d q = record { ran = turn_next f b a d.ran q.ran; inside = q.inside }
 
-  -- one computation, then the next
-  module _ {A B : Type 0} (s : List ℕ) (n : ℕ) (m : Builder A) (s1 : List ℕ) (k1 : ℕ) (Is : A → Type 0) (f : A → Builder B) (s2 : List ℕ) (k2 : ℕ) (Js : B → Type 0) where
-    pub ran_bind : Ran field s n m s1 k1 Is → length s2 ≡ length s1 → k1 ≤ k2 → ((a : A) → Is a → Ran field s1 k1 (f a) s2 k2 Js) → Ran field s n (m >>= f) s2 k2 Js
-    unfolding ◌>>=◌
-    ran_bind d kept longer e =
-        record {
-          kept = kept ∙ d.kept;
-          longer = le_trans d.longer longer;
-          gives = λ l h. gives l h (le_or_lt k1 most_records);
-          answers = λ l h j. let i : k1 ≤ most_records = omega arith in (e (m.run l).answer (d.answers l h i)).answers (m.run l).list (d.gives l h) j;
-        }
-      where
-        gives : (l : List NodeKind) → Holds field s n l → (k1 ≤ most_records) ⊎ (most_records < k1) → Holds field s2 k2 ((f (m.run l).answer).run (m.run l).list).list
-        gives l h (inl i) = (e (m.run l).answer (d.answers l h i)).gives (m.run l).list (d.gives l h)
-        gives l h (inr i) = stays_long (f (m.run l).answer) s2 k2 (m.run l).list (lt_of_lt_of_le i longer) ((d.gives l h).too_long i)
+  pub enter_all : {i k : ℕ} {c : State} {x : ℕ} → i ≤ k → k ≤ i → Entered b (λ field. turns (f field) i a) c x → Entering b (λ field. turns (f field) k a) c (Ok x)
+  enter_all h j d = record { told = record { ran = turn_all f b a h j d.ran; inside = d.inside } }
 
-  -- the first answers a place, on which the second goes on
-  module _ (s : List ℕ) (n : ℕ) (m : Builder ℕ) (s1 : List ℕ) (r1 : Entered) where
-    pub then_ran : {B : Type 0} (f : ℕ → Builder B) (s2 : List ℕ) (k2 : ℕ) (Js : B → Type 0) → Entering field s n m s1 r1 → Ran field s1 r1.count (f r1.place) s2 k2 Js → Ran field s n (m >>= f) s2 k2 Js
-    then_ran f s2 k2 Js d e =
-        ran_bind s n m s1 r1.count (λ a. r1.place ≡ a) f s2 k2 Js d.ran e.kept e.longer (λ a q. subst (λ x. Ran field s1 r1.count (f x) s2 k2 Js) q e)
+-- one more place
+also_ran : {b : State} {m : Field → Builder ℕ} {c : State} {q : ℕ} (ps : List ℕ) → Ran b m c q → Ran b (λ field. also ps (m field)) c (ps ++ (q ∷ []))
+unfolding also done
+also_ran ps d = then_ran (λ field q. done (ps ++ (q ∷ []))) d (record { prime_is = refl; longer = omega arith; list_is = refl; answer_is = refl })
 
-    pub then_enter : (f : ℕ → Builder ℕ) (s2 : List ℕ) (r2 : Entered) → Entering field s n m s1 r1 → Entering field s1 r1.count (f r1.place) s2 r2 → Entering field s n (m >>= f) s2 r2
-    then_enter f s2 r2 d e = record { ran = then_ran f s2 r2.count (λ a. r2.place ≡ a) d e.ran; inside = e.inside }
+also_long : {b : State} {m : Field → Builder ℕ} {r : Refusal} (ps : List ℕ) → Overlong b m r → Overlong b (λ field. also ps (m field)) r
+unfolding also
+also_long ps d = long_first (λ field q. done (ps ++ (q ∷ []))) d
 
-    pub entered_ready : Ready field s n → Entering field s n m s1 r1 → Ready field s1 r1.count
-    entered_ready r d = ready_after s n m s1 r1.count (λ a. r1.place ≡ a) r d.ran
+pub all_later : {n k : ℕ} {ps : List ℕ} → n ≤ k → AllInside n ps → AllInside k ps
+all_later h a = record { at = λ i j. lt_of_lt_of_le (a.at i j) h }
 
-  -- turns
-  module _ {A : Type 0} (f : ℕ → A → Builder A) (s : List ℕ) (n : ℕ) (a : A) where
-    pub turn_none : Ran field s n (turns f 0 a) s n (λ b. a ≡ b)
-    unfolding turns
-    turn_none = ran_done s n a
+inside_snoc : (k : ℕ) (ps : List ℕ) (v : ℕ) → AllInside k ps → v < k → AllInside k (ps ++ (v ∷ []))
+inside_snoc k ps v a b = record { at = λ i h. go i (below_suc i (length ps) (omega (arith, length-append ps (v ∷ [])))) }
+  where
+    go : (i : ℕ) → (i < length ps) ⊎ (i ≡ length ps) → get_or (ps ++ (v ∷ [])) i 0 < k
+    go i (inl j) = rw (get_or-append ps (v ∷ []) 0 i j) (a.at i j)
+    go i (inr e) = rw (get_or_at ps v [] 0 i (sym e)) b
 
-    pub turn_next : (i : ℕ) (s1 : List ℕ) (k1 : ℕ) (Is : A → Type 0) (s2 : List ℕ) (k2 : ℕ) (Js : A → Type 0) → Ran field s n (turns f i a) s1 k1 Is → length s2 ≡ length s1 → k1 ≤ k2
-        → ((b : A) → Is b → Ran field s1 k1 (f i b) s2 k2 Js) → Ran field s n (turns f (i + 1) a) s2 k2 Js
-    unfolding turns
-    turn_next i s1 k1 Is s2 k2 Js d kept longer e = rw (add-one i) (ran_bind s n (turns f i a) s1 k1 Is (f i) s2 k2 Js d kept longer e)
+pub none_inside : (n : ℕ) → AllInside n []
+none_inside n = record { at = λ i h. absurd (omega arith) }
 
-  -- turns on a place
-  module _ (f : ℕ → ℕ → Builder ℕ) (s : List ℕ) (n a : ℕ) where
-    pub enter_none : Inside n a → Entering field s n (turns f 0 a) s (record { place = a; count = n })
-    enter_none h = record { ran = turn_none f s n a; inside = h }
+pub one_inside : {n z : ℕ} → z < n → AllInside n (z ∷ [])
+one_inside {n} {z} h = inside_snoc n [] z (none_inside n) h
 
-    pub enter_next : (i : ℕ) (s1 : List ℕ) (r1 : Entered) (s2 : List ℕ) (r2 : Entered) → Entering field s n (turns f i a) s1 r1 → Entering field s1 r1.count (f i r1.place) s2 r2
-        → Entering field s n (turns f (i + 1) a) s2 r2
-    enter_next i s1 r1 s2 r2 d e =
-        record {
-          ran = turn_next f s n a i s1 r1.count (λ b. r1.place ≡ b) s2 r2.count (λ b. r2.place ≡ b) d.ran e.ran.kept e.ran.longer (λ b q. subst (λ x. Ran field s1 r1.count (f i x) s2 r2.count (λ b. r2.place ≡ b)) q e.ran);
-          inside = e.inside;
-        }
+-- the first place
+pub one_place : {none ps : List ℕ} {z : ℕ} → none ≡ [] → ps ≡ none ++ (z ∷ []) → ps ≡ z ∷ []
+one_place {z = z} e h = h ∙ ap (λ qs. qs ++ (z ∷ [])) e
 
-    pub enter_all : (i k : ℕ) (s1 : List ℕ) (r1 : Entered) → i ≤ k → k ≤ i → Entering field s n (turns f i a) s1 r1 → Entering field s n (turns f k a) s1 r1
-    enter_all i k s1 r1 h j d = let e : i ≡ k = omega arith in subst (λ x. Entering field s n (turns f x a) s1 r1) e d
+pub last_is : (ps qs : List ℕ) (q i : ℕ) → qs ≡ ps ++ (q ∷ []) → length ps ≡ i + 1 → q ≡ get_or qs (i + 1) 0
+last_is ps qs q i e h = rw e (sym (get_or_at ps q [] 0 (i + 1) h))
+
+-- turns that each answer one place more
+module _ (g : Field → ℕ → List ℕ → Builder ℕ) (b : State) (a : List ℕ) where
+  pub list_none : (ps : List ℕ) → ps ≡ a → AllInside b.count a → Listed b (λ field. turns (λ i ps. also ps (g field i ps)) 0 a) b (length a) ps
+  list_none ps e h = rw e (record { ran = turn_none (λ field i ps. also ps (g field i ps)) b a; inside = h; many = refl })
+
+  pub list_next : {i n : ℕ} {c : State} (ps qs : List ℕ) {e : State} {q : ℕ} → Listed b (λ field. turns (λ i ps. also ps (g field i ps)) i a) c n ps → Entered c (λ field. g field i ps) e q → qs ≡ ps ++ (q ∷ [])
+      → Listed b (λ field. turns (λ i ps. also ps (g field i ps)) (i + 1) a) e (n + 1) qs
+  list_next ps qs {e} {q} d x h =
+      rw h
+      (record {
+        ran = turn_next (λ field i ps. also ps (g field i ps)) b a d.ran (also_ran ps x.ran);
+        inside = inside_snoc e.count ps q (all_later x.ran.longer d.inside) x.inside;
+        many = omega (arith, d.many, length-append ps (q ∷ []));
+      })
+
+  pub list_long : {i n k : ℕ} {c : State} (ps : List ℕ) {r : Refusal} → i < k → Listed b (λ field. turns (λ i ps. also ps (g field i ps)) i a) c n ps → Overlong c (λ field. g field i ps) r
+      → Overlong b (λ field. turns (λ i ps. also ps (g field i ps)) k a) r
+  list_long ps h d q = turn_long (λ field i ps. also ps (g field i ps)) b a h d.ran (also_long ps q)
+
+  pub list_all : {i k n m : ℕ} {c : State} (ps : ArrayVec ℕ) → i ≤ k → k ≤ i → n ≡ m → Listed b (λ field. turns (λ i ps. also ps (g field i ps)) i a) c n ps.items
+      → Listing b (λ field. turns (λ i ps. also ps (g field i ps)) k a) c m (Ok ps)
+  list_all ps h j e d = record { told = record { ran = turn_all (λ field i ps. also ps (g field i ps)) b a h j d.ran; inside = d.inside; many = d.many ∙ e } }
+
+-- a refusal where places are asked for
+pub refused_list : {b : State} {m : Field → Builder (List ℕ)} {n : ℕ} (c : State) (r : Result (ArrayVec ℕ) Refusal) {x : Refusal} → IsErr r × IsErrAnd r (λ y. y ≡ x) → Overlong b m x → Listing b m c n r
+refused_list c r h d = let p = err_from_is_err_and r h.1 in rw (p.1, p.2) (record { told = d })
+
+-- the same computation
+pub long_as : {A : Type 0} {b : State} {m q : Field → Builder A} {r : Refusal} → m ≡ q → Overlong b m r → Overlong b q r
+long_as {b = b} {r = r} e d = subst (λ x. Overlong b x r) e d
+
+pub enter_as : {b : State} {m q : Field → Builder ℕ} {c : State} {r : Result ℕ Refusal} → m ≡ q → Entering b m c r → Entering b q c r
+enter_as {b = b} {c = c} {r = r} e d = subst (λ x. Entering b x c r) e d
+
+-- another computation that does the same
+same_here : {A : Type 0} (b : State) (m q : Field → Builder A) {p : Prime} → b.prime ≡ p → Same (m (field_of p)) (q (field_of p)) → (m (field_of b.prime)).run b.list ≡ (q (field_of b.prime)).run b.list
+same_here b m q e same = subst (λ x. (m (field_of x)).run b.list ≡ (q (field_of x)).run b.list) (sym e) (same.runs b.list)
+
+module _ {A : Type 0} {b : State} {m q : Field → Builder A} {p : Prime} (e : b.prime ≡ p) (same : Same (m (field_of p)) (q (field_of p))) where
+  pub ran_like : {c : State} {a : A} → Ran b m c a → Ran b q c a
+  ran_like d =
+      let run = same_here b m q e same in
+      record { prime_is = d.prime_is; longer = d.longer; list_is = d.list_is ∙ ap (λ r. r.list) run; answer_is = d.answer_is ∙ ap (λ r. r.answer) run }
+
+  pub long_like : {r : Refusal} → Overlong b m r → Overlong b q r
+  long_like d = record { reason = d.reason; long = subst (λ r. most_records < length r.list) (same_here b m q e same) d.long }
+
+pub entered_like : {b : State} {m q : Field → Builder ℕ} {p : Prime} → b.prime ≡ p → Same (m (field_of p)) (q (field_of p)) → {c : State} {a : ℕ} → Entered b m c a → Entered b q c a
+entered_like e same d = record { ran = ran_like e same d.ran; inside = d.inside }
+
+told_like : (b : State) (m q : Field → Builder ℕ) {p : Prime} → b.prime ≡ p → Same (m (field_of p)) (q (field_of p)) → (c : State) (r : Result ℕ Refusal) → Answered b m c r → Answered b q c r
+told_like b m q e same c (Ok a) d = record { ran = ran_like e same d.ran; inside = d.inside }
+told_like b m q e same c (Err r) d = long_like e same d
+
+pub enter_like : {b : State} {m q : Field → Builder ℕ} {p : Prime} → b.prime ≡ p → Same (m (field_of p)) (q (field_of p)) → {c : State} {r : Result ℕ Refusal} → Entering b m c r → Entering b q c r
+enter_like {b} {m} {q} e same {c} {r} d = record { told = told_like b m q e same c r d.told }
+
+-- a number below the modulus stays so
+pub below_later : {p q : Prime} {v : ℕ} → p ≡ q → v < modulus_of q → v < modulus_of p
+below_later {v = v} e h = rw e h

@@ -1,24 +1,23 @@
 -- Computations that do the same, request by request.
-use Prim.Native.Nat.{ℕ, zero, suc, ◌+◌, ◌<◌}
-use mathlib.Core.List.{List, []}
+use Prim.Native.Nat.{ℕ, zero, suc, ◌+◌, ◌-◌, ◌<◌}
+use mathlib.Core.List.{List, [], ◌∷◌}
 use Rattle.std.specs.Prelude.{◌≡◌, refl}
-use Rattle.std.proofs.Common.{subst, arith}
-use lib.ListN.{take}
+use Rattle.std.proofs.Common.{subst, ap, arith}
 use Rattle.field.specs.Fields.{Field}
 use Rattle.ring.specs.Ring.{Ops}
 use Rattle.field.specs.declared.QuadFelt.{QuadFelt}
 use Rattle.dag.specs.declared.NodeKind.{NodeKind}
-use Rattle.builder.specs.declared.Entered.{Entered}
 use Rattle.periodic.specs.Builder.{Builder, done, ◌>>=◌, turns, also, constant, mul, add}
-use Rattle.periodic.specs.Periodic.{sparse_turn, sparse_factor, sparse_term, sum_turn, sparse_sum, constants}
-use Rattle.periodic.specs.Promises.{Ran, Entering, Listing}
-use Rattle.periodic.specs.RunLaws.{ran_as, ran_bind}
+use Rattle.periodic.specs.Periodic.{sparse_turn, sparse_factor, sparse_term, sum_turn, sparse_sum, constants, chain}
 
 pub record Same {A : Type 0} (m q : Builder A) : Type 0 where
   pub runs : (l : List NodeKind) → m.run l ≡ q.run l
 
 pub same_refl : {A : Type 0} (m : Builder A) → Same m m
 same_refl m = record { runs = λ l. refl }
+
+pub same_is : {A : Type 0} {m q : Builder A} → m ≡ q → Same m q
+same_is {m = m} e = subst (λ x. Same m x) e (same_refl m)
 
 pub same_bind : {A B : Type 0} (m q : Builder A) (f g : A → Builder B) → Same m q → ((a : A) → Same (f a) (g a)) → Same (m >>= f) (q >>= g)
 unfolding ◌>>=◌
@@ -61,20 +60,25 @@ module _ (F : Ops QuadFelt) where
       (λ k j b. same_bind (sparse_term F zpow (f (k + 1)) n (v (k + 1))) (sparse_term F zpow (g (k + 1)) n (w (k + 1))) _ _ (same_term zpow (f (k + 1)) (g (k + 1)) n (v (k + 1)) (w (k + 1)) (h (k + 1) (omega arith)) (e (k + 1) (omega arith)))
       (λ x. same_refl (add F b x))))
 
-module _ (field : Field) where
-  -- what was run, as another computation that does the same
-  pub entering_like : (s : List ℕ) (n : ℕ) (m q : Builder ℕ) (after : List ℕ) (r : Entered) → Same m q → Entering field s n m after r → Entering field s n q after r
-  entering_like s n m q after r h d = record { ran = ran_as field s n m after r.count (λ a. r.place ≡ a) q h.runs d.ran; inside = d.inside }
+  -- a chain over the first of these factors
+  pub chain_front : (first : ℕ) (fs gs : List ℕ) (k : ℕ) → ((i : ℕ) → i < k → lib.ListN.get_or gs i 0 ≡ lib.ListN.get_or fs i 0) → lib.ListN.length gs ≡ k → Same (chain F first gs (lib.ListN.length gs)) (chain F first fs k)
+  unfolding chain
+  chain_front first fs gs k h e =
+      rw e
+      (same_turns (λ i ps. also ps (mul F (lib.ListN.get_or ps i 0) (lib.ListN.get_or gs i 0))) (λ i ps. also ps (mul F (lib.ListN.get_or ps i 0) (lib.ListN.get_or fs i 0))) k (first ∷ [])
+      (λ i j ps. rw (h i j) (same_refl (also ps (mul F (lib.ListN.get_or ps i 0) (lib.ListN.get_or fs i 0))))))
 
-  pub listing_like : (s : List ℕ) (n : ℕ) (m q : Builder (List ℕ)) (after : List ℕ) (k : ℕ) (places : List ℕ) (c e : ℕ) → Same m q → c ≡ e → Listing field s n m after k places c → Listing field s n q after k places e
-  listing_like s n m q after k places c e h i d =
-      subst (λ x. Listing field s n q after k places x) i (record { ran = ran_as field s n m after k (λ ps. take c places ≡ ps) q h.runs d.ran; inside = d.inside })
+-- the sum of sparse terms, by the number of terms
+module _ (zpow : List ℕ) (f : ℕ → ℕ → ℕ) (n : ℕ) (v : ℕ → ℕ) where
+  pub sum_none : (t : ℕ) → t ≡ 0 → ◌≡◌ {A = Field → Builder ℕ} (λ field. constant field.elements 0) (λ field. sparse_sum field.elements zpow f n v t)
+  unfolding sparse_sum
+  sum_none zero e = refl
+  sum_none (suc t) e = absurd (omega arith)
 
-  -- places listed, and then a computation on them
-  pub then_listed : (s : List ℕ) (n : ℕ) (m : Builder (List ℕ)) (s1 : List ℕ) (k1 : ℕ) (places : List ℕ) (c : ℕ) (f : List ℕ → Builder ℕ) (s2 : List ℕ) (r2 : Entered)
-      → Listing field s n m s1 k1 places c → Entering field s1 k1 (f (take c places)) s2 r2 → Entering field s n (m >>= f) s2 r2
-  then_listed s n m s1 k1 places c f s2 r2 d e =
-      record {
-        ran = ran_bind field s n m s1 k1 (λ ps. take c places ≡ ps) f s2 r2.count (λ a. r2.place ≡ a) d.ran e.ran.kept e.ran.longer (λ a q. subst (λ x. Ran field s1 k1 (f x) s2 r2.count (λ a. r2.place ≡ a)) q e.ran);
-        inside = e.inside;
-      }
+  pub sum_some : (t : ℕ) → (t ≡ 0 → ⊥)
+      → ◌≡◌ {A = Field → Builder ℕ} (λ field. sparse_term field.elements zpow (f 0) n (v 0) >>= λ first. turns (sum_turn field.elements zpow f n v) (t - 1) first) (λ field. sparse_sum field.elements zpow f n v t)
+  unfolding sparse_sum
+  sum_some zero e = absurd (e refl)
+  sum_some (suc t) e =
+      let q : suc t - 1 ≡ t = omega arith in
+      ap (λ k (field : Field). sparse_term field.elements zpow (f 0) n (v 0) >>= λ first. turns (sum_turn field.elements zpow f n v) k first) q

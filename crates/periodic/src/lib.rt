@@ -1,325 +1,281 @@
-// periodic.rs: the nodes of periodic columns, built in a store with room for 4,097 records, with their index behind them. A count above 4,096 says
-// that the list is too long.
+// periodic.rs: the nodes of periodic columns, built on a list with its index.
 #![tactic(auto)]
 
-ghost use Rattle.std.specs.Prelude.{◌≡◌, true, [], ◌+◌, ◌-◌, ◌<◌, ◌≤◌, length, get_or};
+ghost use Rattle.std.specs.Prelude.{◌≡◌, true, [], ◌+◌, ◌*◌, ◌-◌, ◌<◌, ◌≤◌, length, get_or, take};
 ghost use Rattle.field.specs.Fields.{field_of};
-ghost use Rattle.field.specs.Field.{modulus_of, elements, Below};
+ghost use Rattle.field.specs.Field.{modulus_of, Below};
 ghost use Rattle.dag.specs.View.{interleaved};
 ghost use Rattle.dag.specs.Nodes.{most_records, nodes};
+ghost use Rattle.dag.specs.Store.{Sound};
 ghost use Rattle.dag.specs.WellFormed.{Fine};
 ghost use Rattle.index.specs.Index.{NodeIndex};
-ghost use Rattle.builder.specs.Promises.{Request, resolved};
 ghost use Rattle.columns.specs.Prepare.{all_below};
 ghost use Rattle.columns.specs.Promises as ColumnPromises;
 ghost use Rattle.periodic.specs.Builder as Builder;
 ghost use Rattle.periodic.specs.Periodic as Periodic;
 ghost use Rattle.periodic.specs.Promises as Promises;
 
-use builder::{Entered, Outcome};
-use dag::NodeKind;
+use arrayvec::ArrayVec;
+use builder::Outcome;
+use dag::{NodeKind, Refusal};
 use field::{Prime, QuadFelt};
 
 // The key number of ZK.
 const ZK: u64 = 3096224743817216;
 
-// The words of a store's records; those of its index follow.
-pub const LIST_WORDS: usize = dag::RECORD_WORDS * (dag::MOST_RECORDS + 1);
+// The words of the longest list.
+pub const LIST_WORDS: usize = dag::RECORD_WORDS * dag::MOST_RECORDS;
 
-// The words of a store.
-pub const STORE_WORDS: usize = LIST_WORDS + 2 * (dag::MOST_RECORDS + 1);
+// The words of its index.
+pub const LINK_WORDS: usize = 2 * dag::MOST_RECORDS;
 
-// The place of a request's result, or the new record that it needs.
-fn resolve(prime: Prime, list: &[u64], n: usize, x: NodeKind) -> Outcome
-    requires { Request (field_of prime) (interleaved list.now) n x × NodeIndex (nodes (interleaved list.now) n) (Promises.links list.now) × (Promises.list_words ≤ length list.now) }
-    ensures { result ≡ resolved (field_of prime) (nodes (interleaved list.now) n) n x }
-{
-    builder::resolve(prime, list, n, &list[LIST_WORDS..], x)
+// A list that is built, with its index.
+#[derive(Drop)]
+pub struct PeriodicBuilder {
+    pub prime: Prime,
+    pub list: [u64; LIST_WORDS],
+    pub links: [u64; LINK_WORDS],
+    pub count: usize,
+    pub ghost few: { count ≤ most_records },
+    pub ghost sound: { Sound (field_of prime).bounds (interleaved list) count },
+    pub ghost indexed: { NodeIndex (nodes (interleaved list) count) links },
 }
 
-// One request.
-fn enter(prime: Prime, list: &mut [u64], n: usize, x: NodeKind) -> Entered
-    requires { Promises.Ready (field_of prime) list.old n × (n ≤ most_records → Fine (Below prime) n x) }
-    ensures { Promises.Entering (field_of prime) list.old n (Builder.enter (elements prime) x) list.new result }
-{
-    if dag::MOST_RECORDS < n {
-        return Entered { place: 0, count: n };
+impl PeriodicBuilder {
+    ghost use Rattle.periodic.specs.Runs as Runs;
+
+    // A builder of the empty list.
+    pub fn new(prime: Prime) -> PeriodicBuilder
+        ensures { (result.prime ≡ prime) × (result.count ≡ 0) }
+    {
+        PeriodicBuilder {
+            prime,
+            list: [0u64; LIST_WORDS],
+            links: [0u64; LINK_WORDS],
+            count: 0,
+        }
     }
-    let result = resolve(prime, list, n, x);
-    match result {
-        Outcome::Place(i) => Entered { place: i, count: n },
-        Outcome::Node(y) => {
-            dag::put_node(list, n, y);
-            builder::note(&mut list[LIST_WORDS..], n, y);
-            Entered {
-                place: n,
-                count: n + 1,
+
+    // Takes up the first n records of a list.
+    pub fn load(&mut self, list: &[u64], n: usize)
+        requires { Sound (field_of self.old.prime).bounds (interleaved list.now) n × (n ≤ most_records) }
+        ensures { Runs.Loaded self.old.prime (nodes (interleaved list.now) n) n (Runs.held self.new) }
+    {
+        dag::copy_records(list, n, &mut self.list);
+        index::index_list(list, n, &mut self.links);
+        self.count = n;
+    }
+
+    // One request.
+    fn enter(&mut self, x: NodeKind) -> Result<usize, Refusal>
+        requires { Fine (Below self.old.prime) self.old.count x }
+        ensures { Runs.Entering (Runs.held self.old) (λ field. Builder.enter field.elements x) (Runs.held self.new) result }
+    {
+        let outcome = builder::resolve(self.prime, &self.list, self.count, &self.links, x);
+        match outcome {
+            Outcome::Place(i) => Ok(i),
+            Outcome::Node(y) => {
+                let place = self.count;
+                if place == dag::MOST_RECORDS {
+                    return Err(Refusal::NoRoom);
+                }
+                dag::put_node(&mut self.list, place, y);
+                builder::note(&mut self.links, place, y);
+                self.count += 1;
+                Ok(place)
             }
         }
     }
-}
 
-// The constant v.
-pub fn constant(prime: Prime, list: &mut [u64], n: usize, v: u64) -> Entered
-    requires { Promises.Ready (field_of prime) list.old n × (v < modulus_of prime) }
-    ensures { Promises.Entering (field_of prime) list.old n (Builder.constant (elements prime) v) list.new result }
-{
-    enter(prime, list, n, NodeKind::Constant(QuadFelt::from_base(v)))
-}
-
-// The sum of two places.
-pub fn add(prime: Prime, list: &mut [u64], n: usize, a: usize, b: usize) -> Entered
-    requires { Promises.Ready (field_of prime) list.old n × Promises.Inside n a × Promises.Inside n b }
-    ensures { Promises.Entering (field_of prime) list.old n (Builder.add (elements prime) a b) list.new result }
-{
-    enter(prime, list, n, NodeKind::Add(a, b))
-}
-
-// The difference of two places.
-pub fn sub(prime: Prime, list: &mut [u64], n: usize, a: usize, b: usize) -> Entered
-    requires { Promises.Ready (field_of prime) list.old n × Promises.Inside n a × Promises.Inside n b }
-    ensures { Promises.Entering (field_of prime) list.old n (Builder.sub (elements prime) a b) list.new result }
-{
-    enter(prime, list, n, NodeKind::Sub(a, b))
-}
-
-// The product of two places.
-pub fn mul(prime: Prime, list: &mut [u64], n: usize, a: usize, b: usize) -> Entered
-    requires { Promises.Ready (field_of prime) list.old n × Promises.Inside n a × Promises.Inside n b }
-    ensures { Promises.Entering (field_of prime) list.old n (Builder.mul (elements prime) a b) list.new result }
-{
-    enter(prime, list, n, NodeKind::Mul(a, b))
-}
-
-// ZK, squared k times.
-pub fn z_power(prime: Prime, list: &mut [u64], n: usize, k: usize) -> Entered
-    requires { Promises.Ready (field_of prime) list.old n }
-    ensures { Promises.Entering (field_of prime) list.old n (Periodic.z_power (elements prime) k) list.new result }
-{
-    let mut z = enter(prime, list, n, NodeKind::Input(ZK));
-    let mut i = 0;
-    while i < k {
-        z = mul(prime, list, z.count, z.place, z.place);
-        i += 1;
+    // The constant v.
+    pub fn constant(&mut self, v: u64) -> Result<usize, Refusal>
+        requires { v < modulus_of self.old.prime }
+        ensures { Runs.Entering (Runs.held self.old) (λ field. Builder.constant field.elements v) (Runs.held self.new) result }
+    {
+        self.enter(NodeKind::Constant(QuadFelt::from_base(v)))
     }
-    z
-}
 
-// z and its squares, k + 1 in all, into a store of places; answers the count.
-fn powers(prime: Prime, list: &mut [u64], n: usize, z: usize, k: usize, places: &mut [u64]) -> usize
-    requires { Promises.Ready (field_of prime) list.old n × Promises.Inside n z × (k < length places.old) }
-    ensures { Promises.Listing (field_of prime) list.old n (Periodic.powers (elements prime) z k) list.new result places.new (k + 1) }
-{
-    places[0] = z as u64;
-    let mut count = n;
-    let mut i = 0;
-    while i < k {
-        let place = places[i] as usize;
-        let e = mul(prime, list, count, place, place);
-        places[i + 1] = e.place as u64;
-        count = e.count;
-        i += 1;
+    // The sum of two places.
+    pub fn add(&mut self, a: usize, b: usize) -> Result<usize, Refusal>
+        requires { (a < self.old.count) × (b < self.old.count) }
+        ensures { Runs.Entering (Runs.held self.old) (λ field. Builder.add field.elements a b) (Runs.held self.new) result }
+    {
+        self.enter(NodeKind::Add(a, b))
     }
-    count
-}
 
-// The first place, then times the first factor, times the first two, .. up to k; answers the count.
-pub fn chain(
-    prime: Prime,
-    list: &mut [u64],
-    n: usize,
-    first: usize,
-    factors: &[u64],
-    k: usize,
-    places: &mut [u64],
-) -> usize
-    requires { Promises.Ready (field_of prime) list.old n × Promises.Inside n first × Promises.AllInside n factors.now × (k ≤ length factors.now) × (k < length places.old) }
-    ensures { Promises.Listing (field_of prime) list.old n (Periodic.chain (elements prime) first factors.now k) list.new result places.new (k + 1) }
-{
-    places[0] = first as u64;
-    let mut count = n;
-    let mut i = 0;
-    while i < k {
-        let e = mul(prime, list, count, places[i] as usize, factors[i] as usize);
-        places[i + 1] = e.place as u64;
-        count = e.count;
-        i += 1;
+    // The difference of two places.
+    pub fn sub(&mut self, a: usize, b: usize) -> Result<usize, Refusal>
+        requires { (a < self.old.count) × (b < self.old.count) }
+        ensures { Runs.Entering (Runs.held self.old) (λ field. Builder.sub field.elements a b) (Runs.held self.new) result }
+    {
+        self.enter(NodeKind::Sub(a, b))
     }
-    count
-}
 
-// The constants of these numbers, into a store of places; answers the count.
-fn constants(prime: Prime, list: &mut [u64], n: usize, numbers: &[u64], places: &mut [u64]) -> usize
-    requires { Promises.Ready (field_of prime) list.old n × (all_below (modulus_of prime) numbers.now ≡ true) × (length numbers.now ≤ length places.old) }
-    ensures { Promises.Listing (field_of prime) list.old n (Periodic.constants (elements prime) (λ j. get_or numbers.now j 0) (length numbers.now)) list.new result places.new (length numbers.now) }
-{
-    let mut count = n;
-    let mut i = 0;
-    while i < numbers.len() {
-        let e = constant(prime, list, count, numbers[i]);
-        places[i] = e.place as u64;
-        count = e.count;
-        i += 1;
+    // The product of two places.
+    pub fn mul(&mut self, a: usize, b: usize) -> Result<usize, Refusal>
+        requires { (a < self.old.count) × (b < self.old.count) }
+        ensures { Runs.Entering (Runs.held self.old) (λ field. Builder.mul field.elements a b) (Runs.held self.new) result }
+    {
+        self.enter(NodeKind::Mul(a, b))
     }
-    count
-}
 
-// Horner's rule from the highest of these coefficients.
-fn horner_eval(prime: Prime, list: &mut [u64], n: usize, point: usize, coeffs: &[u64]) -> Entered
-    requires { Promises.Ready (field_of prime) list.old n × Promises.Inside n point × Promises.AllInside n coeffs.now }
-    ensures { Promises.Entering (field_of prime) list.old n (Periodic.horner_eval (elements prime) point coeffs.now (length coeffs.now)) list.new result }
-{
-    let mut acc = constant(prime, list, n, 0);
-    let mut i = 0;
-    while i < coeffs.len() {
-        let product = mul(prime, list, acc.count, point, acc.place);
-        acc = add(
-            prime,
-            list,
-            product.count,
-            coeffs[coeffs.len() - (i + 1)] as usize,
-            product.place,
-        );
-        i += 1;
+    // ZK, squared k times.
+    pub fn z_power(&mut self, k: usize) -> Result<usize, Refusal>
+        ensures { Runs.Entering (Runs.held self.old) (λ field. Periodic.z_power field.elements k) (Runs.held self.new) result }
+    {
+        let mut z = self.enter(NodeKind::Input(ZK))?;
+        for _ in 0..k {
+            z = self.mul(z, z)?;
+        }
+        Ok(z)
     }
-    acc
-}
 
-// factor · (1 + twiddle · power).
-fn sparse_turn(
-    prime: Prime,
-    list: &mut [u64],
-    n: usize,
-    twiddle: u64,
-    power: usize,
-    factor: usize,
-) -> Entered
-    requires { Promises.Ready (field_of prime) list.old n × (twiddle < modulus_of prime) × Promises.Inside n power × Promises.Inside n factor }
-    ensures { Promises.Entering (field_of prime) list.old n (Periodic.sparse_turn (elements prime) twiddle power factor) list.new result }
-{
-    let twiddled = constant(prime, list, n, twiddle);
-    let scaled = mul(prime, list, twiddled.count, twiddled.place, power);
-    let one = constant(prime, list, scaled.count, 1);
-    let sum = add(prime, list, one.count, one.place, scaled.place);
-    mul(prime, list, sum.count, factor, sum.place)
-}
-
-// The product of 1 + twiddle · power over the powers of the column's point.
-fn sparse_factor(
-    prime: Prime,
-    list: &mut [u64],
-    n: usize,
-    zpow: &[u64],
-    row: [u64; 7],
-    log: usize,
-) -> Entered
-    requires { Promises.Ready (field_of prime) list.old n × Promises.AllInside n zpow.now × Promises.Row (field_of prime) row log × (log ≤ length zpow.now) }
-    ensures { Promises.Entering (field_of prime) list.old n (Periodic.sparse_factor (elements prime) zpow.now (λ i. get_or row i 0) log) list.new result }
-{
-    let mut factor = constant(prime, list, n, 1);
-    let mut i = 0;
-    while i < log {
-        factor = sparse_turn(
-            prime,
-            list,
-            factor.count,
-            row[i],
-            zpow[i] as usize,
-            factor.place,
-        );
-        i += 1;
+    // z and its squares, k + 1 in all.
+    fn powers(&mut self, z: usize, k: usize) -> Result<ArrayVec<usize, 8>, Refusal>
+        requires { (z < self.old.count) × (k < 8) }
+        ensures { Runs.Listing (Runs.held self.old) (λ field. Periodic.powers field.elements z k) (Runs.held self.new) (k + 1) result }
+    {
+        let mut powers = ArrayVec::new();
+        powers.push(z);
+        let mut power = z;
+        for _ in 0..k {
+            power = self.mul(power, power)?;
+            powers.push(power);
+        }
+        Ok(powers)
     }
-    factor
-}
 
-// A sparse term.
-fn sparse_term(
-    prime: Prime,
-    list: &mut [u64],
-    n: usize,
-    zpow: &[u64],
-    row: [u64; 7],
-    log: usize,
-    value: u64,
-) -> Entered
-    requires { Promises.Ready (field_of prime) list.old n × Promises.AllInside n zpow.now × Promises.Row (field_of prime) row log × (log ≤ length zpow.now) × (value < modulus_of prime) }
-    ensures { Promises.Entering (field_of prime) list.old n (Periodic.sparse_term (elements prime) zpow.now (λ i. get_or row i 0) log value) list.new result }
-{
-    let factor = sparse_factor(prime, list, n, zpow, row, log);
-    let scaled = constant(prime, list, factor.count, value);
-    mul(prime, list, scaled.count, scaled.place, factor.place)
-}
-
-// The sum of t sparse terms.
-fn sparse_sum(
-    prime: Prime,
-    list: &mut [u64],
-    n: usize,
-    zpow: &[u64],
-    rows: [[u64; 7]; 11],
-    log: usize,
-    values: [u64; 11],
-    t: usize,
-) -> Entered
-    requires { Promises.Ready (field_of prime) list.old n × Promises.AllInside n zpow.now × Promises.Rows (field_of prime) rows log values t × (log ≤ length zpow.now) }
-    ensures { Promises.Entering (field_of prime) list.old n (Periodic.sparse_sum (elements prime) zpow.now (λ k i. get_or (get_or rows k []) i 0) log (λ k. get_or values k 0) t) list.new result }
-{
-    if t == 0 {
-        return constant(prime, list, n, 0);
+    // The first place, then times the first factor, times the first two, ..
+    pub fn chain(
+        &mut self,
+        first: usize,
+        factors: &[usize],
+    ) -> Result<ArrayVec<usize, 128>, Refusal>
+        requires { (first < self.old.count) × Promises.AllInside self.old.count factors.now × (length factors.now < 128) }
+        ensures { Runs.Listing (Runs.held self.old) (λ field. Periodic.chain field.elements first factors.now (length factors.now)) (Runs.held self.new) (length factors.now + 1) result }
+    {
+        let mut products = ArrayVec::new();
+        products.push(first);
+        let mut product = first;
+        for factor in factors {
+            product = self.mul(product, *factor)?;
+            products.push(product);
+        }
+        Ok(products)
     }
-    let mut sum = sparse_term(prime, list, n, zpow, rows[0], log, values[0]);
-    let mut k = 0;
-    while k < t - 1 {
-        let term = sparse_term(
-            prime,
-            list,
-            sum.count,
-            zpow,
-            rows[k + 1],
-            log,
-            values[k + 1],
-        );
-        sum = add(prime, list, term.count, sum.place, term.place);
-        k += 1;
+
+    // The constants of these numbers.
+    fn constants(&mut self, numbers: &[u64]) -> Result<ArrayVec<usize, 128>, Refusal>
+        requires { (all_below (modulus_of self.old.prime) numbers.now ≡ true) × (length numbers.now ≤ 128) }
+        ensures { Runs.Listing (Runs.held self.old) (λ field. Periodic.constants field.elements (λ j. get_or numbers.now j 0) (length numbers.now)) (Runs.held self.new) (length numbers.now) result }
+    {
+        let mut places = ArrayVec::new();
+        for number in numbers {
+            let place = self.constant(*number)?;
+            places.push(place);
+        }
+        Ok(places)
     }
-    sum
-}
 
-// The value of a sparse column whose point is ZK squared k times.
-pub fn sparse_value(prime: Prime, list: &mut [u64], n: usize, col: &[u64], k: usize) -> Entered
-    requires { Promises.Ready (field_of prime) list.old n × ColumnPromises.Column (modulus_of prime) col.now × Promises.Few col.now }
-    ensures { Promises.Entering (field_of prime) list.old n (Periodic.sparse_value (field_of prime) col.now k) list.new result }
-{
-    let z = z_power(prime, list, n, k);
-    let log = columns::log_length(col);
-    let mut squares = [0u64; 8];
-    let count = powers(prime, list, z.count, z.place, log, &mut squares);
-    let mut store = [0u64; 11];
-    let t = coefficients::support(col, &mut store);
-    let places = &store[..t];
-    let rows = coefficients::sparse_twiddles(prime, col, places);
-    let values = coefficients::sparse_values(prime, col, places);
-    sparse_sum(
-        prime,
-        list,
-        count,
-        &squares[..log + 1],
-        rows,
-        log,
-        values,
-        t,
-    )
-}
+    // Horner's rule from the highest of these coefficients.
+    fn horner_eval(&mut self, point: usize, coeffs: &[usize]) -> Result<usize, Refusal>
+        requires { (point < self.old.count) × Promises.AllInside self.old.count coeffs.now }
+        ensures { Runs.Entering (Runs.held self.old) (λ field. Periodic.horner_eval field.elements point coeffs.now (length coeffs.now)) (Runs.held self.new) result }
+    {
+        let mut acc = self.constant(0)?;
+        for coeff in coeffs.iter().rev() {
+            let product = self.mul(point, acc)?;
+            acc = self.add(*coeff, product)?;
+        }
+        Ok(acc)
+    }
 
-// The value of a dense column whose point is ZK squared k times.
-pub fn dense_value(prime: Prime, list: &mut [u64], n: usize, col: &[u64], k: usize) -> Entered
-    requires { Promises.Ready (field_of prime) list.old n × ColumnPromises.Column (modulus_of prime) col.now }
-    ensures { Promises.Entering (field_of prime) list.old n (Periodic.dense_value (field_of prime) col.now k) list.new result }
-{
-    let z = z_power(prime, list, n, k);
-    let numbers = coefficients::dense(prime, col);
-    let period = col.len();
-    let mut coeffs = [0u64; 128];
-    let count = constants(prime, list, z.count, &numbers[..period], &mut coeffs);
-    horner_eval(prime, list, count, z.place, &coeffs[..period])
+    // factor · (1 + twiddle · power).
+    fn sparse_turn(&mut self, twiddle: u64, power: usize, factor: usize) -> Result<usize, Refusal>
+        requires { (twiddle < modulus_of self.old.prime) × (power < self.old.count) × (factor < self.old.count) }
+        ensures { Runs.Entering (Runs.held self.old) (λ field. Periodic.sparse_turn field.elements twiddle power factor) (Runs.held self.new) result }
+    {
+        let twiddled = self.constant(twiddle)?;
+        let scaled = self.mul(twiddled, power)?;
+        let one = self.constant(1)?;
+        let sum = self.add(one, scaled)?;
+        self.mul(factor, sum)
+    }
+
+    // The product of 1 + twiddle · power over the powers of the column's point.
+    fn sparse_factor(&mut self, zpow: &[usize], row: [u64; 7], log: usize) -> Result<usize, Refusal>
+        requires { Promises.AllInside self.old.count zpow.now × Promises.Row (field_of self.old.prime) row log × (log ≤ length zpow.now) }
+        ensures { Runs.Entering (Runs.held self.old) (λ field. Periodic.sparse_factor field.elements zpow.now (λ i. get_or row i 0) log) (Runs.held self.new) result }
+    {
+        let mut factor = self.constant(1)?;
+        for i in 0..log {
+            factor = self.sparse_turn(row[i], zpow[i], factor)?;
+        }
+        Ok(factor)
+    }
+
+    // A sparse term.
+    fn sparse_term(
+        &mut self,
+        zpow: &[usize],
+        row: [u64; 7],
+        log: usize,
+        value: u64,
+    ) -> Result<usize, Refusal>
+        requires { Promises.AllInside self.old.count zpow.now × Promises.Row (field_of self.old.prime) row log × (log ≤ length zpow.now) × (value < modulus_of self.old.prime) }
+        ensures { Runs.Entering (Runs.held self.old) (λ field. Periodic.sparse_term field.elements zpow.now (λ i. get_or row i 0) log value) (Runs.held self.new) result }
+    {
+        let factor = self.sparse_factor(zpow, row, log)?;
+        let scaled = self.constant(value)?;
+        self.mul(scaled, factor)
+    }
+
+    // The sum of t sparse terms.
+    fn sparse_sum(
+        &mut self,
+        zpow: &[usize],
+        rows: [[u64; 7]; 11],
+        log: usize,
+        values: [u64; 11],
+        t: usize,
+    ) -> Result<usize, Refusal>
+        requires { Promises.AllInside self.old.count zpow.now × Promises.Rows (field_of self.old.prime) rows log values t × (log ≤ length zpow.now) }
+        ensures { Runs.Entering (Runs.held self.old) (λ field. Periodic.sparse_sum field.elements zpow.now (λ k i. get_or (get_or rows k []) i 0) log (λ k. get_or values k 0) t) (Runs.held self.new) result }
+    {
+        if t == 0 {
+            return self.constant(0);
+        }
+        let mut sum = self.sparse_term(zpow, rows[0], log, values[0])?;
+        for k in 1..t {
+            let term = self.sparse_term(zpow, rows[k], log, values[k])?;
+            sum = self.add(sum, term)?;
+        }
+        Ok(sum)
+    }
+
+    // The value of a sparse column whose point is ZK squared k times.
+    pub fn sparse_value(&mut self, col: &[u64], k: usize) -> Result<usize, Refusal>
+        requires { ColumnPromises.Column (modulus_of self.old.prime) col.now × Promises.Few col.now }
+        ensures { Runs.Entering (Runs.held self.old) (λ field. Periodic.sparse_value field col.now k) (Runs.held self.new) result }
+    {
+        let prime = self.prime;
+        let places = coefficients::support(col);
+        let rows = coefficients::sparse_twiddles(prime, col, &places);
+        let values = coefficients::sparse_values(prime, col, &places);
+        let log = columns::log_length(col);
+        let z = self.z_power(k)?;
+        let zpow = self.powers(z, log)?;
+        self.sparse_sum(&zpow, rows, log, values, places.len())
+    }
+
+    // The value of a dense column whose point is ZK squared k times.
+    pub fn dense_value(&mut self, col: &[u64], k: usize) -> Result<usize, Refusal>
+        requires { ColumnPromises.Column (modulus_of self.old.prime) col.now }
+        ensures { Runs.Entering (Runs.held self.old) (λ field. Periodic.dense_value field col.now k) (Runs.held self.new) result }
+    {
+        let numbers = coefficients::dense(self.prime, col);
+        let z = self.z_power(k)?;
+        let coeffs = self.constants(&numbers[..col.len()])?;
+        self.horner_eval(z, &coeffs)
+    }
 }

@@ -102,13 +102,6 @@ module _ (f after : List ℕ) (a b : ℕ) (ha : a < length f) (hb : b < length f
   unfolding mentioned
   both_mentioned last h = h ∙ ap (λ g. mentioned g (b ∷ [])) e
 
--- the operands of x, where x is y
-pub operands_as : {x y : NodeKind} (n : ℕ) → x ≡ y → AllBelow n (operands x) → AllBelow n (operands y)
-operands_as n e h = rw (← e) h
-
-pub mentioned_as : {x y : NodeKind} (f after : List ℕ) → x ≡ y → after ≡ mentioned f (operands y) → after ≡ mentioned f (operands x)
-mentioned_as f after e h = rw e h
-
 -- the mentions of the first i records, counted
 abbrev pub Counted : List NodeKind → ℕ → List ℕ → Type 0
 Counted l i f = (j : ℕ) → get_or f j 0 ≡ mentions l j i

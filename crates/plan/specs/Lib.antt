@@ -3,6 +3,5 @@ pub mod Promises
 pub mod FanoutLaws
 pub mod FactorLaws
 pub mod SearchLaws
-pub mod ReadLaws
 pub mod PlanLaws
 pub mod PlanValueLaws

@@ -1,5 +1,5 @@
 -- A round's plan for a record is worth what the record is; fanout has no say in it.
-use Rattle.std.specs.Prelude.{ℕ, ◌<◌, ◌≤◌, List, ◌≡◌, length}
+use Rattle.std.specs.Prelude.{ℕ, ◌<◌, ◌≤◌, List, Option, Some, None, ◌≡◌, length}
 use Rattle.std.proofs.Math.Path.{refl}
 use Rattle.std.proofs.Common.{sym, ◌∙◌, ap, inl, inr, arith}
 use Rattle.ring.specs.Ring.{Ops, Laws}
@@ -16,14 +16,14 @@ use Rattle.builder.specs.RuleLaws.{low_first_lem}
 use Rattle.plan.specs.Plan.{common_factor, either_rotation, plan_of}
 use Rattle.plan.specs.SearchLaws.{Splits, Rotates, or_else_lem, factor_elim, rotation_elim}
 use Rattle.plan.specs.PlanLaws.{tag_add, tag_mul}
-use Rattle.plan.specs.declared.Plan.{Plan}
-use Rattle.plan.specs.declared.Plan.TheVariants.{Factored, Rotated, Plain}
+use Rattle.plan.specs.declared.Rewrite.{Rewrite}
+use Rattle.plan.specs.declared.Rewrite.TheVariants.{Factored, Rotated}
 
 -- what a plan for z is worth
-abbrev pub plan_value : (F : Ops QuadFelt) (given v : ℕ → QuadFelt) → NodeKind → Plan → QuadFelt
-plan_value F given v z (Factored f x y) = F.mul (v f) (value_of F given v (like z x y))
-plan_value F given v z (Rotated e y) = value_of F given v (like z e y)
-plan_value F given v z Plain = value_of F given v z
+abbrev pub plan_value : (F : Ops QuadFelt) (given v : ℕ → QuadFelt) → NodeKind → Option Rewrite → QuadFelt
+plan_value F given v z (Some (Factored f x y)) = F.mul (v f) (value_of F given v (like z x y))
+plan_value F given v z (Some (Rotated e y)) = value_of F given v (like z e y)
+plan_value F given v z None = value_of F given v z
 
 -- a commutative operation on either order of operands
 split_worth : (g : QuadFelt → QuadFelt → QuadFelt) → ((a b : QuadFelt) → g a b ≡ g b a) → (v : ℕ → QuadFelt) (z : NodeKind) (x y : ℕ) → Splits z x y

@@ -1,17 +1,17 @@
 -- What the functions of a plan ask of their stores, and say of them.
-use Rattle.std.specs.Prelude.{ℕ, ◌+◌, ◌*◌, ◌<◌, ◌≤◌, List, [], ◌∷◌, ◌≡◌, get_or, length, set}
-use Rattle.dag.specs.View.{View}
+use Rattle.std.specs.Prelude.{ℕ, ◌+◌, ◌*◌, ◌<◌, ◌≤◌, cond, List, [], ◌∷◌, Option, Some, None, ◌≡◌, eqb, get_or, length, set}
+use Rattle.dag.specs.View.{View, interleaved}
 use Rattle.dag.specs.Roots.{most_roots, Inside}
 use Rattle.dag.specs.Store.{Records}
-use Rattle.dag.specs.WellFormed.{Any, Fine}
-use Rattle.dag.specs.Nodes.{most_records}
+use Rattle.dag.specs.Nodes.{most_records, nodes, at, tag, first, second}
 use Rattle.dag.specs.declared.NodeKind.{NodeKind}
 use Rattle.dag.specs.declared.Roots.{Roots}
-use Rattle.dag.specs.declared.NodeKind.TheVariants.{Add, Mul}
-use Rattle.plan.specs.Plan.{shared_factor}
-use Rattle.plan.specs.declared.AssociativeOp.{AssociativeOp}
-use Rattle.plan.specs.declared.Plan.{Plan}
-use Rattle.plan.specs.declared.Plan.TheVariants.{Factored, Rotated, Plain}
+use Rattle.index.specs.Index.{NodeIndex}
+use Rattle.builder.specs.Promises.{read}
+use Rattle.plan.specs.Plan.{is_single, shared_factor}
+use Rattle.plan.specs.declared.Rewrite.{Rewrite}
+use Rattle.plan.specs.declared.Rewrite.TheVariants.{Factored, Rotated}
+use Rattle.plan.specs.declared.Round.{Round}
 
 -- a place is mentioned at most twice by each record, and by each root
 abbrev pub most_mentions : ℕ
@@ -34,35 +34,33 @@ pub record Counting (s : View) (n : ℕ) (roots : Roots) (f : List ℕ) : Type 0
   pub fits : n ≤ length f
   pub zeros : (j : ℕ) → get_or f j 0 ≡ 0
 
--- two operands in an array
-abbrev pub Pair : List ℕ → Type 0
-Pair l = length l ≡ 2
-
 -- the factor that two arrays of operands share
-abbrev pub shared_in : List ℕ → List ℕ → Plan
+abbrev pub shared_in : List ℕ → List ℕ → Option Rewrite
 shared_in a b = shared_factor (get_or a 0 0) (get_or a 1 0) (get_or b 0 0) (get_or b 1 0)
 
--- the operation that a name stands for
-abbrev pub operation : AssociativeOp → ℕ → ℕ → NodeKind
-operation AssociativeOp.Add a b = Add a b
-operation AssociativeOp.Mul a b = Mul a b
+-- a record's operands, if it is the operation's
+abbrev pub operands_if : (ℕ → ℕ → NodeKind) → NodeKind → Option (List ℕ)
+operands_if op x = cond (eqb (tag x) (tag (op 0 0))) (Some (first x ∷ second x ∷ [])) None
 
--- two operands on n records, with a fanout for each record
-pub record Fanned (s : View) (n : ℕ) (fan : List ℕ) (a b : ℕ) : Type 0 where
-  pub sound : Records s n
-  pub left_inside : a < n
-  pub right_inside : b < n
-  pub fits : n ≤ length fan
+-- those of the record at place i, if its fanout is 1 besides
+abbrev pub single_at : (ℕ → ℕ → NodeKind) → List NodeKind → (ℕ → ℕ) → ℕ → Option (List ℕ)
+single_at op l fan i = cond (is_single op l fan i) (Some (first (at l i) ∷ second (at l i) ∷ [])) None
 
--- a record x that may stand at place i of n records, with a fanout for each
-pub record Planning (s : View) (n : ℕ) (fan : List ℕ) (i : ℕ) (x : NodeKind) : Type 0 where
-  pub sound : Records s n
-  pub fits : n ≤ length fan
-  pub inside : i ≤ n
-  pub fine : Fine Any i x
+-- a round's records, and their fanouts
+abbrev pub records : Round → List NodeKind
+records r = nodes (interleaved r.list.now) r.n
+
+abbrev pub fanouts : Round → ℕ → ℕ
+fanouts r = read r.fan.now
+
+-- a round's records decode, are indexed, and have a fanout each
+pub record Standing (r : Round) : Type 0 where
+  pub sound : Records (interleaved r.list.now) r.n
+  pub indexed : NodeIndex (records r) r.own.now
+  pub fits : r.n ≤ length r.fan.now
 
 -- the places of a plan come before the record
-abbrev pub PlanFine : ℕ → Plan → Type 0
-PlanFine i (Factored f x y) = (f < i) × (x < i) × (y < i)
-PlanFine i (Rotated e y) = (e < i) × (y < i)
-PlanFine i Plain = Unit {0}
+abbrev pub PlanFine : ℕ → Option Rewrite → Type 0
+PlanFine i (Some (Factored f x y)) = (f < i) × (x < i) × (y < i)
+PlanFine i (Some (Rotated e y)) = (e < i) × (y < i)
+PlanFine i None = Unit {0}

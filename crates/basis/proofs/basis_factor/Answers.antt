@@ -1,17 +1,11 @@
-use Rattle.field.specs.Fields.{field_of}
-use Rattle.periodic.specs.RunLaws.{entered_ready, then_enter, inside_later}
-use Rattle.basis.specs.Promises as Said
+use Rattle.periodic.specs.RunLaws.{long_first, then_enter, refused}
+use Rattle.basis.specs.Promises as Promises
 use Rattle.basis.proofs.basis_factor.Goals as goal
 
-pub sub-requires : goal.sub-requires
-sub-requires c = (
-  entered_ready (field_of c.args.prime) _ _ _ _ _ c.requires.0 c.constant-root.ensures,
-  inside_later c.constant-root.ensures.ran.longer
-      c.requires.1,
-  c.constant-root.ensures.inside,
-)
+pub returns-in_err-root : goal.returns-in_err-root
+unfolding Promises.factor
+returns-in_err-root c = refused _ _ c.from_residual.ensures (long_first _ c.in_err-root.ensures.told)
 
 pub returns : goal.returns
-unfolding Said.factor
-returns c =
-    then_enter _ _ _ _ _ _ _ _ _ c.constant-root.ensures c.sub.ensures
+unfolding Promises.factor
+returns c = then_enter _ c.in_ok-root.ensures.told.ran c.sub.ensures

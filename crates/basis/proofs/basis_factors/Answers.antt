@@ -1,33 +1,32 @@
-use Prim.Native.Nat.{◌<◌}
-use mathlib.Core.Path.{refl}
 use native.Mathlib.Omega.{arith}
-use lib.ListN.{length}
 use Rattle.field.specs.Fields.{field_of}
 use Rattle.periodic.specs.Periodic as Periodic
-use Rattle.periodic.specs.RunLaws.{entered_ready, inside_later}
-use Rattle.periodic.specs.ListLaws.{list_none, list_next, list_all, set_length, none_inside}
-use Rattle.periodic.specs.SparseLaws.{entering_same}
+use Rattle.periodic.specs.SameLaws.{same_is}
+use Rattle.periodic.specs.RunLaws.{list_none, list_next, list_long, list_all, none_inside, entered_like, long_like, below_later, refused_list}
 use Rattle.basis.specs.BasisLaws.{factor_at}
 use Rattle.basis.proofs.basis_factors.Goals as goal
 
 pub loop-k-init : goal.loop-k-init
-loop-k-init c = (omega arith, refl, list_none _ _ _ _ _ _ _ refl (none_inside _), c.requires.0, c.requires.1)
+loop-k-init c = list_none _ _ _ _ c.new-factors.ensures (none_inside _)
+
+pub bounds-roots-k : goal.bounds-roots-k
+bounds-roots-k c = omega (arith, c.requires.1.many)
+
+pub basis_factor-requires : goal.basis_factor-requires
+basis_factor-requires c = (omega (arith, c.requires.0, c.loop-k.invariant.ran.longer), below_later c.loop-k.invariant.ran.prime_is (c.requires.1.low _ c.loop-k-test.true))
+
+pub returns-in_err-factor : goal.returns-in_err-factor
+unfolding Periodic.factors
+returns-in_err-factor c =
+    refused_list _ _ c.from_residual.ensures
+    (list_long _ _ _ _ c.loop-k-test.true c.loop-k.invariant
+    (long_like c.loop-k.invariant.ran.prime_is (same_is (factor_at (field_of c.args.builder.now.prime) _ _ _ _ c.requires.1 c.loop-k-test.true)) c.in_err-factor.ensures.told))
 
 pub loop-k-preserved : goal.loop-k-preserved
 loop-k-preserved c =
-    let field = field_of c.args.prime in
-    let h : c.loop-k.k < length c.loop-k.places = omega (arith, c.requires.2) in
-    let entered = entering_same field _ _ _ _ _ _ (factor_at field _ _ _ _ c.requires.3 c.loop-k-test.true)
-    c.basis_factor-e.ensures in (
-      omega arith,
-      set_length c.loop-k.places _ _ _ c.loop-k.invariant.1,
-      list_next field _ _ _ _ _ _ _ _ _ _ _ h c.loop-k.invariant.2
-          entered,
-      entered_ready field _ _ _ _ _ c.loop-k.invariant.3 c.basis_factor-e.ensures,
-      inside_later
-          c.basis_factor-e.ensures.ran.longer c.loop-k.invariant.4,
-    )
+    list_next _ _ _ _ _ c.loop-k.invariant
+    (entered_like c.loop-k.invariant.ran.prime_is (same_is (factor_at (field_of c.args.builder.now.prime) _ _ _ _ c.requires.1 c.loop-k-test.true)) c.in_ok-factor.ensures.told) c.push.ensures.items
 
 pub returns : goal.returns
 unfolding Periodic.factors
-returns c = list_all _ _ _ _ _ _ _ _ _ _ _ _ c.loop-k.invariant.0 c.loop-k-test.false (omega arith) c.loop-k.invariant.2
+returns c = list_all _ _ _ _ (omega arith) c.loop-k-test.false (omega arith) c.loop-k.invariant

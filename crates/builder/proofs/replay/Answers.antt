@@ -8,43 +8,35 @@ use Rattle.field.specs.Field.{Below}
 use Rattle.field.specs.Fields.{field_of}
 use Rattle.builder.specs.Steps as Steps
 use Rattle.builder.specs.OutcomeLaws.{list_fine}
-use Rattle.builder.specs.HoldLaws.{holds_nothing, turn_fine, turn_request, turn_short, turn_holds}
+use Rattle.builder.specs.HoldLaws.{holds_nothing, same_stores, same_still, turn_fine, turn_request, turn_short, turn_holds}
 use Rattle.builder.proofs.replay.Goals as goal
 
 pub loop-i-init : goal.loop-i-init
 unfolding Steps.replay Nodes.nodes
 loop-i-init c =
     let e = c.new-builder.ensures.empty in
-    record {
-      same_list = refl;
-      same_links = refl;
-      prime_is = e.prime_is;
-      list_words = refl;
-      link_words = refl;
-      map_words = refl;
-      holds = rw e.none (holds_nothing _ _ _);
-      index = rw e.none e.index;
-    }
+    record { same = same_stores _; holds = rw e.none (holds_nothing _ _ _); index = rw e.none e.index }
 
 pub renamed-x-requires : goal.renamed-x-requires
 renamed-x-requires c =
     fine_any (Below c.args.prime) _ _ (turn_fine (field_of c.args.prime) (Nodes.nodes (interleaved c.args.list.now) c.args.n)
     (list_fine (field_of c.args.prime) (interleaved c.args.list.now) c.args.n c.requires.0) c.loop-i.i _ _
-    (omega (arith, c.requires.2, c.loop-i.invariant.map_words, c.loop-i-test.true))
+    (omega (arith, c.requires.2, c.loop-i.auto.map, c.loop-i-test.true))
     (c.node_at.ensures ∙ sym (at_nodes _ _ _ c.loop-i-test.true)))
 
 pub push-requires : goal.push-requires
 push-requires c =
     let v = c.loop-i.invariant in
+    let e = c.new-builder.ensures.empty in
     let h = turn_short (field_of c.args.prime) (Nodes.nodes (interleaved c.args.list.now) c.args.n) (list_fine (field_of c.args.prime) (interleaved c.args.list.now) c.args.n c.requires.0)
     c.loop-i.i c.loop-i.builder.list.now c.loop-i.map c.loop-i.builder.count v.holds in (
-      rw (v.prime_is, c.renamed-x.ensures) (turn_request (field_of c.args.prime) (Nodes.nodes (interleaved c.args.list.now) c.args.n)
+      rw (v.same.prime, e.prime_is, c.renamed-x.ensures) (turn_request (field_of c.args.prime) (Nodes.nodes (interleaved c.args.list.now) c.args.n)
           (list_fine (field_of c.args.prime) (interleaved c.args.list.now) c.args.n c.requires.0) c.loop-i.i c.loop-i.builder.list.now c.loop-i.map
           c.loop-i.builder.count v.holds _ (c.node_at.ensures ∙ sym (at_nodes _ _ _ c.loop-i-test.true))),
       record {
-        room = rw (same_room c.loop-i.builder.list.now c.args.res.now (v.list_words ∙ ap length c.new-builder.ensures.empty.list_is)) (omega (arith, h, c.requires.1, c.loop-i-test.true));
+        room = rw (same_room c.loop-i.builder.list.now c.args.res.now (v.same.list_words ∙ ap length e.list_is)) (omega (arith, h, c.requires.1, c.loop-i-test.true));
         index = v.index;
-        link_room = rw (v.link_words, c.new-builder.ensures.empty.link_words) (omega (arith, h, c.requires.4, c.loop-i-test.true));
+        link_room = rw (v.same.link_words, e.link_words) (omega (arith, h, c.requires.4, c.loop-i-test.true));
       },
     )
 
@@ -53,17 +45,12 @@ loop-i-preserved c =
     let v = c.loop-i.invariant in
     let e = c.push.ensures in
     record {
-      same_list = e.same_list ∙ v.same_list;
-      same_links = e.same_links ∙ v.same_links;
-      prime_is = e.prime ∙ v.prime_is;
-      list_words = e.noted.pushed.kept ∙ v.list_words;
-      link_words = e.link_words ∙ v.link_words;
-      map_words = simp length-set v.map_words;
+      same = same_still _ _ _ v.same e.same;
       holds = turn_holds (field_of c.args.prime) (Nodes.nodes (interleaved c.args.list.now) c.args.n)
           (list_fine (field_of c.args.prime) (interleaved c.args.list.now) c.args.n c.requires.0) c.loop-i.i c.loop-i.builder.list.now c.loop-i.map
           c.loop-i.builder.count v.holds _ _ _ (c.node_at.ensures ∙ sym (at_nodes _ _ _ c.loop-i-test.true))
-          (rw (v.prime_is, c.renamed-x.ensures) at e.noted.pushed)
-          (omega (arith, c.requires.2, c.loop-i-test.true, v.map_words));
+          (rw (v.same.prime, c.new-builder.ensures.empty.prime_is, c.renamed-x.ensures) at e.noted.pushed)
+          (omega (arith, c.requires.2, c.loop-i-test.true, c.loop-i.auto.map));
       index = e.noted.index;
     }
 

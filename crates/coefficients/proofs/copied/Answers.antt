@@ -1,18 +1,5 @@
-use mathlib.Core.Path.{refl}
-use native.Mathlib.Nat.{lt_of_lt_of_le}
-use native.Mathlib.Omega.{arith}
-use Rattle.dag.specs.ArrayLaws.{fill_next, fill_all}
-use Rattle.dag.specs.Arrays as Padded
-use Rattle.coefficients.specs.Arrays as Arrays
+use Rattle.coefficients.specs.TermLaws.{copied_is}
 use Rattle.coefficients.proofs.copied.Goals as goal
 
-pub loop-i-init : goal.loop-i-init
-unfolding Padded.padded Padded.up_to
-loop-i-init c = (omega arith, refl)
-
-pub loop-i-preserved : goal.loop-i-preserved
-loop-i-preserved c = (omega arith, fill_next _ _ _ _ _ _ (lt_of_lt_of_le c.loop-i-test.true c.requires) c.loop-i.invariant.1 refl)
-
 pub returns : goal.returns
-unfolding Arrays.copied
-returns c = fill_all _ _ _ _ _ _ _ c.loop-i.invariant.1 c.loop-i.invariant.0 c.loop-i-test.false refl
+returns c = copied_is _ _ c.copy_from_slice.ensures.after

@@ -1,14 +1,9 @@
 -- The invariant: the coefficients before j are filled.
-use Prim.Native.Nat.{◌-◌, ◌≤◌}
 use mathlib.Core.Path.{◌≡◌}
-use lib.ListN.{length}
 use Rattle.field.specs.Fields.{field_of}
 use Rattle.coefficients.specs.Terms as Terms
 use Rattle.dag.specs.Arrays as Padded
 use Rattle.coefficients.proofs.dense.Given as goal
 
 abbrev pub invariant-loop-j : goal.invariant-loop-j
-invariant-loop-j l = (l.j ≤ length l.col) × (l.coefficients ≡ Padded.padded 0 128 (Padded.up_to (Terms.dense (field_of l.prime) l.col) l.j))
-
-abbrev pub decreases-loop-j : goal.decreases-loop-j
-decreases-loop-j l = length l.col - l.j
+invariant-loop-j l = l.coefficients ≡ Padded.padded 0 128 (Padded.up_to (Terms.dense (field_of l.prime) l.col) l.j)

@@ -6,7 +6,7 @@ use Rattle.coefficients.specs.SplitLaws.{rows_none, rows_next, row_fits, round_f
 use Rattle.coefficients.proofs.halved.Goals as goal
 
 pub loop-j-init : goal.loop-j-init
-loop-j-init c = (omega arith, rows_none (field_of c.args.prime) _ _ _ _)
+loop-j-init c = rows_none (field_of c.args.prime) _ _ _ _
 
 pub overflow_mul-a-in-loop-j : goal.overflow_mul-a-in-loop-j
 overflow_mul-a-in-loop-j c = omega (arith, round_fits _ _ _ _ c.round.ensures c.requires.3 c.loop-j-test.true)
@@ -17,16 +17,11 @@ bounds-factors-j c = omega (arith, c.requires.2, row_fits _ _ _ c.requires.3 c.l
 pub join_row-requires : goal.join_row-requires
 join_row-requires c = (
   c.requires.0,
-  c.loop-j.invariant.1.low,
+  c.loop-j.invariant.low,
   c.requires.1.at _,
-  round_fits _ _ _ _ c.round.ensures c.requires.3
-      c.loop-j-test.true,
-  rw c.loop-j.invariant.1.many (row_fits _ _ _ c.requires.3 c.loop-j-test.true),
+  round_fits _ _ _ _ c.round.ensures c.requires.3 c.loop-j-test.true,
+  rw c.loop-j.invariant.many (row_fits _ _ _ c.requires.3 c.loop-j-test.true),
 )
 
 pub loop-j-preserved : goal.loop-j-preserved
-loop-j-preserved c = (
-  omega arith,
-  rows_next (field_of c.args.prime) _ _ _ _ _ _ _ _ _ c.loop-j.invariant.1 refl (ap (λ k. k * (2 * c.args.s)) c.round.ensures)
-      c.join_row.ensures,
-)
+loop-j-preserved c = rows_next (field_of c.args.prime) _ _ _ _ _ _ _ _ _ c.loop-j.invariant refl (ap (λ k. k * (2 * c.args.s)) c.round.ensures) c.join_row.ensures

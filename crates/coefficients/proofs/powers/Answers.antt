@@ -11,17 +11,15 @@ use Rattle.coefficients.proofs.powers.Goals as goal
 
 pub loop-i-init : goal.loop-i-init
 unfolding Padded.padded Padded.up_to
-loop-i-init c = (omega arith, refl, pow_start (field_of c.args.prime) _, large c.args.prime)
+loop-i-init c = (refl, pow_start (field_of c.args.prime) _, large c.args.prime)
 
 pub loop-i-preserved : goal.loop-i-preserved
 loop-i-preserved c = (
-  omega arith,
-  fill_next _ _ _ _ _ _ (lt_of_lt_of_le c.loop-i-test.true c.requires.1) c.loop-i.invariant.1
-      c.loop-i.invariant.2,
-  pow_next (field_of c.args.prime) _ _ _ _ c.loop-i.invariant.2 c.mul-power.ensures.0,
+  fill_next _ _ _ _ _ _ (lt_of_lt_of_le c.loop-i-test.true c.requires.1) c.loop-i.invariant.0 c.loop-i.invariant.1,
+  pow_next (field_of c.args.prime) _ _ _ _ c.loop-i.invariant.1 c.mul-power.ensures.0,
   c.mul-power.ensures.1,
 )
 
 pub returns : goal.returns
 unfolding Arrays.powers
-returns c = fill_all _ _ _ _ _ _ _ c.loop-i.invariant.1 c.loop-i.invariant.0 c.loop-i-test.false refl
+returns c = fill_all _ _ _ _ _ _ _ c.loop-i.invariant.0 (omega arith) c.loop-i-test.false refl

@@ -1,5 +1,5 @@
 -- The invariant: the places before i are filled, and power is the next entry.
-use Prim.Native.Nat.{◌-◌, ◌≤◌, ◌<◌}
+use Prim.Native.Nat.{◌<◌}
 use mathlib.Core.Path.{◌≡◌}
 use Rattle.ring.specs.Power.{pow}
 use Rattle.field.specs.Field.{modulus_of, felt}
@@ -7,7 +7,5 @@ use Rattle.dag.specs.Arrays as Padded
 use Rattle.coefficients.proofs.powers.Given as goal
 
 abbrev pub invariant-loop-i : goal.invariant-loop-i
-invariant-loop-i l = (l.i ≤ l.n) × (l.row ≡ Padded.padded 0 128 (Padded.up_to (pow (felt l.prime) l.base) l.i)) × (l.power ≡ pow (felt l.prime) l.base l.i) × (l.power < modulus_of l.prime)
-
-abbrev pub decreases-loop-i : goal.decreases-loop-i
-decreases-loop-i l = l.n - l.i
+invariant-loop-i l =
+    (l.row ≡ Padded.padded 0 128 (Padded.up_to (pow (felt l.prime) l.base) l.i)) × (l.power ≡ pow (felt l.prime) l.base l.i) × (l.power < modulus_of l.prime)

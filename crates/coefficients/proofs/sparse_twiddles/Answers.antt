@@ -12,15 +12,14 @@ use Rattle.coefficients.proofs.sparse_twiddles.Goals as goal
 
 pub loop-k-init : goal.loop-k-init
 unfolding Padded.padded Padded.up_to
-loop-k-init c = (omega arith, refl)
+loop-k-init c = refl
 
 pub loop-k-preserved : goal.loop-k-preserved
 loop-k-preserved c =
-    let told = row_told (field_of c.args.prime) _ _ _ _ _ _ _ (ap (λ l. get_or l c.loop-k.k 0) c.requires.1.are) c.root_inverse-step.ensures.0
-    c.pow.ensures.0 c.log_length-log.ensures.0 c.squares.ensures in
-    (omega arith, fill_next _ _ _ _ _ _ (lt_of_lt_of_le c.loop-k-test.true c.requires.1.few) c.loop-k.invariant.1 told)
+    fill_next _ _ _ _ _ _ (lt_of_lt_of_le c.loop-k-test.true c.requires.1.few) c.loop-k.invariant
+    (row_told (field_of c.args.prime) _ _ _ _ _ _ _ (ap (λ l. get_or l c.loop-k.k 0) c.requires.1.are) c.root_inverse-step.ensures.0
+    c.pow.ensures.0 c.log_length-log.ensures.0 c.squares.ensures)
 
 pub returns : goal.returns
 unfolding Arrays.sparse_twiddles
-returns c =
-    fill_all _ _ _ _ _ _ _ c.loop-k.invariant.1 c.loop-k.invariant.0 c.loop-k-test.false (ap length (sym c.requires.1.are))
+returns c = fill_all _ _ _ _ _ _ _ c.loop-k.invariant (omega arith) c.loop-k-test.false (ap length (sym c.requires.1.are))

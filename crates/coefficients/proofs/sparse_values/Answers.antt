@@ -13,10 +13,13 @@ use Rattle.coefficients.proofs.sparse_values.Goals as goal
 
 pub loop-k-init : goal.loop-k-init
 unfolding Padded.padded Padded.up_to
-loop-k-init c = (omega arith, refl)
+loop-k-init c = refl
 
-pub bounds-col-places : goal.bounds-col-places
-bounds-col-places c = support_inside _ _ _ c.requires.1.are c.loop-k-test.true
+pub bounds-col-place : goal.bounds-col-place
+bounds-col-place c = support_inside _ _ _ c.requires.1.are c.loop-k-test.true
+
+pub offset_bounds-col-place : goal.offset_bounds-col-place
+offset_bounds-col-place c = omega (arith, support_inside _ _ _ c.requires.1.are c.loop-k-test.true, c.requires.0.short)
 
 pub mul-requires : goal.mul-requires
 mul-requires c = (
@@ -25,15 +28,10 @@ mul-requires c = (
 )
 
 pub loop-k-preserved : goal.loop-k-preserved
-loop-k-preserved c = (
-  omega arith,
-  fill_next _ _ _ _ _ _ (lt_of_lt_of_le c.loop-k-test.true c.requires.1.few) c.loop-k.invariant.1
-      (value_told (field_of c.args.prime) _ _ _ _ _ c.requires.1.are c.size_inverse-scale.ensures.0 c.mul.ensures.0),
-)
+loop-k-preserved c =
+    fill_next _ _ _ _ _ _ (lt_of_lt_of_le c.loop-k-test.true c.requires.1.few) c.loop-k.invariant
+    (value_told (field_of c.args.prime) _ _ _ _ _ c.requires.1.are c.size_inverse-scale.ensures.0 c.mul.ensures.0)
 
 pub returns : goal.returns
 unfolding Arrays.sparse_values
-returns c = fill_all _ _ _ _ _ _ _ c.loop-k.invariant.1 c.loop-k.invariant.0 c.loop-k-test.false (ap length (sym c.requires.1.are))
-
-pub offset_bounds-col-places : goal.offset_bounds-col-places
-offset_bounds-col-places c = omega (arith, support_inside _ _ _ c.requires.1.are c.loop-k-test.true, c.requires.0.short)
+returns c = fill_all _ _ _ _ _ _ _ c.loop-k.invariant (omega arith) c.loop-k-test.false (ap length (sym c.requires.1.are))

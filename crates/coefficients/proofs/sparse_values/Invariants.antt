@@ -1,7 +1,6 @@
 -- The invariant: the places before k are filled.
-use Prim.Native.Nat.{◌-◌, ◌≤◌}
 use mathlib.Core.Path.{◌≡◌}
-use lib.ListN.{length, get_or}
+use lib.ListN.{get_or}
 use Rattle.field.specs.Fields.{field_of}
 use Rattle.columns.specs.Columns as Columns
 use Rattle.coefficients.specs.Terms as Terms
@@ -9,7 +8,4 @@ use Rattle.dag.specs.Arrays as Padded
 use Rattle.coefficients.proofs.sparse_values.Given as goal
 
 abbrev pub invariant-loop-k : goal.invariant-loop-k
-invariant-loop-k l = (l.k ≤ length l.places) × (l.values ≡ Padded.padded 0 11 (Padded.up_to (λ i. Terms.scaled_value (field_of l.prime) l.col (get_or (Columns.support l.col) i 0)) l.k))
-
-abbrev pub decreases-loop-k : goal.decreases-loop-k
-decreases-loop-k l = length l.places - l.k
+invariant-loop-k l = l.values ≡ Padded.padded 0 11 (Padded.up_to (λ i. Terms.scaled_value (field_of l.prime) l.col (get_or (Columns.support l.col) i 0)) l.k)

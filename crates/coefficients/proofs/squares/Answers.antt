@@ -10,17 +10,15 @@ use Rattle.coefficients.proofs.squares.Goals as goal
 
 pub loop-i-init : goal.loop-i-init
 unfolding Padded.padded Padded.up_to
-loop-i-init c = (omega arith, refl, square_start (field_of c.args.prime) _ c.requires.0, c.requires.0)
+loop-i-init c = (refl, square_start (field_of c.args.prime) _ c.requires.0, c.requires.0)
 
 pub loop-i-preserved : goal.loop-i-preserved
 loop-i-preserved c = (
-  omega arith,
-  fill_next _ _ _ _ _ _ (lt_of_lt_of_le c.loop-i-test.true c.requires.1) c.loop-i.invariant.1
-      c.loop-i.invariant.2,
-  square_next (field_of c.args.prime) _ _ _ _ c.loop-i.invariant.2 c.mul-power.ensures.0,
+  fill_next _ _ _ _ _ _ (lt_of_lt_of_le c.loop-i-test.true c.requires.1) c.loop-i.invariant.0 c.loop-i.invariant.1,
+  square_next (field_of c.args.prime) _ _ _ _ c.loop-i.invariant.1 c.mul-power.ensures.0,
   c.mul-power.ensures.1,
 )
 
 pub returns : goal.returns
 unfolding Arrays.squares
-returns c = fill_all _ _ _ _ _ _ _ c.loop-i.invariant.1 c.loop-i.invariant.0 c.loop-i-test.false refl
+returns c = fill_all _ _ _ _ _ _ _ c.loop-i.invariant.0 (omega arith) c.loop-i-test.false refl

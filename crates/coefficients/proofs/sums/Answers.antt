@@ -1,4 +1,5 @@
 use native.Mathlib.Omega.{arith}
+use Rattle.std.proofs.Common.{mul_comm}
 use Rattle.field.specs.Fields.{field_of}
 use Rattle.coefficients.specs.SplitLaws.{reached_start, reached_next, reached_fits, low_powers}
 use Rattle.coefficients.proofs.sums.Goals as goal
@@ -16,5 +17,6 @@ halved-table-requires c = (
 
 pub loop-s-preserved : goal.loop-s-preserved
 loop-s-preserved c =
-    reached_next (field_of c.args.prime) _ c.requires _ _ _ _ _ _ c.loop-s-test.true c.root_inverse.ensures.0 c.powers-factors.ensures
-    c.loop-s.invariant c.halved-table.ensures
+    rw (mul_comm c.loop-s.n 2)
+    (reached_next (field_of c.args.prime) _ c.requires _ _ _ _ _ _ c.loop-s-test.true c.root_inverse.ensures.0 c.powers-factors.ensures
+    c.loop-s.invariant c.halved-table.ensures)

@@ -1,29 +1,18 @@
-use native.Mathlib.Nat.{le_trans, le_of_eq}
-use Prim.Native.Nat.{◌≤◌}
-use mathlib.Core.Path.{sym, ◌∙◌}
-use native.Mathlib.Omega.{arith}
-use lib.ListN.{length, take}
-use lib.Seq.{length-take-le}
-use Rattle.coefficients.specs.TermLaws.{place_next, place_room, place_end}
+use mathlib.Core.Path.{refl}
+use Rattle.std.proofs.Common.{lit<}
+use Rattle.coefficients.specs.TermLaws.{place_none, place_one, place_next, place_room, place_end}
 use Rattle.coefficients.proofs.support.Goals as goal
+use Rattle.coefficients.proofs.support.Goals.{then-v-ne0, else-v-ne0}
 
-pub with_place-n-requires : goal.with_place-n-requires
-with_place-n-requires c =
-    let h : c.loop-j.n ≤ length c.loop-j.store = omega arith in (
-      h,
-      place_room _ _ c.loop-j-test.true (take c.loop-j.n c.loop-j.store) _ _ (length-take-le _ _ h)
-          c.loop-j.invariant.3 (le_trans c.requires (le_of_eq (sym c.loop-j.invariant.2))),
-    )
+pub push-requires : goal.push-requires
+push-requires c = (lit< tt, place_room _ _ c.loop-j-test.true _ _ _ refl c.loop-j.invariant c.requires c.if-v-ne0.true)
 
 pub loop-j-preserved : goal.loop-j-preserved
-loop-j-preserved c = (
-  omega arith,
-  omega (arith, c.with_place-n.ensures.1),
-  c.with_place-n.auto.store ∙ c.loop-j.invariant.2,
-  place_next _ _
-      c.loop-j-test.true (take c.loop-j.n c.loop-j.store) _ _ c.with_place-n.ensures.0
-      c.loop-j.invariant.3,
-)
+loop-j-preserved c =
+    elim c.if-v-ne0.branch [
+      | then-v-ne0 w ↦ rw w.places-is (place_next _ _ c.loop-j-test.true _ _ _ (place_one _ _ _ _ w.if-v-ne0.true w.push.ensures.items) c.loop-j.invariant)
+      | else-v-ne0 w ↦ rw w.places-is (place_next _ _ c.loop-j-test.true _ _ _ (place_none _ _ _ w.if-v-ne0.false) c.loop-j.invariant)
+    ]
 
 pub returns : goal.returns
-returns c = (place_end _ (take c.loop-j.n c.loop-j.store) _ _ c.loop-j-test.false c.loop-j.invariant.3, c.loop-j.invariant.1)
+returns c = place_end _ _ _ _ c.loop-j-test.false c.loop-j.invariant

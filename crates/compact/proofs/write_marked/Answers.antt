@@ -1,32 +1,28 @@
-use mathlib.Core.Path.{refl, sym, ◌∙◌}
-use native.Mathlib.Omega.{arith}
+use Rattle.std.proofs.Common.{sym, ◌∙◌, arith}
 use Rattle.dag.specs.ViewLaws.{same_room}
 use Rattle.compact.specs.Compact.{kept}
 use Rattle.compact.specs.LoopLaws.{record_fine, place_room, write_kept, write_skipped}
 use Rattle.dag.specs.WordLaws.{written_nil}
 use Rattle.compact.proofs.write_marked.Goals as goal
+use Rattle.compact.proofs.write_marked.Goals.{then-reachable-i, else-reachable-i}
 
-pub loop-next-init : goal.loop-next-init
+pub loop-i-init : goal.loop-i-init
 unfolding kept
-loop-next-init c = (omega arith, refl, sym (written_nil _))
+loop-i-init c = sym (written_nil _)
 
-pub renamed-requires : goal.renamed-requires
-renamed-requires c = record_fine _ _ _ _ _ c.requires.sound (omega arith) c.requires.remaps.fits c.node_at.ensures
+pub renamed-x-requires : goal.renamed-x-requires
+renamed-x-requires c = record_fine _ _ _ _ _ c.requires.sound (omega arith) c.requires.remaps.fits c.node_at.ensures
 
 pub put_node-requires : goal.put_node-requires
 put_node-requires c =
-    rw (same_room c.loop-next.res c.args.res.now c.loop-next.invariant.1, c.mapped.ensures)
+    rw (same_room c.loop-i.res c.args.res.now c.loop-i.auto.res, c.mapped.ensures)
     (place_room _ _ _ _ c.args.res.now c.requires _ (omega arith) c.if-reachable-i.true)
 
-pub loop-next-preserved-then-reachable-i : goal.loop-next-preserved-then-reachable-i
-loop-next-preserved-then-reachable-i c = (
-  omega arith,
-  c.put_node.auto.list ∙ c.loop-next.invariant.1,
-  (rw c.mapped.ensures at c.put_node.ensures) ∙
-      write_kept _ _ _ _ _ c.requires _ (omega arith) _ _ _ c.loop-next.invariant.2 c.if-reachable-i.true c.node_at.ensures
-      c.renamed.ensures,
-)
-
-pub loop-next-preserved : goal.loop-next-preserved
-loop-next-preserved c =
-    (omega arith, c.loop-next.invariant.1, write_skipped _ _ _ _ _ c.requires _ (omega arith) _ c.loop-next.invariant.2 c.if-reachable-i.false)
+pub loop-i-preserved : goal.loop-i-preserved
+loop-i-preserved c =
+    elim c.if-reachable-i.branch [
+      | then-reachable-i w ↦ w.res-is ∙ (rw w.mapped.ensures at w.put_node.ensures)
+          ∙ write_kept _ _ _ _ _ c.requires _ (omega arith) _ _ _ c.loop-i.invariant w.if-reachable-i.true w.node_at.ensures
+          w.renamed-x.ensures
+      | else-reachable-i w ↦ w.res-is ∙ write_skipped _ _ _ _ _ c.requires _ (omega arith) _ c.loop-i.invariant w.if-reachable-i.false
+    ]

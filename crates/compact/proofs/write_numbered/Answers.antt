@@ -11,7 +11,7 @@ write_marked-requires c =
 
 pub returns : goal.returns
 returns c = (
-  c.renamed_roots.ensures ∙ new_roots _ _ _ most_marks c.requires.0.markable _ c.requires.0.marks_are _ c.requires.0.behind
+  c.renamed.ensures ∙ new_roots _ _ _ most_marks c.requires.0.markable _ c.requires.0.marks_are _ c.requires.0.behind
       c.requires.0.places_are,
   c.write_marked.ensures ∙ ap (written _)
       (kept_list _ _ _ most_marks c.requires.0.markable _ c.requires.0.marks_are),

@@ -1,46 +1,40 @@
-use Prim.Native.Nat.{ℕ}
-use mathlib.Core.Path.{◌≡◌, refl, sym, ◌∙◌}
-use native.Mathlib.Omega.{arith}
-use Rattle.dag.specs.Refusals.{first_refused}
+use Rattle.std.proofs.Common.{◌≡◌, Option, Some, None, Ok, Err, ok_or, refl, sym, ◌∙◌, arith}
+use Rattle.std.proofs.lemmas.Result.{err_from_is_err_and}
 use Rattle.field.specs.Fields.{field_of}
+use Rattle.dag.specs.Refusals.{first_refused}
 use Rattle.dag.specs.BranchLaws.{told}
-use Rattle.dag.specs.declared.Checked.TheVariants.{Good, Refused}
-use Rattle.dag.specs.declared.Refusal.{Refusal}
 use Rattle.evaluate.specs.Entries.{inputs_check}
 use Rattle.evaluate.specs.ValueStepLaws.{may_value, filled_more, input_more, input_none}
 use Rattle.evaluate.proofs.fill_values.Goals as goal
 
-never : {A : Type 0} {r : Refusal} → Refused r ≡ Good → A
-never e = let z : ◌≡◌ {A = ℕ} 0 1 = cc in absurd (omega arith)
+-- what a value with a refusal in its absence was
+none_of : {A E : Type 0} {d : Option A} {r e : E} → Err r ≡ ok_or d e → (d ≡ None) × (r ≡ e)
+none_of {d = None} q = (refl, cc)
+none_of {d = Some x} q = cc
+
+some_of : {A E : Type 0} {d : Option A} {x : A} (e : E) → Ok x ≡ ok_or d e → Some x ≡ d
+some_of {d = None} e q = cc
+some_of {d = Some y} e q = cc
 
 pub loop-i-init : goal.loop-i-init
 unfolding inputs_check first_refused
-loop-i-init c = (omega arith, refl, refl, (λ j h. absurd (omega arith)), refl)
+loop-i-init c = (λ j h. absurd (omega arith), refl)
 
-pub value_of-value-requires : goal.value_of-value-requires
-value_of-value-requires c =
-    record {
-      valued = may_value (field_of c.args.prime) _ _ _ _ _ c.requires.ready.0 _ _ _ (omega arith) (omega (arith, c.requires.ready.0.fits, c.loop-i.invariant.1))
-          (omega (arith, c.requires.ready.1, c.loop-i.invariant.2)) c.loop-i.invariant.3;
-      lent = (c.requires.ready.0.lent, c.requires.keyed);
-    }
+pub value_of-requires-clause-valued : goal.value_of-requires-clause-valued
+value_of-requires-clause-valued c =
+    may_value (field_of c.args.prime) _ _ _ _ _ c.requires.ready _ _ (omega arith) (omega (arith, c.requires.ready.fits)) c.loop-i.invariant.0
 
-pub returns-in-Absent : goal.returns-in-Absent
-returns-in-Absent c =
-    record {
-      value = input_none (field_of c.args.prime) _ _ _ _ _ c.requires.ready.0 _ _ (omega arith) c.loop-i.invariant.4
-          (sym (told c.value_of-value.ensures c.in-Absent.is));
-      filled = λ e. never e;
-    }
+pub returns-in_err-values-clause-value : goal.returns-in_err-values-clause-value
+returns-in_err-values-clause-value c =
+    let p = err_from_is_err_and c.from_residual.result c.from_residual.ensures.1 in
+    let q = none_of c.in_err-values.ensures.value in
+    rw (p.1, p.2, q.1)
+    (input_none (field_of c.args.prime) _ _ _ _ _ c.requires.ready _ _ (omega arith) c.loop-i.invariant.1 (sym (told c.value_of.ensures q.0)))
 
 pub loop-i-preserved : goal.loop-i-preserved
 loop-i-preserved c =
-    let e = sym (told c.value_of-value.ensures c.in-Element.is) in (
-      omega arith,
-      c.put_element.auto.c0 ∙ c.loop-i.invariant.1,
-      c.put_element.auto.c1 ∙ c.loop-i.invariant.2,
-      filled_more (field_of c.args.prime) _ _ _ _ _ c.requires.ready.0 _ _ _ (omega arith) (omega (arith, c.requires.ready.0.fits, c.loop-i.invariant.1))
-          (omega (arith, c.requires.ready.1, c.loop-i.invariant.2)) c.loop-i.invariant.3 _ _ _ e c.put_element.ensures.0
-          c.put_element.ensures.1,
-      input_more (field_of c.args.prime) _ _ _ _ _ c.requires.ready.0 _ _ (omega arith) c.loop-i.invariant.4 _ e,
+    let e = some_of _ c.in_ok-values.ensures.value ∙ c.value_of.ensures in (
+      filled_more (field_of c.args.prime) _ _ _ _ _ c.requires.ready _ _ (omega arith) (omega (arith, c.requires.ready.fits)) c.loop-i.invariant.0
+          _ _ e refl,
+      input_more (field_of c.args.prime) _ _ _ _ _ c.requires.ready _ _ (omega arith) c.loop-i.invariant.1 _ e,
     )

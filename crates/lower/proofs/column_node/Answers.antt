@@ -6,14 +6,14 @@ use Rattle.lower.specs.FormLaws.{formed_of, node_is}
 use Rattle.lower.proofs.column_node.Goals as goal
 
 pub column_value-requires : goal.column_value-requires
-column_value-requires c = (
-  c.requires.0,
-  rw c.column-col.ensures (tested_column (modulus_of c.args.prime) _ _ _ c.requires.3 c.requires.2.tested),
-  formed_of (field_of c.args.prime) _ _ _ _ _
-      c.requires.2.tested.handed c.requires.3 c.column-col.ensures (c.column_form-form.ensures _ c.requires.1),
-)
+column_value-requires c =
+    let columns = c.args.weighed.now.columns in (
+      c.requires.0,
+      rw c.column-col.ensures (tested_column (modulus_of columns.prime) _ _ _ c.requires.2 columns.tested),
+      formed_of (field_of columns.prime) _ _ _ _ _ columns.tested.handed c.requires.2 c.column-col.ensures c.form.ensures,
+    )
 
 pub returns : goal.returns
 returns c =
-    entering_same _ _ _ _ _ _ _ (node_is (field_of c.args.prime) _ _ _ _ _ _ c.column-col.ensures (c.column_form-form.ensures _ c.requires.1)
-    c.log_length.ensures.0) c.column_value.ensures
+    entering_same _ _ _ _ _ _ _ (node_is (field_of c.args.weighed.now.columns.prime) _ _ _ _ _ _ c.column-col.ensures c.form.ensures c.log_length.ensures.0)
+    c.column_value.ensures

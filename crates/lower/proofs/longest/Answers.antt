@@ -1,15 +1,14 @@
-use mathlib.Core.Path.{refl}
-use native.Mathlib.Omega.{arith}
-use Rattle.lower.specs.Lower as Lower
-use Rattle.lower.specs.CallLaws.{longest_next, longest_end}
+use Rattle.std.proofs.Common.{◌≡◌, ◌∙◌, sym, ap, max}
+use Rattle.std.specs.List.{reduce}
+use Rattle.std.specs.Option.{option_map, unwrap_or}
+use Rattle.std.proofs.lemmas.Iterator.{YieldsList-from_slice}
+use Rattle.std.proofs.lemmas.Iterator.Adapters.{option_map_id}
+use Rattle.std.proofs.lemmas.Iterator.Consumers.{YieldsList-from_copied, YieldsList-at, max_from_yields_List}
+use Rattle.lower.specs.CallLaws.{longest_is}
 use Rattle.lower.proofs.longest.Goals as goal
 
-pub loop-i-init : goal.loop-i-init
-unfolding Lower.longest
-loop-i-init c = (omega arith, refl)
-
-pub loop-i-preserved : goal.loop-i-preserved
-loop-i-preserved c = (omega arith, longest_next _ _ _ _ _ c.loop-i-test.true c.greater-m.ensures c.loop-i.invariant.1)
-
 pub returns : goal.returns
-returns c = longest_end _ _ _ _ c.loop-i-test.false c.loop-i.invariant.1
+returns c =
+    let road = YieldsList-from_copied (YieldsList-at c.copied.ensures.source (YieldsList-from_slice c.args.lengths.now cc)) in
+    let greatest : c.max.result ≡ reduce max c.args.lengths.now = sym (option_map_id _) ∙ max_from_yields_List c.copied.result _ c.max.ensures.ran road in
+    c.unwrap_or.ensures ∙ (ap (λ o. unwrap_or o 0) greatest ∙ longest_is c.args.lengths.now)

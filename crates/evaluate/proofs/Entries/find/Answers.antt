@@ -1,0 +1,20 @@
+-- `evaluate::Entries::find` meets its contract: along its bucket it seeks the key.
+use Rattle.std.proofs.Common.{rules}
+use Rattle.evaluate.specs.Entries.{entry_of}
+use Rattle.evaluate.specs.KeyIndexLaws.{seeks}
+use Rattle.evaluate.proofs.Entries.find.Goals as goal
+
+pub walk-requires : goal.walk-requires
+walk-requires g c = (
+  _,
+  _,
+  seeks g.row.WIDTH c.args.self.now.words.now c.args.self.now.count c.args.links.now c.args.key c.requires _ _ _ c.bucket_of-k.ensures.0 c.hash.ensures.0 c.words_of_key.ensures
+      _ _ _ _ (λ i room. search rules) (λ i b p. search rules) (λ i lent. search rules) (λ i r p. search rules),
+)
+
+pub returns : goal.returns
+unfolding entry_of
+returns g c =
+    c.walk.ensures _ _
+    (seeks g.row.WIDTH c.args.self.now.words.now c.args.self.now.count c.args.links.now c.args.key c.requires _ _ _ c.bucket_of-k.ensures.0 c.hash.ensures.0 c.words_of_key.ensures
+    _ _ _ _ (λ i room. search rules) (λ i b p. search rules) (λ i lent. search rules) (λ i r p. search rules))
