@@ -1,23 +1,23 @@
 -- A word of digits fits, tests of operands, and a line more.
-use Prim.Native.Nat.{ℕ, zero, suc, ◌+◌, ◌*◌, ◌-◌, ◌%◌, ◌^◌, ◌<◌, ◌≤◌}
+use Prim.Native.Nat.{ℕ, zero, suc, ◌+◌, ◌*◌, ◌-◌, ◌^◌, ◌<◌, ◌≤◌}
 use Rattle.std.specs.Prelude.{Bool, ◌&&◌, List, ◌≡◌, ltb, get_or}
 use Rattle.std.proofs.Math.Bool.{true, false, cond, and-eq-true_iff}
 use Rattle.std.proofs.Math.Path.{refl}
 use Rattle.std.proofs.Common.{sym}
-use Rattle.std.proofs.Math.Nat.{mod-eq_of_lt, pow-le-pow_right, pow-succ'}
+use Rattle.std.proofs.Math.Nat.{pow-le-pow_right, pow-succ'}
 use Rattle.std.proofs.Math.Numerals.{add-one}
 use native.Mathlib.Omega.{arith}
-use borrow.Author.Tests.{leb-true, le-leb, lt-leb, ltb-true, ne_eqb}
+use borrow.Author.Tests.{leb-true, ltb-true}
 use Rattle.std.proofs.Math.Dec.{leb}
 use Rattle.std.proofs.Math.ListN.{get_or-eq_default}
-use Rattle.field.specs.Field.{modulus_of, second_below, elements, Below, same}
+use Rattle.field.specs.Field.{modulus_of, second_below, Below}
 use Rattle.field.specs.Fields.{field_of}
 use Rattle.field.specs.Generators.{most_log, generator, generators}
 use Rattle.field.specs.declared.Prime.{Prime}
 use Rattle.field.specs.declared.Prime.TheVariants.{Goldilocks, BabyBear}
 use Rattle.field.specs.declared.QuadFelt.{QuadFelt}
 use Rattle.dag.specs.Check.{lowest}
-use Rattle.field_vectors.specs.Vectors.{line, digit, digits, element, asked, agrees, agrees_in, score, matched}
+use Rattle.field_vectors.specs.Vectors.{line, digit, digits, score, matched}
 
 -- the value of a digit
 module _ (b : ℕ) where

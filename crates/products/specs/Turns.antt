@@ -1,14 +1,13 @@
 -- The turns of the loops.
-use Rattle.std.specs.Prelude.{◌≡◌, ℕ, zero, suc, ◌+◌, ◌-◌, ◌%◌, ◌^◌, ◌<◌, ◌≤◌, List, length, slice_index}
+use Rattle.std.specs.Prelude.{◌≡◌, ℕ, ◌+◌, ◌%◌, ◌^◌, ◌<◌, List, slice_index}
 use Rattle.std.proofs.Math.Path.{refl}
 use Rattle.std.proofs.Common.{sym, ◌∙◌, ap}
-use Rattle.std.proofs.Math.Numerals.{add-one, sub-one}
-use native.Mathlib.Omega.{arith}
+use Rattle.std.proofs.Math.Numerals.{add-one}
 use Rattle.ring.specs.Identities.{mul_one}
 use Rattle.ring.specs.Power.{pow, pow_zero, pow_suc}
 use Rattle.field.specs.Field.{modulus_of, felt, felt_laws}
 use Rattle.field.specs.declared.Prime.{Prime}
-use Rattle.products.specs.Products.{dependent, product, independent}
+use Rattle.products.specs.Products.{product, independent}
 
 module _ (prime : Prime) where
   -- no factor yet

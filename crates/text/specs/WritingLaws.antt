@@ -1,5 +1,5 @@
 -- Text written into a store from a place on, piece after piece.
-use Rattle.std.specs.Prelude.{ℕ, suc, ◌+◌, ◌-◌, ◌≤◌, ◌<◌, ◌≡◌, refl, take, set, replicate}
+use Rattle.std.specs.Prelude.{ℕ, suc, ◌+◌, ◌-◌, ◌≤◌, ◌≡◌, refl, take, set, replicate}
 use mathlib.Core.List.{List, [], ◌∷◌, ◌++◌, append_assoc}
 use Rattle.std.proofs.Common.{sym, ◌∙◌, ap, add-one, arith, drop-drop}
 use Rattle.std.proofs.Math.Path.{ap₂}
