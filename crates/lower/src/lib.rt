@@ -6,7 +6,7 @@ ghost use Rattle.field.specs.Fields.{field_of};
 ghost use Rattle.field.specs.Field.{modulus_of};
 ghost use Rattle.dag.specs.View.{interleaved};
 ghost use Rattle.dag.specs.Nodes.{blank, filled};
-ghost use Rattle.columns.specs.Prepare as Prepare;
+ghost use Rattle.columns.specs.Held as Held;
 ghost use Rattle.columns.specs.Promises as ColumnPromises;
 ghost use Rattle.periodic.specs.Periodic as Periodic;
 ghost use Rattle.periodic.specs.Runs as Runs;
@@ -14,7 +14,7 @@ ghost use Rattle.lower.specs.Lower as Lower;
 ghost use Rattle.lower.specs.Promises as Promises;
 
 use arrayvec::ArrayVec;
-use columns::{Columns, Form, Weighed};
+use columns::{Columns, Form, MOST_COLUMNS, Weighed};
 use dag::Refusal;
 use field::{Prime, felt};
 use periodic::PeriodicBuilder;
@@ -44,7 +44,7 @@ fn column_node(
     j: usize,
 ) -> Result<usize, Refusal>
     requires { let c = weighed.now.columns in (builder.old.prime ≡ c.prime) × Promises.Covered (field_of c.prime) c.lengths.now c.entries.now log × (j < length c.lengths.now) }
-    ensures { let c = weighed.now.columns in Runs.Entering (Runs.held builder.old) (λ field. Periodic.column_node field (Prepare.columns c.lengths.now c.entries.now) log j) (Runs.held builder.new) result }
+    ensures { let c = weighed.now.columns in Runs.Entering (Runs.held builder.old) (λ field. Periodic.column_node field (Held.columns c) log j) (Runs.held builder.new) result }
 {
     let col = weighed.columns.column(j);
     let k = log - columns::log_length(col);
@@ -56,9 +56,9 @@ fn build_periodic_nodes(
     builder: &mut PeriodicBuilder,
     columns: Columns,
     log: usize,
-) -> Result<ArrayVec<u64, 16>, Refusal>
+) -> Result<ArrayVec<u64, MOST_COLUMNS>, Refusal>
     requires { (builder.old.prime ≡ columns.prime) × Promises.Covered (field_of columns.prime) columns.lengths.now columns.entries.now log }
-    ensures { let c = columns.entry in Runs.Listing (Runs.held builder.old) (λ field. Periodic.build_periodic_nodes field (Prepare.columns c.lengths.now c.entries.now) log) (Runs.held builder.new) (length c.lengths.now) result }
+    ensures { let c = columns.entry in Runs.Listing (Runs.held builder.old) (λ field. Periodic.build_periodic_nodes field (Held.columns c) log) (Runs.held builder.new) (length c.lengths.now) result }
 {
     let weighed = Weighed::new(columns);
     let mut nodes = ArrayVec::new();
