@@ -1,5 +1,5 @@
 -- Normalise: the rounds in its stores, from the copied list to the answer.
-use Rattle.std.specs.Prelude.{ℕ, zero, suc, pred, ◌+◌, ◌*◌, ◌-◌, ◌<◌, ◌≤◌, Bool, true, false, List, [], ◌∷◌, ◌≡◌, length, replicate}
+use Rattle.std.specs.Prelude.{ℕ, zero, suc, pred, ◌+◌, ◌*◌, ◌-◌, ◌<◌, ◌≤◌, Bool, true, false, Some, None, Result, Ok, Err, List, [], ◌∷◌, ◌≡◌, length, replicate}
 use Rattle.std.proofs.Math.Path.{refl, ap}
 use Rattle.std.proofs.Common.{sym, ◌∙◌, ap₂, add-one, arith}
 use Rattle.std.proofs.Math.Nat.{sub-zero}
@@ -7,17 +7,17 @@ use Rattle.field.specs.Fields.{Field, element_laws}
 use Rattle.dag.specs.View.{View, interleaved}
 use Rattle.dag.specs.Nodes.{most_records, nodes, blank}
 use Rattle.dag.specs.NodeLaws.{length_nodes}
-use Rattle.dag.specs.Refusals.{is_refused, unless_refused}
+use Rattle.dag.specs.Refusals.{Checked, unless_refused}
 use Rattle.dag.specs.Roots.{most_roots, roots_of, roots_from}
 use Rattle.dag.specs.RootLaws.{roots_from_lem, length_roots, inside_from}
 use Rattle.dag.specs.Check.{room_check, list_check}
-use Rattle.dag.specs.CheckLaws.{then_good, refused_is}
+use Rattle.dag.specs.CheckLaws.{then_good}
 use Rattle.dag.specs.PassLaws.{room_enough, rooted}
 use Rattle.dag.specs.Store.{Sound, written, stored, copied_records, blanked_behind}
 use Rattle.dag.specs.declared.NodeKind.{NodeKind}
 use Rattle.dag.specs.declared.Roots.{Roots}
-use Rattle.dag.specs.declared.Checked.{Checked}
-use Rattle.dag.specs.declared.Checked.TheVariants.{Good, Refused}
+use Rattle.dag.specs.declared.Refusal.{Refusal}
+use Rattle.compact.specs.declared.Kept.{Kept}
 use Rattle.builder.specs.OutcomeLaws.{list_fine}
 use Rattle.compact.specs.OperandLaws.{one_below, below_at, inside_below}
 use Rattle.compact.specs.Promises.{AllBelow}
@@ -27,9 +27,7 @@ use Rattle.normalize.specs.RoundLaws.{rounded_inside, rounded_many}
 use Rattle.normalize.specs.RepeatLaws.{kept_shorter, given_back}
 use Rattle.normalize.specs.Calls.{normalize_stores, answer_of, normalize_check, normalized, normalize_answer, normalize_result, normalize_work}
 use Rattle.normalize.specs.Promises.{WellRooted, Ready, Once, Running, Ended, Passed, Finished}
-use Rattle.normalize.specs.declared.RoundKept.{RoundKept}
 use Rattle.normalize.specs.declared.NormalEnd.{NormalEnd}
-use Rattle.normalize.specs.declared.NormalizeAnswer.{NormalizeAnswer}
 
 -- places below n, as roots
 well_rooted : (n : ℕ) (is : List ℕ) → AllBelow n is → 0 < length is → length is ≤ most_roots → WellRooted n (roots_from is)
@@ -85,56 +83,55 @@ module _ (field : Field) where
     pub running_ready : (k : ℕ) → n ≤ most_records → 2 * n ≤ k → Ready field result count rs k
     running_ready k few room = let a = h.lost in record { sound = h.sound; few = omega arith; rooted = h.rooted; room = omega arith }
 
-    module _ {after : List ℕ} {q : RoundKept} (o : Once field result count rs after q) where
-      module _ (e : q.kept ≡ true) where
-        kept : is_kept field.elements (nodes (interleaved result) count) (roots_of rs) ≡ true
-        kept = sym o.kept_is ∙ e
+    -- a round that is kept
+    module _ {after : List ℕ} {q : Kept} (o : Once field result count rs after (Some q)) where
+      kept : is_kept field.elements (nodes (interleaved result) count) (roots_of rs) ≡ true
+      kept = sym o.kept_is
 
-        new_count : q.count ≡ length (rounded field.elements (nodes (interleaved result) count) (roots_of rs)).list
-        new_count = sym (length_nodes (interleaved after) q.count) ∙ ap length (o.list_is e)
+      new_count : q.count ≡ length (rounded field.elements (nodes (interleaved result) count) (roots_of rs)).list
+      new_count = sym (length_nodes (interleaved after) q.count) ∙ ap length o.left.list_is
 
-        pub fewer : q.count < count
-        fewer = let a = kept_shorter field.elements (nodes (interleaved result) count) (roots_of rs) kept in let b = new_count in let d = length_nodes (interleaved result) count in omega arith
+      pub fewer : q.count < count
+      fewer = let a = kept_shorter field.elements (nodes (interleaved result) count) (roots_of rs) kept in let b = new_count in let d = length_nodes (interleaved result) count in omega arith
 
-        still_rooted : WellRooted q.count q.roots
-        still_rooted =
-            let a = h.rooted in
-            let l = rounded field.elements (nodes (interleaved result) count) (roots_of rs) in
-            let low = rounded_inside field.elements (element_laws field) (nodes (interleaved result) count) (list_fine field (interleaved result) count h.sound) (roots_of rs) (rw (length_nodes (interleaved result) count) (inside_below count rs a.inside)) in
-            let many : length l.roots ≡ rs.count = rounded_many field.elements (nodes (interleaved result) count) (roots_of rs) ∙ length_roots count rs a.inside in
-            rw (o.roots_are e, new_count) (well_rooted (length l.list) l.roots low (omega (arith, many, a.some)) (omega (arith, many, a.inside.few)))
+      still_rooted : WellRooted q.count q.roots
+      still_rooted =
+          let a = h.rooted in
+          let l = rounded field.elements (nodes (interleaved result) count) (roots_of rs) in
+          let low = rounded_inside field.elements (element_laws field) (nodes (interleaved result) count) (list_fine field (interleaved result) count h.sound) (roots_of rs) (rw (length_nodes (interleaved result) count) (inside_below count rs a.inside)) in
+          let many : length l.roots ≡ rs.count = rounded_many field.elements (nodes (interleaved result) count) (roots_of rs) ∙ length_roots count rs a.inside in
+          rw (o.left.roots_are, new_count) (well_rooted (length l.list) l.roots low (omega (arith, many, a.some)) (omega (arith, many, a.inside.few)))
 
-        pub running_on : Running field s n roots after q.count q.roots (k + 1)
-        running_on =
-            let b = new_count in
-            let f = fewer in
-            let a = h.lost in
-            let l = rounded field.elements (nodes (interleaved result) count) (roots_of rs) in
-            record {
-              sound = o.sound e;
-              rooted = still_rooted;
-              lost = omega arith;
-              rounds =
-                  h.rounds
-                  ∙ (first_kept count (nodes (interleaved result) count) (roots_of rs) k (omega arith) kept
-                  ∙ (fuel_enough (pred count) q.count l.list l.roots (suc k) (omega arith) (omega arith)
-                  ∙ rw (← o.list_is e, o.roots_are e, roots_from_lem l.roots, add-one k)));
-            }
-
-      -- the rounds end
-      pub ended : q.kept ≡ false → Ended field s n roots after (record { count = count; roots = rs; rounds = k })
-      ended e =
-          let z = h.rounds ∙ given_back field.elements count (nodes (interleaved result) count) (roots_of rs) k (sym o.kept_is ∙ e) in
-          let same = o.stays e in
+      pub running_on : Running field s n roots after q.count q.roots (k + 1)
+      running_on =
+          let b = new_count in
+          let f = fewer in
+          let a = h.lost in
+          let l = rounded field.elements (nodes (interleaved result) count) (roots_of rs) in
           record {
-            sound = rw same h.sound;
-            few = let a = h.lost in omega arith;
-            list_is = ap (λ t. nodes (interleaved t) count) same ∙ sym (ap (λ m. m.list) z);
-            roots_are = sym h.rooted.exact ∙ sym (ap (λ m. roots_from m.roots) z);
-            rounds_are = sym (ap (λ m. m.rounds) z);
+            sound = o.left.sound;
+            rooted = still_rooted;
+            lost = omega arith;
+            rounds =
+                h.rounds
+                ∙ (first_kept count (nodes (interleaved result) count) (roots_of rs) k (omega arith) kept
+                ∙ (fuel_enough (pred count) q.count l.list l.roots (suc k) (omega arith) (omega arith)
+                ∙ rw (← o.left.list_is, o.left.roots_are, roots_from_lem l.roots, add-one k)));
           }
 
-  pub passed : (s : List ℕ) (n root result_room work_room : ℕ) → normalize_check field (interleaved s) n root result_room work_room ≡ Good
+    -- the rounds end
+    pub ended : {after : List ℕ} → Once field result count rs after None → Ended field s n roots after (record { count = count; roots = rs; rounds = k })
+    ended {after} o =
+        let z = h.rounds ∙ given_back field.elements count (nodes (interleaved result) count) (roots_of rs) k (sym o.kept_is) in
+        record {
+          sound = rw o.left h.sound;
+          few = let a = h.lost in omega arith;
+          list_is = ap (λ t. nodes (interleaved t) count) o.left ∙ sym (ap (λ m. m.list) z);
+          roots_are = sym h.rooted.exact ∙ sym (ap (λ m. roots_from m.roots) z);
+          rounds_are = sym (ap (λ m. m.rounds) z);
+        }
+
+  pub passed : (s : List ℕ) (n root result_room work_room : ℕ) → normalize_check field (interleaved s) n root result_room work_room ≡ Ok tt
       → Passed field s n (roots_from (root ∷ [])) result_room work_room
   unfolding normalize_check
   passed s n root result_room work_room e =
@@ -165,43 +162,50 @@ module _ (field : Field) where
 
     pub finished : {result work mid : List ℕ} {r : NormalEnd} → Ended field t n roots mid r → length mid ≡ length result
         → (last : List ℕ) {after blanked : List ℕ} → after ≡ blanked_behind mid r.count → length last ≡ length work → blanked ≡ replicate (length last - 0) blank
-        → Finished field s n roots result work (record { checked = Good; count = r.count; roots = r.roots; rounds = r.rounds }) after blanked
+        → Finished field s n roots result work r after blanked
     finished {result} {work} {mid} {r} o k last ea ew eb =
         let g = copied_normalized in
         let list_is = o.list_is ∙ ap (λ a. a.list) g in
         let c : r.count ≡ length (normalized field (interleaved s) n (roots_of roots)).list = sym (length_nodes (interleaved mid) r.count) ∙ ap length list_is in
         let rs = o.roots_are ∙ ap (λ a. roots_from a.roots) g in
         record {
-          answer = λ i. record { checked = Good; count = c i; roots = rs i; rounds = (o.rounds_are ∙ ap (λ a. a.rounds) g) i };
+          answer = λ i. record { count = c i; roots = rs i; rounds = (o.rounds_are ∙ ap (λ a. a.rounds) g) i };
           list_is = ea ∙ (blanked_stored field.bounds mid result r.count o.sound k ∙ ap (stored result) list_is);
           work_is = eb ∙ rw (sub-zero (length last), ew);
         }
 
   -- what the answer says of the tests
-  pub answer_checked : (s : View) (n root result_room work_room : ℕ) → (normalize_answer field s n root result_room work_room).checked ≡ normalize_check field s n root result_room work_room
-  unfolding normalize_answer
-  answer_checked s n root result_room work_room = go (normalize_check field s n root result_room work_room)
-    where
-      go : (c : Checked) → (unless_refused c (λ r. record { checked = Refused r; count = 0; roots = roots_from []; rounds = 0 }) (answer_of (normalized field s n (root ∷ [])))).checked ≡ c
-      go Good = refl
-      go (Refused r) = refl
+  module _ (s : View) (n root result_room work_room : ℕ) where
+    pub answer_passed : (a : NormalEnd) → Ok a ≡ normalize_answer field s n root result_room work_room
+        → (normalize_check field s n root result_room work_room ≡ Ok tt) × (a ≡ answer_of (normalized field s n (root ∷ [])))
+    unfolding normalize_answer
+    answer_passed a = go (normalize_check field s n root result_room work_room)
+      where
+        go : (c : Checked) → Ok a ≡ unless_refused c Err (Ok (answer_of (normalized field s n (root ∷ [])))) → (c ≡ Ok tt) × (a ≡ answer_of (normalized field s n (root ∷ [])))
+        go (Ok u) e = (refl, cc)
+        go (Err r) e = cc
 
-  pub record Called (s : List ℕ) (n root : ℕ) (result work : List ℕ) (a : NormalizeAnswer) (after blanked : List ℕ) : Type 0 where
+    pub answer_refused : (r : Refusal) → Err r ≡ normalize_answer field s n root result_room work_room → normalize_check field s n root result_room work_room ≡ Err r
+    unfolding normalize_answer
+    answer_refused r = go (normalize_check field s n root result_room work_room)
+      where
+        go : (c : Checked) → Err r ≡ unless_refused c Err (Ok (answer_of (normalized field s n (root ∷ [])))) → c ≡ Err r
+        go (Ok u) e = cc
+        go (Err q) e = cc
+
+  pub record Called (s : List ℕ) (n root : ℕ) (result work : List ℕ) (a : Result NormalEnd Refusal) (after blanked : List ℕ) : Type 0 where
     pub answer : a ≡ normalize_answer field (interleaved s) n root (interleaved result).room (interleaved work).room
     pub list_is : after ≡ normalize_result field (interleaved s) n root result (interleaved work).room
     pub work_is : blanked ≡ normalize_work field (interleaved s) n root (interleaved result).room work
 
-  pub normalize_refused : (s : List ℕ) (n root : ℕ) (result work : List ℕ) (c : Checked) (roots : Roots) → c ≡ normalize_check field (interleaved s) n root (interleaved result).room (interleaved work).room
-      → is_refused (normalize_check field (interleaved s) n root (interleaved result).room (interleaved work).room) ≡ true → roots ≡ roots_from []
-      → Called s n root result work (record { checked = c; count = 0; roots = roots; rounds = 0 }) result work
-  unfolding normalize_answer normalize_result normalize_work
-  normalize_refused s n root result work c roots q h e =
-      let f = (refused_is (normalize_check field (interleaved s) n root (interleaved result).room (interleaved work).room) h).1 in
-      record { answer = rw (q, e, f); list_is = rw f; work_is = rw f }
+  module _ (s : List ℕ) (n root : ℕ) (result work : List ℕ) where
+    pub normalize_refused : (r : Refusal) → normalize_check field (interleaved s) n root (interleaved result).room (interleaved work).room ≡ Err r → Called s n root result work (Err r) result work
+    unfolding normalize_answer normalize_result normalize_work
+    normalize_refused r e = record { answer = rw e; list_is = rw e; work_is = rw e }
 
-  pub normalize_done : (s : List ℕ) (n root : ℕ) (result work : List ℕ) (a : NormalizeAnswer) (after blanked : List ℕ) → normalize_check field (interleaved s) n root (interleaved result).room (interleaved work).room ≡ Good
-      → Finished field s n (roots_from (root ∷ [])) result work a after blanked → Called s n root result work a after blanked
-  unfolding normalize_answer normalize_result normalize_work
-  normalize_done s n root result work a after blanked e h =
-      let one = roots_from_lem (root ∷ []) in
-      record { answer = rw e (rw one at h.answer); list_is = rw e (rw one at h.list_is); work_is = rw e h.work_is }
+    pub normalize_done : (a : NormalEnd) (after blanked : List ℕ) → normalize_check field (interleaved s) n root (interleaved result).room (interleaved work).room ≡ Ok tt
+        → Finished field s n (roots_from (root ∷ [])) result work a after blanked → Called s n root result work (Ok a) after blanked
+    unfolding normalize_answer normalize_result normalize_work
+    normalize_done a after blanked e h =
+        let one = roots_from_lem (root ∷ []) in
+        record { answer = rw e (ap Ok (rw one at h.answer)); list_is = rw e (rw one at h.list_is); work_is = rw e h.work_is }

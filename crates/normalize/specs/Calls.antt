@@ -1,24 +1,23 @@
--- Normalise (document 01, 'Each call and when it says no'): the answer, and every word of the result and work stores, on all inputs.
-use Rattle.std.specs.Prelude.{ℕ, ◌*◌, List, [], ◌∷◌, length, replicate}
+-- Normalise: the answer, and every word of the result and work stores, on all inputs.
+use Rattle.std.specs.Prelude.{ℕ, ◌*◌, Result, Ok, Err, List, [], ◌∷◌, length, replicate}
 use Rattle.field.specs.Fields.{Field}
 use Rattle.dag.specs.View.{View, interleaved}
 use Rattle.dag.specs.Nodes.{blank, nodes}
 use Rattle.dag.specs.Store.{stored}
-use Rattle.dag.specs.Refusals.{◌then◌, unless_refused}
+use Rattle.dag.specs.Refusals.{Checked, ◌then◌, unless_refused}
 use Rattle.dag.specs.Roots.{roots_from}
 use Rattle.dag.specs.Check.{room_check, list_check}
-use Rattle.dag.specs.declared.Checked.{Checked}
-use Rattle.dag.specs.declared.Checked.TheVariants.{Good, Refused}
+use Rattle.dag.specs.declared.Refusal.{Refusal}
 use Rattle.normalize.specs.Rounds.{normalize, Normal}
-use Rattle.normalize.specs.declared.NormalizeAnswer.{NormalizeAnswer}
+use Rattle.normalize.specs.declared.NormalEnd.{NormalEnd}
 
 -- the tests of the result and work stores
 abbrev pub normalize_stores : ℕ → ℕ → ℕ → Checked
 normalize_stores n result_room work_room = room_check n result_room then room_check (2 * n) work_room
 
 -- count, roots and rounds kept
-abbrev pub answer_of : Normal → NormalizeAnswer
-answer_of a = record { checked = Good; count = length a.list; roots = roots_from a.roots; rounds = a.rounds }
+abbrev pub answer_of : Normal → NormalEnd
+answer_of a = record { count = length a.list; roots = roots_from a.roots; rounds = a.rounds }
 
 module _ (field : Field) where
   -- the tests: the list check, then the result and work stores
@@ -30,11 +29,9 @@ module _ (field : Field) where
   normalized s n roots = normalize field.elements (nodes s n) roots
 
   -- count, root and rounds kept
-  unfoldable pub normalize_answer : View → ℕ → ℕ → ℕ → ℕ → NormalizeAnswer
+  unfoldable pub normalize_answer : View → ℕ → ℕ → ℕ → ℕ → Result NormalEnd Refusal
   normalize_answer s n root result_room work_room =
-      unless_refused (normalize_check s n root result_room work_room)
-      (λ r. record { checked = Refused r; count = 0; roots = roots_from []; rounds = 0 })
-      (answer_of (normalized s n (root ∷ [])))
+      unless_refused (normalize_check s n root result_room work_room) Err (Ok (answer_of (normalized s n (root ∷ []))))
 
   -- the list answered, blanks behind it
   unfoldable pub normalize_result : View → ℕ → ℕ → List ℕ → ℕ → List ℕ

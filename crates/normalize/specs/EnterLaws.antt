@@ -1,5 +1,5 @@
 -- A record entered into a round's list by its plan.
-use Rattle.std.specs.Prelude.{ℕ, ◌<◌, List, ◌≡◌, length}
+use Rattle.std.specs.Prelude.{Option, Some, None, ℕ, ◌<◌, List, ◌≡◌, length}
 use Rattle.std.proofs.Common.{◌∙◌, subst}
 use Rattle.std.proofs.Math.Path.{ap, ap₂}
 use native.Mathlib.Omega.{arith}
@@ -18,8 +18,8 @@ use Rattle.builder.specs.declared.Entered.{Entered}
 use Rattle.normalize.specs.Rounds.{planned}
 use Rattle.plan.specs.Promises.{PlanFine}
 use Rattle.normalize.specs.Promises.{Entering, Linked, held, Planned}
-use Rattle.plan.specs.declared.Plan.{Plan}
-use Rattle.plan.specs.declared.Plan.TheVariants.{Factored, Rotated, Plain}
+use Rattle.plan.specs.declared.Rewrite.{Rewrite}
+use Rattle.plan.specs.declared.Rewrite.TheVariants.{Factored, Rotated}
 
 module _ (field : Field) where
   by_push : (work : List ℕ) (count : ℕ) (x : NodeKind) (after : List ℕ) (e : Entered) → Pushed field work count x after e → Planned field work count (step field.elements (nodes (interleaved work) count) x) after e
@@ -34,7 +34,7 @@ module _ (field : Field) where
         by_two = let k = h.by_one in omega arith;
       }
 
-  module _ (work : List ℕ) (count : ℕ) (map : List ℕ) (i : ℕ) (x : NodeKind) (plan : Plan) (h : Entering field work count map i x plan) where
+  module _ (work : List ℕ) (count : ℕ) (map : List ℕ) (i : ℕ) (x : NodeKind) (plan : Option Rewrite) (h : Entering field work count map i x plan) where
     -- there is room for a request
     pub push_room : (links : List ℕ) → Linked work count links → Room work count links
     push_room links d = let a = h.room in let b = d.room in record { room = omega arith; index = d.index; link_room = omega arith }
@@ -43,13 +43,6 @@ module _ (field : Field) where
     like_request a b k q =
         record { sound = h.sound; fine = fine_like (Low field) i count x (read map a) (read map b) h.fine (h.places a k) (h.places b q) }
 
-    -- the same of another name for the plan
-    pub entering_as : {q : Plan} → plan ≡ q → Entering field work count map i x q
-    entering_as e = subst (Entering field work count map i x) e h
-
-    pub planned_as : {q : Plan} (after : List ℕ) (r : Entered) → plan ≡ q → Planned field work count (planned field.elements (held work count map) x q) after r → Planned field work count (planned field.elements (held work count map) x plan) after r
-    planned_as after r e k = rw e k
-
     pub record_fits : Fine (Low field) (length map) x
     record_fits = fine_mono (Low field) i (length map) x h.fits h.fine
 
@@ -57,17 +50,14 @@ module _ (field : Field) where
     pub plain_request : Request field (interleaved work) count (rename (read map) x)
     plain_request = record { sound = h.sound; fine = fine_rename (Low field) (read map) i count x h.places h.fine }
 
-    pub plain_planned : plan ≡ Plain → (after : List ℕ) (e : Entered) → Pushed field work count (rename (read map) x) after e → Planned field work count (planned field.elements (held work count map) x plan) after e
+    pub plain_planned : plan ≡ None → (after : List ℕ) (e : Entered) → Pushed field work count (rename (read map) x) after e → Planned field work count (planned field.elements (held work count map) x plan) after e
     unfolding planned place_of
     plain_planned e after r k = rw e (by_push work count (rename (read map) x) after r k)
 
     -- a rotated one
-    module _ (a b : ℕ) (e : plan ≡ Rotated a b) where
+    module _ (a b : ℕ) (e : plan ≡ Some (Rotated a b)) where
       rotated_places : (a < i) × (b < i)
       rotated_places = subst (PlanFine i) e h.plan_fine
-
-      pub rotated_fit : (a < length map) × (b < length map)
-      rotated_fit = let k = rotated_places in let f = h.fits in omega arith
 
       module _ (y z : ℕ) (ey : y ≡ read map a) (ez : z ≡ read map b) (q : NodeKind) (eq : q ≡ like x y z) where
         is_like : q ≡ like x (read map a) (read map b)
@@ -81,7 +71,7 @@ module _ (field : Field) where
         rotated_planned after r k = rw e (by_push work count (like x (read map a) (read map b)) after r (rw is_like at k))
 
     -- a factored one: the inner sum or difference, then the product
-    module _ (f a b : ℕ) (e : plan ≡ Factored f a b) where
+    module _ (f a b : ℕ) (e : plan ≡ Some (Factored f a b)) where
       factored_places : (f < i) × (a < i) × (b < i)
       factored_places = subst (PlanFine i) e h.plan_fine
 

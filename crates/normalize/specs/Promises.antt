@@ -1,5 +1,5 @@
 -- What the functions of a round ask of their stores, and say of them.
-use Rattle.std.specs.Prelude.{ℕ, ◌+◌, ◌*◌, ◌<◌, ◌≤◌, ◌^◌, Bool, true, false, List, ◌≡◌, length, replicate}
+use Rattle.std.specs.Prelude.{ℕ, ◌+◌, ◌*◌, ◌<◌, ◌≤◌, Bool, Option, is_some, IfSome, MatchOption, List, ◌≡◌, length, replicate}
 use Rattle.field.specs.Fields.{Field, Low}
 use Rattle.dag.specs.View.{interleaved}
 use Rattle.dag.specs.Roots.{roots_of, roots_from, Inside}
@@ -13,12 +13,11 @@ use Rattle.builder.specs.Steps.{Built, Replay}
 use Rattle.builder.specs.Promises.{read, Holds}
 use Rattle.builder.specs.declared.Entered.{Entered}
 use Rattle.plan.specs.Promises.{PlanFine}
-use Rattle.plan.specs.declared.Plan.{Plan}
+use Rattle.plan.specs.declared.Rewrite.{Rewrite}
 use Rattle.normalize.specs.Rounds.{round, fired, rounded, is_kept, rounds_from}
 use Rattle.normalize.specs.Calls.{answer_of, normalized}
-use Rattle.normalize.specs.declared.RoundKept.{RoundKept}
+use Rattle.compact.specs.declared.Kept.{Kept}
 use Rattle.normalize.specs.declared.NormalEnd.{NormalEnd}
-use Rattle.normalize.specs.declared.NormalizeAnswer.{NormalizeAnswer}
 
 -- at least one root, all of a list of n records, and 0 past the last
 pub record WellRooted (n : ℕ) (roots : Roots) : Type 0 where
@@ -35,18 +34,9 @@ pub record Linked (work : List ℕ) (count : ℕ) (links : List ℕ) : Type 0 wh
 abbrev pub held : List ℕ → ℕ → List ℕ → Replay
 held work count map = record { list = nodes (interleaved work) count; map = map }
 
--- scratch stores for n records: counts, places, and the links of two indexes
-pub record Scratch (n : ℕ) (fan places own links : List ℕ) : Type 0 where
-  pub fan_long : n ≤ length fan
-  pub places_long : n ≤ length places
-  pub own_long : 2 * n ≤ length own
-  pub own_few : length own ≤ 2 ^ 32
-  pub links_long : 4 * n ≤ length links
-  pub links_few : length links ≤ 2 ^ 32
-
 module _ (field : Field) where
   -- a record and its plan at place i, with earlier results inside a list of `count` records that has room for two more
-  pub record Entering (work : List ℕ) (count : ℕ) (map : List ℕ) (i : ℕ) (x : NodeKind) (plan : Plan) : Type 0 where
+  pub record Entering (work : List ℕ) (count : ℕ) (map : List ℕ) (i : ℕ) (x : NodeKind) (plan : Option Rewrite) : Type 0 where
     pub sound : Sound field.bounds (interleaved work) count
     pub places : (j : ℕ) → j < i → read map j < count
     pub fits : i ≤ length map
@@ -72,10 +62,15 @@ module _ (field : Field) where
     pub work_fits : 2 * n ≤ (interleaved work).room
     pub map_fits : n ≤ length map
 
-  -- what it leaves there
+  -- what the first i turns leave there, and whether a rewrite fired in them
   pub record RoundHeld (s : List ℕ) (n : ℕ) (fan : List ℕ) (i : ℕ) (work map : List ℕ) (count : ℕ) (t : Bool) : Type 0 where
     pub holds : Holds field (round field.elements (nodes (interleaved s) n) (read fan) i) i work map count
     pub fired_is : t ≡ fired (nodes (interleaved s) n) (read fan) i
+
+  -- what it leaves there, where a rewrite fired
+  pub record RoundEnds (s : List ℕ) (n : ℕ) (fan work map : List ℕ) (r : Option ℕ) : Type 0 where
+    pub fired_is : is_some r ≡ fired (nodes (interleaved s) n) (read fan) n
+    pub holds : IfSome r (λ count. Holds field (round field.elements (nodes (interleaved s) n) (read fan) n) n work map count)
 
   -- what one round asks: a list with its roots, and a work store of twice its length
   pub record Ready (s : List ℕ) (n : ℕ) (roots : Roots) (work_room : ℕ) : Type 0 where
@@ -84,13 +79,16 @@ module _ (field : Field) where
     pub rooted : WellRooted n roots
     pub room : 2 * n ≤ work_room
 
-  -- what it says of a store that was s
-  pub record Once (s : List ℕ) (n : ℕ) (roots : Roots) (after : List ℕ) (r : RoundKept) : Type 0 where
-    pub kept_is : r.kept ≡ is_kept field.elements (nodes (interleaved s) n) (roots_of roots)
-    pub stays : r.kept ≡ false → after ≡ s
-    pub sound : r.kept ≡ true → Sound field.bounds (interleaved after) r.count
-    pub list_is : r.kept ≡ true → nodes (interleaved after) r.count ≡ (rounded field.elements (nodes (interleaved s) n) (roots_of roots)).list
-    pub roots_are : r.kept ≡ true → r.roots ≡ roots_from (rounded field.elements (nodes (interleaved s) n) (roots_of roots)).roots
+  -- what a round that is kept leaves of a store that was s
+  pub record Shortened (s : List ℕ) (n : ℕ) (roots : Roots) (after : List ℕ) (k : Kept) : Type 0 where
+    pub sound : Sound field.bounds (interleaved after) k.count
+    pub list_is : nodes (interleaved after) k.count ≡ (rounded field.elements (nodes (interleaved s) n) (roots_of roots)).list
+    pub roots_are : k.roots ≡ roots_from (rounded field.elements (nodes (interleaved s) n) (roots_of roots)).roots
+
+  -- what a round says and leaves
+  pub record Once (s : List ℕ) (n : ℕ) (roots : Roots) (after : List ℕ) (r : Option Kept) : Type 0 where
+    pub kept_is : is_some r ≡ is_kept field.elements (nodes (interleaved s) n) (roots_of roots)
+    pub left : MatchOption r (after ≡ s) (Shortened s n roots after)
 
   -- the rounds so far: the list in the result store, its roots rs, and k rounds kept
   pub record Running (s : List ℕ) (n : ℕ) (roots : Roots) (result : List ℕ) (count : ℕ) (rs : Roots) (k : ℕ) : Type 0 where
@@ -116,7 +114,7 @@ module _ (field : Field) where
     pub work_room_lem : 2 * n ≤ work_room
 
   -- the answer and the stores
-  pub record Finished (s : List ℕ) (n : ℕ) (roots : Roots) (result work : List ℕ) (a : NormalizeAnswer) (after blanked : List ℕ) : Type 0 where
+  pub record Finished (s : List ℕ) (n : ℕ) (roots : Roots) (result work : List ℕ) (a : NormalEnd) (after blanked : List ℕ) : Type 0 where
     pub answer : a ≡ answer_of (normalized field (interleaved s) n (roots_of roots))
     pub list_is : after ≡ stored result (normalized field (interleaved s) n (roots_of roots)).list
     pub work_is : blanked ≡ replicate (length work) blank

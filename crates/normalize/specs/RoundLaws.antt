@@ -1,7 +1,7 @@
 -- A round keeps every record's value, whatever the fanout, and at most doubles the list before it is compacted.
 use Rattle.field.specs.Fields.{Low}
 use Prim.Native.Nat.{ℕ, zero, suc, ◌+◌, ◌<◌, ◌≤◌}
-use Rattle.std.specs.Prelude.{List, map, ◌≡◌, refl, length}
+use Rattle.std.specs.Prelude.{Option, Some, None, List, map, ◌≡◌, refl, length}
 use Rattle.std.proofs.Common.{◌∙◌, ap}
 use Rattle.std.proofs.Math.Path.{ap₂}
 use native.Mathlib.Omega.{arith}
@@ -29,8 +29,8 @@ use Rattle.normalize.specs.Rounds.{planned, round, rounded}
 use Rattle.plan.specs.PlanLaws.{plan_fine}
 use Rattle.plan.specs.PlanValueLaws.{plan_value, plan_worth}
 use Rattle.plan.specs.Promises.{PlanFine}
-use Rattle.plan.specs.declared.Plan.{Plan}
-use Rattle.plan.specs.declared.Plan.TheVariants.{Factored, Rotated, Plain}
+use Rattle.plan.specs.declared.Rewrite.{Rewrite}
+use Rattle.plan.specs.declared.Rewrite.TheVariants.{Factored, Rotated}
 
 -- a record of z's kind on the operands' places
 like_worth : (F : Ops QuadFelt) (given u v : ℕ → QuadFelt) (z : NodeKind) (m : ℕ → ℕ) (a b : ℕ) → u (m a) ≡ v a → u (m b) ≡ v b
@@ -68,9 +68,9 @@ module _ (F : Ops QuadFelt) (L : Laws F) (n : ℕ) (r : Replay) (d : Replayed L.
     unfolding Fine
     outer_fine g k = let h = d.inside g k in let j = inner_grown.longer in (omega arith, inner_grown.inside)
 
-  planned_entered : (plan : Plan) → PlanFine n plan → Entered L.Low r.list (planned F r z plan)
+  planned_entered : (plan : Option Rewrite) → PlanFine n plan → Entered L.Low r.list (planned F r z plan)
   unfolding planned
-  planned_entered (Factored g a b) (k, p, q) =
+  planned_entered (Some (Factored g a b)) (k, p, q) =
       let inner = step F r.list (like z (place_of r a) (place_of r b)) in
       let i = inner_grown a b p q in
       let o = step_grown F L inner.list i.well_formed (Mul (place_of r g) inner.place) (outer_fine a b p q g k) in
@@ -79,9 +79,9 @@ module _ (F : Ops QuadFelt) (L : Laws F) (n : ℕ) (r : Replay) (d : Replayed L.
       let m = o.longer in
       let s = o.by_one in
       record { well_formed = o.well_formed; inside = o.inside; longer = omega arith; by_two = omega arith }
-  planned_entered (Rotated e y) (p, q) =
+  planned_entered (Some (Rotated e y)) (p, q) =
       by_one_step L.Low r.list (step F r.list (like z (place_of r e) (place_of r y))) (inner_grown e y p q)
-  planned_entered Plain h =
+  planned_entered None h =
       by_one_step L.Low r.list (step F r.list (rename (place_of r) z)) (step_grown F L r.list d.well_formed (rename (place_of r) z) (renamed_fine F L n r d z f))
 
   module _ (given : ℕ → QuadFelt) (low-given : (k : ℕ) → L.Low (given k)) (l : List NodeKind) (e : Faithful F given l n r) where
@@ -91,9 +91,9 @@ module _ (F : Ops QuadFelt) (L : Laws F) (n : ℕ) (r : Replay) (d : Replayed L.
         rw (← like_worth F given (value F given r.list) (value F given l) z (place_of r) a b (e a p) (e b q))
         (step_worth F L given low-given r.list d.well_formed (like z (place_of r a) (place_of r b)) (like_fine a b p q))
 
-    planned_worth : (plan : Plan) → PlanFine n plan → Worth F given r.list (planned F r z plan) (plan_value F given (value F given l) z plan)
+    planned_worth : (plan : Option Rewrite) → PlanFine n plan → Worth F given r.list (planned F r z plan) (plan_value F given (value F given l) z plan)
     unfolding planned value_of
-    planned_worth (Factored g a b) (k, p, q) =
+    planned_worth (Some (Factored g a b)) (k, p, q) =
         let inner = step F r.list (like z (place_of r a) (place_of r b)) in
         let i = inner_grown a b p q in
         let u = inner_worth a b p q in
@@ -102,8 +102,8 @@ module _ (F : Ops QuadFelt) (L : Laws F) (n : ℕ) (r : Replay) (d : Replayed L.
           keeps = λ j h. o.keeps j (let s = i.longer in omega arith) ∙ u.keeps j h;
           worth = o.worth ∙ ap₂ F.mul (u.keeps (place_of r g) (d.inside g k) ∙ e g k) u.worth;
         }
-    planned_worth (Rotated a b) (p, q) = inner_worth a b p q
-    planned_worth Plain h =
+    planned_worth (Some (Rotated a b)) (p, q) = inner_worth a b p q
+    planned_worth None h =
         rw (← renamed_worth F L n r d z f given l e)
         (step_worth F L given low-given r.list d.well_formed (rename (place_of r) z) (renamed_fine F L n r d z f))
 

@@ -1,5 +1,5 @@
--- Normalising (document 01; `normalize_dag` of normalize.rs) on decoded lists, over any ring and a list of roots.
-use Rattle.std.specs.Prelude.{ℕ, zero, suc, Bool, true, false, cond, ◌&&◌, List, [], map, ltb, length}
+-- Normalising (`normalize_dag` of normalize.rs) on decoded lists, over any ring and a list of roots.
+use Rattle.std.specs.Prelude.{ℕ, zero, suc, Bool, true, false, ◌&&◌, ◌||◌, Option, Some, None, List, [], map, ltb, length}
 use Rattle.ring.specs.Ring.{Ops}
 use Rattle.field.specs.declared.QuadFelt.{QuadFelt}
 use Rattle.dag.specs.Nodes.{at, rename, like}
@@ -8,17 +8,17 @@ use Rattle.dag.specs.declared.NodeKind.TheVariants.{Mul}
 use Rattle.builder.specs.Steps.{step, Built, Replay, place_of, recorded}
 use Rattle.compact.specs.Compact.{compact, Rooted}
 use Rattle.plan.specs.Plan.{fanout, fires, plan_of}
-use Rattle.plan.specs.declared.Plan.{Plan}
-use Rattle.plan.specs.declared.Plan.TheVariants.{Factored, Rotated, Plain}
+use Rattle.plan.specs.declared.Rewrite.{Rewrite}
+use Rattle.plan.specs.declared.Rewrite.TheVariants.{Factored, Rotated}
 
 module _ (F : Ops QuadFelt) where
   -- the record x entered into a round's list by its plan: a factored sum or difference is built inside first
-  unfoldable pub planned : Replay → NodeKind → Plan → Built
-  planned r x (Factored f a b) =
+  unfoldable pub planned : Replay → NodeKind → Option Rewrite → Built
+  planned r x (Some (Factored f a b)) =
       let inner = step F r.list (like x (place_of r a) (place_of r b)) in
       step F inner.list (Mul (place_of r f) inner.place)
-  planned r x (Rotated e rest) = step F r.list (like x (place_of r e) (place_of r rest))
-  planned r x Plain = step F r.list (rename (place_of r) x)
+  planned r x (Some (Rotated e rest)) = step F r.list (like x (place_of r e) (place_of r rest))
+  planned r x None = step F r.list (rename (place_of r) x)
 
   -- the first n records of l replayed into an empty list
   unfoldable pub round : List NodeKind → (ℕ → ℕ) → ℕ → Replay
@@ -30,7 +30,7 @@ module _ (F : Ops QuadFelt) where
 -- a rewrite fires on one of the first n records
 unfoldable pub fired : List NodeKind → (ℕ → ℕ) → ℕ → Bool
 fired l fan zero = false
-fired l fan (suc n) = cond (fired l fan n) true (fires (plan_of l fan n (at l n)))
+fired l fan (suc n) = fired l fan n || fires (plan_of l fan n (at l n))
 
 -- a list after some rounds, with its roots, and how many were kept
 pub record Normal : Type 0 where

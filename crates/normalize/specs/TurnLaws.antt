@@ -1,6 +1,5 @@
 -- A round's turn: the record at place i planned and entered.
-use Rattle.std.specs.Prelude.{ℕ, ◌+◌, ◌<◌, ◌≤◌, List, ◌≡◌, length, set}
-use mathlib.Core.Bool.{Bool, true, cond}
+use Rattle.std.specs.Prelude.{Bool, true, false, cond, ◌||◌, Option, Some, None, ℕ, ◌+◌, ◌<◌, ◌≤◌, List, ◌≡◌, length, set}
 use Rattle.std.proofs.Math.Path.{refl, ap, ap₂}
 use Rattle.std.proofs.Common.{◌∙◌, add-one}
 use native.Mathlib.Omega.{arith}
@@ -9,7 +8,7 @@ use Rattle.dag.specs.ViewLaws.{same_room}
 use Rattle.dag.specs.View.{interleaved}
 use Rattle.dag.specs.Nodes.{nodes, at, like}
 use Rattle.dag.specs.WellFormedLaws.{fine_any}
-use Rattle.dag.specs.WellFormed.{Fine, WellFormed}
+use Rattle.dag.specs.WellFormed.{Any, Fine, WellFormed}
 use Rattle.dag.specs.declared.NodeKind.{NodeKind}
 use Rattle.dag.specs.declared.NodeKind.TheVariants.{Mul}
 use Rattle.builder.specs.Steps.{Replay, place_of, step}
@@ -21,23 +20,23 @@ use Rattle.plan.specs.Plan.{plan_of, fires}
 use Rattle.normalize.specs.Rounds.{planned, round, fired}
 use Rattle.plan.specs.PlanLaws.{plan_fine}
 use Rattle.normalize.specs.RoundLaws.{round_replayed, round_length}
-use Rattle.plan.specs.Promises.{Planning, PlanFine}
-use Rattle.normalize.specs.Promises.{Entering, held, Planned, Rounding, RoundHeld}
-use Rattle.plan.specs.declared.Plan.{Plan}
-use Rattle.plan.specs.declared.Plan.TheVariants.{Factored, Rotated, Plain}
+use Rattle.plan.specs.Promises.{PlanFine}
+use Rattle.normalize.specs.Promises.{Entering, held, Planned, Rounding, RoundHeld, RoundEnds}
+use Rattle.plan.specs.declared.Rewrite.{Rewrite}
+use Rattle.plan.specs.declared.Rewrite.TheVariants.{Factored, Rotated}
 
 module _ (field : Field) where
   -- results that agree before place i give the same list by a plan
-  planned_agree : (r q : Replay) (i : ℕ) (x : NodeKind) (plan : Plan) → r.list ≡ q.list → ((j : ℕ) → j < i → place_of r j ≡ place_of q j) → Fine (Low field) i x → PlanFine i plan
+  planned_agree : (r q : Replay) (i : ℕ) (x : NodeKind) (plan : Option Rewrite) → r.list ≡ q.list → ((j : ℕ) → j < i → place_of r j ≡ place_of q j) → Fine (Low field) i x → PlanFine i plan
       → planned field.elements r x plan ≡ planned field.elements q x plan
   unfolding planned
-  planned_agree r q i x (Factored f a b) l m h (k, s, t) =
+  planned_agree r q i x (Some (Factored f a b)) l m h (k, s, t) =
       let inner = ap₂ (step field.elements) l (ap₂ (like x) (m a s) (m b t)) in
       ap₂ (step field.elements) (ap (λ b. b.list) inner) (ap₂ Mul (m f k) (ap (λ b. b.place) inner))
-  planned_agree r q i x (Rotated e y) l m h (s, t) = ap₂ (step field.elements) l (ap₂ (like x) (m e s) (m y t))
-  planned_agree r q i x Plain l m h k = ap₂ (step field.elements) l (rename_agree (Low field) (place_of r) (place_of q) i x h m)
+  planned_agree r q i x (Some (Rotated e y)) l m h (s, t) = ap₂ (step field.elements) l (ap₂ (like x) (m e s) (m y t))
+  planned_agree r q i x None l m h k = ap₂ (step field.elements) l (rename_agree (Low field) (place_of r) (place_of q) i x h m)
 
-  pub round_begins : (s : List ℕ) (n : ℕ) (fan work map : List ℕ) → RoundHeld field s n fan 0 work map 0 (mathlib.Core.Bool.false)
+  pub round_begins : (s : List ℕ) (n : ℕ) (fan work map : List ℕ) → RoundHeld field s n fan 0 work map 0 false
   unfolding round fired
   round_begins s n fan work map = record { holds = holds_nothing field work map; fired_is = refl }
 
@@ -58,10 +57,10 @@ module _ (field : Field) where
       unfolding WellFormed w
       fine_here = rw ex (w i)
 
-      pub turn_planning : Planning (interleaved s) n fan i x
-      turn_planning = record { sound = (field.bounds, g.sound); fits = g.fan_fits; inside = omega arith; fine = fine_any (Low field) i x fine_here }
+      pub fine_turn : Fine Any i x
+      fine_turn = fine_any (Low field) i x fine_here
 
-      module _ (plan : Plan) (ep : plan ≡ plan_of (nodes (interleaved s) n) (read fan) i x) where
+      module _ (plan : Option Rewrite) (ep : plan ≡ plan_of (nodes (interleaved s) n) (read fan) i x) where
         plan_here : PlanFine i plan
         unfolding w
         plan_here = rw ep (plan_fine (Low field) (nodes (interleaved s) n) w (read fan) i x fine_here)
@@ -86,7 +85,7 @@ module _ (field : Field) where
               room = omega arith;
             }
 
-        pub turn_held : (after : List ℕ) (e : Entered) (u : Bool) → Planned field work count (planned field.elements (held work count map) x plan) after e → u ≡ cond t true (fires plan)
+        pub turn_held : (after : List ℕ) (e : Entered) (u : Bool) → Planned field work count (planned field.elements (held work count map) x plan) after e → u ≡ (t || fires plan)
             → RoundHeld field s n fan (i + 1) after (set map i e.place) e.count u
         unfolding round fired place_of r
         turn_held after e u q eu =
@@ -96,5 +95,10 @@ module _ (field : Field) where
             (record {
               holds = holds_more field r i work map count h.holds (planned field.elements r (at (nodes (interleaved s) n) i) (plan_of (nodes (interleaved s) n) (read fan) i (at (nodes (interleaved s) n) i))) after e.place e.count
                   q.sound (q.list_is ∙ ap (λ b. b.list) (same ∙ here)) (q.place_is ∙ ap (λ b. b.place) (same ∙ here)) (let f = g.map_fits in omega arith);
-              fired_is = eu ∙ ap₂ (λ a b. cond a true (fires b)) h.fired_is (ep ∙ ap (plan_of (nodes (interleaved s) n) (read fan) i) ex);
+              fired_is = eu ∙ ap₂ (λ a b. a || fires b) h.fired_is (ep ∙ ap (plan_of (nodes (interleaved s) n) (read fan) i) ex);
             })
+
+  -- the last turn is behind it
+  pub round_ends : (s : List ℕ) (n : ℕ) (fan work map : List ℕ) (count : ℕ) (t : Bool) (r : Option ℕ) → RoundHeld field s n fan n work map count t → r ≡ cond t (Some count) None → RoundEnds field s n fan work map r
+  round_ends s n fan work map count true r h e = rw e (record { fired_is = h.fired_is; holds = h.holds })
+  round_ends s n fan work map count false r h e = rw e (record { fired_is = h.fired_is; holds = tt })

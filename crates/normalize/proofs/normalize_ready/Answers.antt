@@ -1,4 +1,4 @@
-use mathlib.Core.Path.{◌∙◌}
+use Rattle.std.proofs.Common.{◌∙◌}
 use Rattle.field.specs.Fields.{field_of}
 use Rattle.normalize.specs.CallLaws.{copied_ready, finished}
 use Rattle.normalize.proofs.normalize_ready.Goals as goal
