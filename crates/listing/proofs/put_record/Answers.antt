@@ -7,4 +7,4 @@ pub returns : goal.returns
 unfolding record_line line
 returns c =
     and_then c.number.ensures
-    (and_then (rw c.kind_of.ensures at c.word.ensures) (and_then (rw c.first_of.ensures at c.number-2.ensures) (rw c.second_of.ensures at c.number-3.ensures)))
+    (and_then (rw c.kind_of.ensures at c.word.ensures) (and_then (rw c.from-words.ensures at c.number-2.ensures) (rw c.from-words.ensures at c.number-3.ensures)))
