@@ -1,4 +1,4 @@
--- The installers' listing (document 01) as a list of bytes: of an answer, of a refusal, and of a whole house file.
+-- The installers' listing as a list of bytes: of an answer, of a refusal, and of a whole house file.
 use Rattle.std.specs.Prelude.{ℕ, zero, suc, ◌+◌, ◌*◌, List, [], ◌∷◌, ◌++◌, map, length}
 use Rattle.field.specs.Fields.{goldilocks}
 use Rattle.dag.specs.View.{View}

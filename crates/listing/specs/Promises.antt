@@ -1,5 +1,5 @@
 -- What the functions of the listing ask and say.
-use Rattle.std.specs.Prelude.{ℕ, ◌*◌, ◌≤◌, List, [], ◌∷◌, ◌++◌, ◌≡◌, Result, Ok, Err, get_or, length, take}
+use Rattle.std.specs.Prelude.{ℕ, ◌≤◌, List, [], ◌∷◌, ◌++◌, ◌≡◌, Result, Ok, Err, get_or, length, take}
 use Rattle.dag.specs.View.{View, interleaved}
 use Rattle.dag.specs.Nodes.{nodes}
 use Rattle.text.specs.Text.{decimal, ended, space}

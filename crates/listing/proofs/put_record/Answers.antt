@@ -1,4 +1,4 @@
-use Rattle.text.specs.Text.{ended, line}
+use Rattle.text.specs.Text.{line}
 use Rattle.text.specs.WritingLaws.{and_then}
 use Rattle.listing.specs.Listing.{record_line}
 use Rattle.listing.proofs.put_record.Goals as goal
