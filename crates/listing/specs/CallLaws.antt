@@ -1,7 +1,7 @@
 -- From what the calls answer to the listing of the definition.
-use Rattle.std.specs.Prelude.{ℕ, ◌*◌, ◌≤◌, ◌≡◌, refl, length}
+use Rattle.std.specs.Prelude.{ℕ, ◌*◌, ◌≤◌, ◌≡◌, Result, Ok, Err, refl, length}
 use mathlib.Core.List.{List, [], ◌∷◌}
-use Rattle.std.proofs.Math.Path.{sym, ap, ap₂}
+use Rattle.std.proofs.Math.Path.{sym, ap}
 use Rattle.std.proofs.Common.{◌∙◌, arith}
 use Rattle.std.proofs.Math.ListN.{get_or}
 use Rattle.field.specs.Fields.{goldilocks, element_laws}
@@ -15,23 +15,23 @@ use Rattle.dag.specs.Store.{stored}
 use Rattle.dag.specs.Roots.{roots_from}
 use Rattle.dag.specs.RootLaws.{roots_from_lem}
 use Rattle.dag.specs.declared.Refusal.{Refusal}
-use Rattle.dag.specs.declared.Checked.TheVariants.{Good, Refused}
 use Rattle.builder.specs.OutcomeLaws.{list_fine}
 use Rattle.compact.specs.OperandLaws.{inside_below}
 use Rattle.compact.specs.Promises.{AllBelow}
 use Rattle.dag.specs.WordLaws.{nodes_stored}
 use Rattle.normalize.specs.Demand3.{never_more, as_many_roots}
 use Rattle.normalize.specs.Calls.{answer_of, normalize_check, normalized, normalize_answer, normalize_result}
-use Rattle.normalize.specs.CallLaws.{passed, answer_checked}
+use Rattle.normalize.specs.CallLaws.{passed}
 use Rattle.normalize.specs.Promises.{Passed}
-use Rattle.normalize.specs.declared.NormalizeAnswer.{NormalizeAnswer}
+use Rattle.normalize.specs.declared.NormalEnd.{NormalEnd}
+use Rattle.dag.specs.Refusals.{Checked, unless_refused}
 use Rattle.text.specs.Promises.{Laid}
 use Rattle.house_file.specs.File.{most_filed, file_count, file_root, file_view, held_check, read_answer, read_list}
-use Rattle.house_file.specs.declared.FileAnswer.TheVariants as FileAnswer'
+use Rattle.house_file.specs.declared.Filed.{Filed}
 use Rattle.house_file.specs.Promises as FileContracts
 use Rattle.house_file.specs.FileLaws.{filed_room, room_enough, read_refused, Read, read_done, read_agrees, passed as file-passed}
 use Rattle.listing.specs.Listing.{listed, refused_line, words_listing, listing}
-use Rattle.listing.specs.Promises.{answer_text, Lent}
+use Rattle.listing.specs.Promises.{answer_text, Tells}
 
 pub laid_as : {s a b u : List ℕ} {r : ℕ} → a ≡ b → Laid s a u r → Laid s b u r
 laid_as e w = rw (← e) w
@@ -41,57 +41,51 @@ single [] e = absurd (omega arith)
 single (x ∷ []) e = refl
 single (x ∷ y ∷ l) e = absurd (omega arith)
 
--- Normalise's answer, and what it tells of its tests
-module _ (s : List ℕ) (n root : ℕ) (result : List ℕ) (work_room : ℕ) (a : NormalizeAnswer) (e : a ≡ normalize_answer goldilocks (interleaved s) n root (interleaved result).room work_room) where
-  tests_are : normalize_check goldilocks (interleaved s) n root (interleaved result).room work_room ≡ a.checked
-  tests_are = sym (ap (λ a. a.checked) e ∙ answer_checked goldilocks (interleaved s) n root (interleaved result).room work_room)
+-- Normalise's answer, past its tests
+module _ (s : List ℕ) (n root : ℕ) (result : List ℕ) (work_room : ℕ) where
+  end : NormalEnd
+  end = answer_of (normalized goldilocks (interleaved s) n (root ∷ []))
 
-  pub words_refused : (r : Refusal) → a.checked ≡ Refused r → refused_line r ≡ words_listing (interleaved s) n root (interleaved result).room work_room
-  unfolding words_listing
-  words_refused r f = rw (tests_are, f)
-
-  module _ (f : a.checked ≡ Good) where
-    good : normalize_check goldilocks (interleaved s) n root (interleaved result).room work_room ≡ Good
-    good = tests_are ∙ f
-
-    answer_is : a ≡ answer_of (normalized goldilocks (interleaved s) n (root ∷ []))
-    unfolding normalize_answer
-    answer_is = e ∙ rw good
-
+  module _ (good : normalize_check goldilocks (interleaved s) n root (interleaved result).room work_room ≡ Ok tt) where
     ok : Passed goldilocks s n (roots_from (root ∷ [])) (interleaved result).room work_room
     ok = passed goldilocks s n root (interleaved result).room work_room good
 
-    fewer : a.count ≤ n
-    unfolding normalized
-    fewer = let m = never_more goldilocks.elements (nodes (interleaved s) n) (root ∷ []) in let c = ap (λ a. a.count) answer_is in omega (arith, length_nodes (interleaved s) n)
+    fewer : end.count ≤ n
+    unfolding end normalized
+    fewer = let m = never_more goldilocks.elements (nodes (interleaved s) n) (root ∷ []) in omega (arith, length_nodes (interleaved s) n)
 
     -- the answered list fits the store that holds it
-    pub may_list : (after : List ℕ) → length after ≡ length result → a.count ≤ (interleaved after).room
+    may_list : (after : List ℕ) → length after ≡ length result → end.count ≤ (interleaved after).room
     may_list after g = let c = fewer in let q = ok.result_room_lem in rw (same_room after result g) (omega arith)
 
-    new_root : ℕ
-    new_root = get_or (normalized goldilocks (interleaved s) n (root ∷ [])).roots 0 0
-
-    one_root : (normalized goldilocks (interleaved s) n (root ∷ [])).roots ≡ new_root ∷ []
-    unfolding new_root normalized
+    one_root : (normalized goldilocks (interleaved s) n (root ∷ [])).roots ≡ get_or end.roots.places 0 0 ∷ []
+    unfolding end normalized roots_from padded
     one_root =
         let low : AllBelow n (root ∷ []) = rw (roots_from_lem (root ∷ [])) at (inside_below n (roots_from (root ∷ [])) ok.rooted.inside) in
         let many = as_many_roots goldilocks.elements (element_laws goldilocks) (nodes (interleaved s) n) (list_fine goldilocks (interleaved s) n ok.sound) (root ∷ []) (rw (length_nodes (interleaved s) n) low) in
-        single (normalized goldilocks (interleaved s) n (root ∷ [])).roots many
+        let new = single (normalized goldilocks (interleaved s) n (root ∷ [])).roots many in
+        new ∙ ap (λ k. k ∷ []) (sym (ap (λ rs. get_or (roots_from rs).places 0 0) new))
 
-    root_is : get_or a.roots.places 0 0 ≡ new_root
-    unfolding roots_from padded
-    root_is = ap (λ a. get_or a.roots.places 0 0) answer_is ∙ ap (λ rs. get_or (roots_from rs).places 0 0) one_root
-
-    pub words_listed : (after : List ℕ) (place : ℕ) → after ≡ normalize_result goldilocks (interleaved s) n root result work_room → place ≡ get_or a.roots.places 0 0
-        → answer_text (interleaved after) a.count place a.rounds ≡ words_listing (interleaved s) n root (interleaved result).room work_room
-    unfolding answer_text words_listing normalize_result
-    words_listed after place g p =
+    words_listed : (after : List ℕ) → after ≡ normalize_result goldilocks (interleaved s) n root result work_room
+        → answer_text (interleaved after) end ≡ words_listing (interleaved s) n root (interleaved result).room work_room
+    unfolding end answer_text words_listing normalize_result
+    words_listed after g =
         let l = (normalized goldilocks (interleaved s) n (root ∷ [])).list in
         let held : after ≡ stored result l = g ∙ rw good in
-        let list_is : nodes (interleaved after) a.count ≡ l = ap₂ (λ t k. nodes (interleaved t) k) held (ap (λ a. a.count) answer_is) ∙ nodes_stored result l in
-        let roots : place ∷ [] ≡ (normalized goldilocks (interleaved s) n (root ∷ [])).roots = ap (λ k. k ∷ []) (p ∙ root_is) ∙ sym one_root in
-        ap listed (λ i. record { list = list_is i; roots = roots i; rounds = (answer_is i).rounds }) ∙ rw good
+        let list_is : nodes (interleaved after) end.count ≡ l = ap (λ t. nodes (interleaved t) end.count) held ∙ nodes_stored result l in
+        ap listed (λ i. record { list = list_is i; roots = sym one_root i; rounds = end.rounds }) ∙ rw good
+
+  -- what it tells
+  pub words_told : (after : List ℕ) (r : Result NormalEnd Refusal) → length after ≡ length result → after ≡ normalize_result goldilocks (interleaved s) n root result work_room
+      → r ≡ normalize_answer goldilocks (interleaved s) n root (interleaved result).room work_room
+      → Tells (words_listing (interleaved s) n root (interleaved result).room work_room) after r
+  unfolding end normalize_answer words_listing
+  words_told after r h g e = go (normalize_check goldilocks (interleaved s) n root (interleaved result).room work_room) refl e
+    where
+      go : (c : Checked) → normalize_check goldilocks (interleaved s) n root (interleaved result).room work_room ≡ c → r ≡ unless_refused c Err (Ok end)
+          → Tells (words_listing (interleaved s) n root (interleaved result).room work_room) after r
+      go (Ok u) f e = rw e (may_list f after h, words_listed f after g)
+      go (Err q) f e = rw e (rw f)
 
 -- stores that agree, with room for their lists, have the same listing
 agree_listing : (u v : View) (n : ℕ) → n ≤ u.room → n ≤ v.room → Agree u v n → (root result_room work_room : ℕ) → words_listing u n root result_room work_room ≡ words_listing v n root result_room work_room
@@ -99,13 +93,13 @@ unfolding words_listing normalize_check normalized
 agree_listing u v n left right a root result_room work_room = let h = alike u v n left right a in rw (alike_list u v n h goldilocks.bounds root, alike_nodes u v n h)
 
 module _ (file list : List ℕ) (h : most_filed ≤ (interleaved list).room) where
-  pub file_refused : (r : Refusal) → read_answer file (interleaved list).room ≡ FileAnswer'.Refused r → refused_line r ≡ listing file
+  pub file_refused : (r : Refusal) → read_answer file (interleaved list).room ≡ Err r → refused_line r ≡ listing file
   unfolding listing
   file_refused r e = rw (← room_enough file (interleaved list).room h, read_refused file (interleaved list).room r e)
 
-  module _ (count root : ℕ) (e : read_answer file (interleaved list).room ≡ FileAnswer'.Read count root) where
-    done : Read file (interleaved list).room count root
-    done = read_done file (interleaved list).room count root e
+  module _ (filed : Filed) (e : read_answer file (interleaved list).room ≡ Ok filed) where
+    done : Read file (interleaved list).room filed.count filed.root
+    done = read_done file (interleaved list).room filed.count filed.root e
 
     ready : FileContracts.Passed file (interleaved list).room
     ready = file-passed file (interleaved list).room done.good
@@ -119,7 +113,7 @@ module _ (file list : List ℕ) (h : most_filed ≤ (interleaved list).room) whe
           rw (← room_enough file (interleaved list).room h, done.good, ready.held_is, enough_room n result_room (omega arith), enough_room (2 * n) work_room (omega arith))
 
       -- the listing of the store that the file was read into is the file's
-      pub file_done : (after : List ℕ) → length after ≡ length list → after ≡ read_list file list → words_listing (interleaved after) count root result_room work_room ≡ listing file
+      pub file_done : (after : List ℕ) → length after ≡ length list → after ≡ read_list file list → words_listing (interleaved after) filed.count filed.root result_room work_room ≡ listing file
       unfolding file_view
       file_done after g a =
           let left : file_count file ≤ (interleaved after).room = rw (same_room after list g) ready.fits in
@@ -128,12 +122,8 @@ module _ (file list : List ℕ) (h : most_filed ≤ (interleaved list).room) whe
           (agree_listing (interleaved after) (file_view file) (file_count file) left (omega arith) same (file_root file) result_room work_room ∙ file_listed)
 
 -- stores of the words that the longest file's records take, and of twice as many
-pub lent : (file list result work out : List ℕ) → length list ≡ record_words * most_filed → length result ≡ record_words * most_filed → length work ≡ 2 * (record_words * most_filed) → length (listing file) ≤ length out
-    → Lent file list result work out
-lent file list result work out el er ew fits =
-    record {
-      list_room = filed_room list most_filed el (omega arith);
-      result_room_lem = filed_room result most_filed er (omega arith);
-      work_room_lem = words_room work (2 * most_filed) (omega (arith, ew));
-      out_room = fits;
-    }
+pub store_room : (words : List ℕ) → length words ≡ record_words * most_filed → most_filed ≤ (interleaved words).room
+store_room words e = filed_room words most_filed e (omega arith)
+
+pub work_room_is : (words : List ℕ) → length words ≡ 2 * (record_words * most_filed) → 2 * most_filed ≤ (interleaved words).room
+work_room_is words e = words_room words (2 * most_filed) (omega (arith, e))

@@ -1,30 +1,28 @@
 -- An input longer than every file of good form is refused alike however much more of it is read.
-use Rattle.std.specs.Prelude.{ℕ, zero, suc, ◌+◌, ◌*◌, ◌≤◌, ◌<◌, List, ◌≡◌, refl, eqb, length, take}
+use Rattle.std.specs.Prelude.{ℕ, zero, suc, ◌+◌, ◌*◌, ◌≤◌, ◌<◌, Ok, Err, List, ◌≡◌, refl, eqb, length, take}
 use Rattle.std.proofs.Common.{sym, ◌∙◌, ap, ap₂, arith, le-leb, ne_eqb, get_or-take, take_all, length-take-le}
 use Rattle.std.proofs.Math.Decide.{dec_le}
-use Rattle.dag.specs.Refusals.{need, ◌then◌, unless_refused}
+use Rattle.dag.specs.Refusals.{Checked, need, ◌then◌, unless_refused}
 use Rattle.dag.specs.declared.Refusal.TheVariants.{FileLength}
-use Rattle.dag.specs.declared.Checked.{Checked}
-use Rattle.dag.specs.declared.Checked.TheVariants.{Good, Refused}
-use Rattle.text.specs.Text.{laid}
+use Rattle.text.specs.Promises.{Laid}
 use Rattle.house_file.specs.File.{number, file_count, record_place, head_check, form_check, file_check, held_check}
 use Rattle.house_file.specs.FileLaws.{headed}
 use Rattle.listing.specs.Listing.{refused_line, listing, enough}
 use Rattle.listing.specs.Promises.{Lists}
 
 -- a file too long for every count: what its head tests say, else 24
-long_form : (file : List ℕ) → 17417 < length file → form_check file ≡ head_check file then Refused FileLength
+long_form : (file : List ℕ) → 17417 < length file → form_check file ≡ head_check file then Err FileLength
 unfolding form_check
 long_form file h = go (head_check file) refl
   where
-    go : (c : Checked) → head_check file ≡ c → c then need (eqb (length file) (record_place (file_count file))) FileLength ≡ c then Refused FileLength
-    go Good e = let m = (headed file e).most in rw (ne_eqb (length file) (record_place (file_count file)) (λ q. omega arith))
-    go (Refused r) e = refl
+    go : (c : Checked) → head_check file ≡ c → c then need (eqb (length file) (record_place (file_count file))) FileLength ≡ c then Err FileLength
+    go (Ok u) e = let m = (headed file e).most in rw (ne_eqb (length file) (record_place (file_count file)) (λ q. omega arith))
+    go (Err r) e = refl
 
 -- such a file is refused whatever it holds
-long_refused : (head c d : Checked) (x y : List ℕ) → unless_refused ((head then Refused FileLength) then c) refused_line x ≡ unless_refused ((head then Refused FileLength) then d) refused_line y
-long_refused Good c d x y = refl
-long_refused (Refused r) c d x y = refl
+long_refused : (head c d : Checked) (x y : List ℕ) → unless_refused ((head then Err FileLength) then c) refused_line x ≡ unless_refused ((head then Err FileLength) then d) refused_line y
+long_refused (Ok u) c d x y = refl
+long_refused (Err r) c d x y = refl
 
 number_take : (k : ℕ) (file : List ℕ) (at j : ℕ) → at + j ≤ k → number (take k file) at j ≡ number file at j
 unfolding number
@@ -50,8 +48,7 @@ cut k h file = go (dec_le (length file) k)
         (long_refused (head_check file) (held_check (take k file)) (held_check file) _ _)
 
 -- what is written of the bytes that were read is the input's listing
-pub lists : (buffer : List ℕ) (n : ℕ) (before after : List ℕ) (r : ℕ) → enough ≤ length buffer
-    → r ≡ length (listing (take n buffer)) → after ≡ laid (length before) (listing (take n buffer)) → r ≤ length before → Lists buffer n before after r
-lists buffer n before after r h e f fits input read =
-    let same : listing (take n buffer) ≡ listing input = ap listing (sym read) ∙ cut (length buffer) h input in
-    rw (← same) (record { store_is = f; length_is = e; fits = omega arith })
+pub lists : (buffer : List ℕ) (n : ℕ) {before after : List ℕ} {r : ℕ} → enough ≤ length buffer → Laid before (listing (take n buffer)) after r → Lists buffer n before after r
+lists buffer n h l input read =
+    let same : listing input ≡ listing (take n buffer) = sym (cut (length buffer) h input) ∙ ap listing read in
+    rw same l

@@ -1,5 +1,5 @@
 -- The lines of a listing, piece after piece, and how long they are.
-use Rattle.std.specs.Prelude.{ℕ, zero, suc, ◌+◌, ◌^◌, ◌≤◌, ◌<◌, List, [], ◌∷◌, ◌++◌, ◌≡◌, length}
+use Rattle.std.specs.Prelude.{ℕ, zero, suc, ◌+◌, ◌^◌, ◌≤◌, ◌<◌, List, [], ◌∷◌, ◌++◌, ◌≡◌, get_or, length}
 use Rattle.std.proofs.Common.{append_assoc, sym, ◌∙◌, ap, lt_of_lt_of_le, add-one, arith, lit≤, length-append}
 use Rattle.std.proofs.Math.Decide.{dec_le}
 use Rattle.dag.specs.View.{View}
@@ -8,6 +8,7 @@ use Rattle.dag.specs.NodeLaws.{length_nodes, at_nodes}
 use Rattle.dag.specs.Refusals.{number, place}
 use Rattle.dag.specs.declared.NodeKind.{NodeKind}
 use Rattle.dag.specs.declared.Refusal.{Refusal}
+use Rattle.normalize.specs.declared.NormalEnd.{NormalEnd}
 use Rattle.text.specs.Text.{ascii, decimal, ended, line, space, newline}
 use Rattle.text.specs.DecimalLaws.{decimal_short}
 use Rattle.text.specs.WritingLaws.{and_then, wrote_as, length_ended}
@@ -77,9 +78,9 @@ pub lines_more : (list : View) (n i : ℕ) {t u v : Text} {x : NodeKind} → Wro
 unfolding record_lines
 lines_more list n i before h e w = rw (add-one i) (and_then before (wrote_as (ap (record_line i) (e ∙ sym (at_nodes list n i h))) w))
 
-pub answer_is : (s : View) (count root rounds : ℕ) → first_line count (root ∷ []) rounds ++ record_lines (nodes s count) count ≡ answer_text s count root rounds
+pub answer_is : (s : View) (e : NormalEnd) → first_line e.count (get_or e.roots.places 0 0 ∷ []) e.rounds ++ record_lines (nodes s e.count) e.count ≡ answer_text s e
 unfolding answer_text listed
-answer_is s count root rounds = rw (length_nodes s count)
+answer_is s e = rw (length_nodes s e.count)
 
-pub length_answer : (s : View) (count root rounds : ℕ) → length (answer_text s count root rounds) ≡ length (first_line count (root ∷ []) rounds) + length (record_lines (nodes s count) count)
-length_answer s count root rounds = sym (ap length (answer_is s count root rounds)) ∙ simp length-append
+pub length_answer : (s : View) (e : NormalEnd) → length (answer_text s e) ≡ length (first_line e.count (get_or e.roots.places 0 0 ∷ []) e.rounds) + length (record_lines (nodes s e.count) e.count)
+length_answer s e = sym (ap length (answer_is s e)) ∙ simp length-append

@@ -1,6 +1,6 @@
 -- How long a listing is at most: 53 bytes a record and 81 besides.
 use Prim.Native.Nat.{ℕ, zero, suc, ◌*◌, ◌/◌, ◌%◌, ◌^◌, ◌≤◌, ◌<◌}
-use Rattle.std.specs.Prelude.{Bool, true, false, ◌&&◌, List, [], ◌∷◌, ◌≡◌, refl, ltb, eqb, get_or, length}
+use Rattle.std.specs.Prelude.{Bool, true, false, ◌&&◌, Ok, Err, List, [], ◌∷◌, ◌≡◌, refl, ltb, eqb, get_or, length}
 use native.Mathlib.Omega.{arith}
 use Rattle.std.proofs.Common.{ltb-true, length-append}
 use Rattle.std.proofs.Math.Dec.{leb}
@@ -10,7 +10,7 @@ use Rattle.dag.specs.Keys.{field_counts, is_key}
 use Rattle.dag.specs.Nodes.{most_records, nodes, at, first, second}
 use Rattle.dag.specs.NodeLaws.{length_nodes}
 use Rattle.dag.specs.CaseLaws.{and_true}
-use Rattle.dag.specs.Refusals.{number, place, need, ◌then◌, first_refused, unless_refused}
+use Rattle.dag.specs.Refusals.{Checked, number, place, need, ◌then◌, first_refused, unless_refused}
 use Rattle.dag.specs.Check.{formed, earlier, record_check, check_at, records_check, room_check, rootless_check, list_check}
 use Rattle.dag.specs.CheckLaws.{then_good}
 use Rattle.dag.specs.PassLaws.{Rooted, rooted}
@@ -19,8 +19,6 @@ use Rattle.dag.specs.declared.NodeKind.{NodeKind}
 use Rattle.dag.specs.declared.NodeKind.TheVariants.{Input, Constant, Add, Sub, Mul, Neg}
 use Rattle.dag.specs.declared.Refusal.{Refusal}
 use Rattle.dag.specs.declared.Refusal.TheVariants.{CountOutOfRange, StoreTooShort, UnknownTag, Malformed, OperandNotEarlier, RootOutside, FileTooShort, FileVersion, FileCount, FileLength}
-use Rattle.dag.specs.declared.Checked.{Checked}
-use Rattle.dag.specs.declared.Checked.TheVariants.{Good, Refused}
 use Rattle.builder.specs.OutcomeLaws.{list_fine}
 use Rattle.compact.specs.OperandLaws.{one_below}
 use Rattle.compact.specs.Reach.{here}
@@ -99,13 +97,13 @@ listed_most s n root h =
 
 -- a refusal, if any, of a number up to 24 at a place up to k
 abbrev Near : ℕ → Checked → Type 0
-Near k Good = Unit
-Near k (Refused r) = (number r ≤ 24) × (place r ≤ k)
+Near k (Ok u) = Unit
+Near k (Err r) = (number r ≤ 24) × (place r ≤ k)
 
 module _ (k : ℕ) where
   near_then : (c d : Checked) → Near k c → Near k d → Near k (c then d)
-  near_then Good d p q = q
-  near_then (Refused r) d p q = p
+  near_then (Ok u) d p q = q
+  near_then (Err r) d p q = p
 
   near_need : (t : Bool) (r : Refusal) → (number r ≤ 24) × (place r ≤ k) → Near k (need t r)
   near_need true r h = tt
@@ -150,10 +148,10 @@ unfolding file_check held_check
 near_file file = go (form_check file) refl (near_form file)
   where
     go : (c : Checked) → form_check file ≡ c → Near most_filed c → Near most_filed (c then list_check goldilocks.bounds (file_view file) (file_count file) (file_root file))
-    go Good e p = near_list most_filed goldilocks.bounds (file_view file) (file_count file) (file_root file) (FileLaws.formed file e).head.most
-    go (Refused r) e p = p
+    go (Ok u) e p = near_list most_filed goldilocks.bounds (file_view file) (file_count file) (file_root file) (FileLaws.formed file e).head.most
+    go (Err r) e p = p
 
-refused_most : (r : Refusal) → Near most_filed (Refused r) → length (refused_line r) ≤ 81
+refused_most : (r : Refusal) → Near most_filed (Err r) → length (refused_line r) ≤ 81
 unfolding ascii
 refused_most r h =
     let a = h.0 in
@@ -167,9 +165,9 @@ listing_most file = go (file_check file) refl (near_file file)
   where
     go : (c : Checked) → file_check file ≡ c → Near most_filed c
         → length (unless_refused c refused_line (listed (normalized goldilocks (file_view file) (file_count file) (file_root file ∷ [])))) ≤ most_bytes most_filed
-    go Good e p =
+    go (Ok u) e p =
         let both = then_good (form_check file) (held_check file) e in
         let f = (FileLaws.formed file both.0).head.most in
         let m = listed_most (file_view file) (file_count file) (file_root file) (rooted goldilocks.bounds (file_view file) (file_count file) (file_root file) both.1) in
         omega arith
-    go (Refused r) e p = let m = refused_most r p in omega arith
+    go (Err r) e p = let m = refused_most r p in omega arith

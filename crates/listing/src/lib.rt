@@ -1,9 +1,10 @@
 // The installers' listing: the text of what Normalise answers to a house file.
 #![tactic(auto)]
 
-use dag::{Checked, NodeKind, Refusal};
+use dag::{NodeKind, Refusal, Words};
 use field::Prime;
-use house_file::FileAnswer;
+use house_file::FILED_WORDS;
+use normalize::NormalEnd;
 use text::{End, Text};
 
 pub mod kinds;
@@ -28,10 +29,11 @@ fn put_record(text: &mut Text, i: usize, x: NodeKind)
     requires { HasRoom text.old (Listing.record_line i x) }
     ensures { Wrote text.old (Listing.record_line i x) text.new }
 {
+    let words = Words::from(x);
     text.number(i as u64, End::Space);
     text.word(kinds::kind_of(x), End::Space);
-    text.number(dag::first_of(x), End::Space);
-    text.number(dag::second_of(x), End::Newline);
+    text.number(words.first, End::Space);
+    text.number(words.second, End::Newline);
 }
 
 // Writes the lines of the first n records of a list.
@@ -67,13 +69,13 @@ fn put_first(text: &mut Text, count: usize, root: u64, rounds: usize)
 
 // Writes the listing of an answer: a first line, then a line a record. Answers its length.
 #[tactic(auto, using(crate::specs::LineLaws::length_answer))]
-fn write_listing(list: &[u64], count: usize, root: u64, rounds: usize, out: &mut [u8]) -> usize
-    requires { (count ≤ (interleaved list.now).room) × (length (Promises.answer_text (interleaved list.now) count root rounds) ≤ length out.old) }
-    ensures { Laid out.old (Promises.answer_text (interleaved list.now) count root rounds) out.new result }
+fn write_listing(list: &[u64], end: NormalEnd, out: &mut [u8]) -> usize
+    requires { (end.count ≤ (interleaved list.now).room) × (length (Promises.answer_text (interleaved list.now) end) ≤ length out.old) }
+    ensures { Laid out.old (Promises.answer_text (interleaved list.now) end) out.new result }
 {
     let mut text = Text::new(out);
-    put_first(&mut text, count, root, rounds);
-    put_records(&mut text, list, count);
+    put_first(&mut text, end.count, end.roots.first(), end.rounds);
+    put_records(&mut text, list, end.count);
     text.finish()
 }
 
@@ -84,69 +86,38 @@ fn write_refused(r: Refusal, out: &mut [u8]) -> usize
     ensures { Laid out.old (Listing.refused_line r) out.new result }
 {
     let mut text = Text::new(out);
-    put_named(&mut text, b"refused", dag::number_of(r), End::Space);
-    text.number(dag::place_of(r) as u64, End::Newline);
+    put_named(&mut text, b"refused", r.number(), End::Space);
+    text.number(r.place() as u64, End::Newline);
     text.finish()
 }
 
-// Normalises a list and writes the listing of the answer, or the refusal's line. Answers its length.
-fn list_words(
-    list: &[u64],
-    n: usize,
-    root: usize,
-    res: &mut [u64],
-    work: &mut [u64],
-    out: &mut [u8],
-) -> usize
-    requires { length (Listing.words_listing (interleaved list.now) n root (interleaved res.old).room (interleaved work.old).room) ≤ length out.old }
-    ensures { Laid out.old (Listing.words_listing (interleaved list.now) n root (interleaved res.old).room (interleaved work.old).room) out.new result }
+// What Normalise answers to a house file, its list in a store; or why not.
+fn normal(file: &[u8], res: &mut [u64; FILED_WORDS]) -> Result<NormalEnd, Refusal>
+    ensures { Promises.Tells (Listing.listing file.now) res.new result }
 {
-    let answer = normalize::normalize(Prime::Goldilocks, list, n, root, res, work);
-    let checked = answer.checked;
-    match checked {
-        Checked::Refused(r) => write_refused(r, out),
-        Checked::Good => {
-            let roots = answer.roots;
-            write_listing(
-                res,
-                answer.count,
-                dag::first_root(roots),
-                answer.rounds,
-                out,
-            )
-        }
-    }
-}
-
-// The listing of a file, with stores lent.
-fn list_in(
-    file: &[u8],
-    list: &mut [u64],
-    res: &mut [u64],
-    work: &mut [u64],
-    out: &mut [u8],
-) -> usize
-    requires { Promises.Lent file.now list.old res.old work.old out.old }
-    ensures { Laid out.old (Listing.listing file.now) out.new result }
-{
-    let answer = house_file::read_file(file, list);
-    match answer {
-        FileAnswer::Refused(r) => write_refused(r, out),
-        FileAnswer::Read { count, root } => list_words(list, count, root, res, work, out),
-    }
+    let mut list = [0u64; FILED_WORDS];
+    let mut work = [0u64; 2 * FILED_WORDS];
+    let filed = house_file::read_file(file, &mut list)?;
+    normalize::normalize(
+        Prime::Goldilocks,
+        &list,
+        filed.count,
+        filed.root,
+        res,
+        &mut work,
+    )
 }
 
 // Writes the listing of a house file, or the line of its refusal, 0 bytes behind it. Answers its length.
 fn list_file(file: &[u8], out: &mut [u8]) -> usize
     requires { length (Listing.listing file.now) ≤ length out.old }
-    ensures length { result ≡ length (Listing.listing file.now) }
-    ensures text { out.new ≡ laid (length out.old) (Listing.listing file.now) }
-    ensures fits { result ≤ length out.new }
+    ensures { Laid out.old (Listing.listing file.now) out.new result }
 {
-    let mut list = [0u64; house_file::FILED_WORDS];
-    let mut result = [0u64; house_file::FILED_WORDS];
-    let mut work = [0u64; 2 * house_file::FILED_WORDS];
-    list_in(file, &mut list, &mut result, &mut work, out)
+    let mut list = [0u64; FILED_WORDS];
+    match normal(file, &mut list) {
+        Ok(end) => write_listing(&list, end, out),
+        Err(r) => write_refused(r, out),
+    }
 }
 
 // Writes the listing of an input of which the first n bytes of a buffer are read. Answers its length.

@@ -14,6 +14,7 @@ pub fn read_full<R: Read>(reader: &mut R, buffer: &mut [u8]) -> io::Result<usize
     ensures rest { IfOk result (λ n. Consumes (R.remaining reader.old) (R.remaining reader.new) (take n buffer.new)) }
 {
     let mut done = 0;
+    // A while: a read says how far it came.
     while done < buffer.len() {
         match reader.read(&mut buffer[done..])? {
             0 => break,
