@@ -46,6 +46,11 @@ place FieldNumber = 0
 abbrev pub Checked : Type 0
 Checked = Result (Unit {0}) Refusal
 
+-- what a result says of the tests before it
+abbrev pub outcome : {A : Type 0} → Result A Refusal → Checked
+outcome (Ok x) = Ok tt
+outcome (Err r) = Err r
+
 -- r unless the test holds
 abbrev pub need : Bool → Refusal → Checked
 need true r = Ok tt

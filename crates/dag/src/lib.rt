@@ -1,7 +1,7 @@
 // The constraint DAG's records: key numbers, `NodeKind` and its three words, refusals, the list check and the lookup.
 #![tactic(auto)]
 
-ghost use Rattle.std.specs.Prelude.{◌≡◌, ℕ, ◌+◌, ◌*◌, ◌-◌, ◌^◌, ◌<◌, ◌≤◌, ltb, [], ◌∷◌, ◌++◌, length, get_or, take, replicate};
+ghost use Rattle.std.specs.Prelude.{◌≡◌, ℕ, ◌+◌, ◌*◌, ◌-◌, ◌^◌, ◌<◌, ◌≤◌, ltb, [], ◌∷◌, ◌++◌, length, get_or, take, replicate, IfOk};
 ghost use mathlib.Core.List as Lists;
 ghost use Rattle.field.specs.Fields.{field_of};
 ghost use Rattle.dag.specs.View.{interleaved};
@@ -417,6 +417,44 @@ pub fn lookup(list: &[u64], n: usize, x: NodeKind) -> Option<usize>
         }
     }
     None
+}
+
+// A list that passed its tests: the first n records of a store, over a field.
+#[derive(Clone, Copy)]
+pub struct Dag<'a> {
+    pub prime: Prime,
+    pub list: &'a [u64],
+    pub n: usize,
+    pub ghost sound: { Store.Sound (field_of prime).bounds (interleaved list.now) n },
+    pub ghost most: { n ≤ Nodes.most_records },
+}
+
+impl<'a> Dag<'a> {
+    // The list, if it passes the list check.
+    pub fn new(prime: Prime, list: &'a [u64], n: usize, root: usize) -> Result<Dag<'a>, Refusal>
+        ensures checked { Refusals.outcome result ≡ Check.list_check (field_of prime).bounds (interleaved list.now) n root }
+        ensures held { IfOk result (λ dag. (dag.prime ≡ prime) × (dag.list.now ≡ list.now) × (dag.n ≡ n)) }
+    {
+        list_check(prime, list, n, root)?;
+        Ok(Dag { prime, list, n })
+    }
+
+    // The list, if it passes the list check without a root; it may be empty.
+    pub fn rootless(prime: Prime, list: &'a [u64], n: usize) -> Result<Dag<'a>, Refusal>
+        ensures checked { Refusals.outcome result ≡ Check.rootless_check (field_of prime).bounds 0 (interleaved list.now) n }
+        ensures held { IfOk result (λ dag. (dag.prime ≡ prime) × (dag.list.now ≡ list.now) × (dag.n ≡ n)) }
+    {
+        rootless_check(prime, list, n, 0)?;
+        Ok(Dag { prime, list, n })
+    }
+
+    // The record at place i.
+    pub fn node(&self, i: usize) -> NodeKind
+        requires { i < self.now.n }
+        ensures { result ≡ Nodes.record_at (interleaved self.now.list.now) i }
+    {
+        node_at(self.list, i)
+    }
 }
 
 // Copies the first n records of a store to the start of another.
