@@ -88,7 +88,15 @@ fn round(n: usize, j: usize) -> usize
 }
 
 // Writes s words, each from two words of the table that is halved.
-fn join_row(prime: Prime, from: &[u64; MOST_ENTRIES], a: usize, x: u64, s: usize, to: &mut [u64], at: usize)
+fn join_row(
+    prime: Prime,
+    from: &[u64; MOST_ENTRIES],
+    a: usize,
+    x: u64,
+    s: usize,
+    to: &mut [u64],
+    at: usize,
+)
     requires { Split.LowTable (field_of prime) from.now × Split.LowTable (field_of prime) to.old × (x < modulus_of prime) × (a + 2 * s ≤ 128) × (at + s ≤ length to.old) }
     ensures { Split.RowDone (field_of prime) (Split.joined (felt prime) from.now s x a) to.old at s to.new }
 {
@@ -98,7 +106,13 @@ fn join_row(prime: Prime, from: &[u64; MOST_ENTRIES], a: usize, x: u64, s: usize
 }
 
 // From a table of n rows of 2·s words, one of 2·n rows of s words.
-fn halved(prime: Prime, from: &[u64; MOST_ENTRIES], factors: &[u64; MOST_ENTRIES], s: usize, n: usize) -> [u64; MOST_ENTRIES]
+fn halved(
+    prime: Prime,
+    from: &[u64; MOST_ENTRIES],
+    factors: &[u64; MOST_ENTRIES],
+    s: usize,
+    n: usize,
+) -> [u64; MOST_ENTRIES]
     requires { Split.LowTable (field_of prime) from.now × Split.LowTable (field_of prime) factors.now × (0 < s) × (2 * s * n ≤ 128) }
     ensures { Split.Halved (felt prime) from.now factors.now s n result × Split.LowTable (field_of prime) result }
 {
