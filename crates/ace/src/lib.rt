@@ -65,13 +65,10 @@ fn normalize_words(answer: Result<NormalEnd, Refusal>) -> [u64; 4]
     ensures { result ≡ Answers.normalize_words answer }
 {
     match answer {
-        Ok(
-            NormalEnd {
-                count,
-                roots,
-                rounds,
-            },
-        ) => list_words(count, roots, rounds),
+        Ok(end) => {
+            let roots = end.roots;
+            list_words(end.count, roots, end.rounds)
+        }
         Err(r) => refused_words(r),
     }
 }
