@@ -15,6 +15,7 @@ use std::io::{Read, Write};
 
 // The words of an array that a case's read stores are laid in, and of one for its written stores.
 const READ: usize = 4096;
+
 const WRITTEN: usize = 12352;
 
 // Where the parts of a case are: the stores that its call reads, those that it writes, the answer, the written stores
@@ -88,7 +89,12 @@ impl<'a> Case<'a> {
         requires room { Cases.HasRoom self.stream.now self.parts }
         ensures { result ≡ Cases.answered self.entry.call self.entry.stream.now self.entry.at self.entry.parts }
     {
-        let Case { call, stream: s, at, parts } = self;
+        let Case {
+            call,
+            stream: s,
+            at,
+            parts,
+        } = self;
         let mut a = [0; WRITTEN];
         let mut b = [0; WRITTEN];
         let mut c = [0; WRITTEN];
@@ -105,7 +111,11 @@ impl<'a> Case<'a> {
         requires { Cases.HasRoom self.stream.now self.parts }
         ensures { result ≡ Cases.answered self.entry.call self.entry.stream.now self.entry.at self.entry.parts }
     {
-        let Case { stream: s, parts, .. } = self;
+        let Case {
+            stream: s,
+            parts,
+            ..
+        } = self;
         let mut a = [0; READ];
         let mut b = [0; READ];
         let mut c = [0; READ];
