@@ -65,11 +65,13 @@ fn normalize_words(answer: Result<NormalEnd, Refusal>) -> [u64; 4]
     ensures { result ≡ Answers.normalize_words answer }
 {
     match answer {
-        Ok(NormalEnd {
-            count,
-            roots,
-            rounds,
-        }) => list_words(count, roots, rounds),
+        Ok(
+            NormalEnd {
+                count,
+                roots,
+                rounds,
+            },
+        ) => list_words(count, roots, rounds),
         Err(r) => refused_words(r),
     }
 }
@@ -107,7 +109,10 @@ fn prepare_words(answer: Result<Prepared, Refusal>) -> [u64; 18]
     ensures { result ≡ Answers.prepare_words answer }
 {
     match answer {
-        Ok(Prepared { count, forms }) => form_words(0, count as u64, forms),
+        Ok(prepared) => {
+            let forms = prepared.forms;
+            form_words(0, prepared.count as u64, forms)
+        }
         Err(r) => refused_forms(r),
     }
 }
@@ -136,7 +141,9 @@ pub fn ace_step(
     ensures answer { answer.new ≡ Calls.step_answer field list.old n tag first second }
 {
     match field::numbered(field) {
-        Some(prime) => *answer = step_words(builder::step(prime, list, n, tag, first, second)),
+        Some(prime) => {
+            *answer = step_words(builder::step(prime, list, n, Words { tag, first, second }))
+        }
         None => *answer = refused_words(Refusal::FieldNumber),
     }
 }
@@ -194,7 +201,9 @@ pub fn ace_normalize(
     ensures answer { answer.new ≡ Calls.normalize_answer field list.now n root res.old work.old }
 {
     match field::numbered(field) {
-        Some(prime) => *answer = normalize_words(normalize::normalize(prime, list, n, root, res, work)),
+        Some(prime) => *answer = normalize_words(normalize::normalize(
+            prime, list, n, root, res, work,
+        )),
         None => *answer = refused_words(Refusal::FieldNumber),
     }
 }
@@ -212,7 +221,9 @@ pub fn ace_evaluate(
     ensures answer { answer.new ≡ Calls.evaluate_answer field list.now n root assignment.now m }
 {
     match field::numbered(field) {
-        Some(prime) => *answer = evaluate_words(evaluate::evaluate(prime, list, n, root, assignment, m)),
+        Some(prime) => *answer = evaluate_words(evaluate::evaluate(
+            prime, list, n, root, assignment, m,
+        )),
         None => *answer = refused_words(Refusal::FieldNumber),
     }
 }
@@ -247,8 +258,8 @@ pub fn ace_lower(
 {
     match field::numbered(field) {
         Some(prime) => *answer = lower_words(lower::lower(
-                prime, list, n, lengths, entries, period, res, work, places,
-            )),
+            prime, list, n, lengths, entries, period, res, work, places,
+        )),
         None => *answer = refused_words(Refusal::FieldNumber),
     }
 }

@@ -12,6 +12,7 @@ ghost use Rattle.periodic.specs.Runs as Runs;
 ghost use Rattle.basis.specs.Promises as Promises;
 
 use arrayvec::ArrayVec;
+use columns::MOST_ENTRIES;
 use dag::Refusal;
 use field::felt;
 use periodic::PeriodicBuilder;
@@ -142,7 +143,7 @@ fn basis_factors(
     point: usize,
     roots: &[u64],
     col: &[u64],
-) -> Result<ArrayVec<usize, 128>, Refusal>
+) -> Result<ArrayVec<usize, MOST_ENTRIES>, Refusal>
     requires { (point < builder.old.count) × Promises.Roots (field_of builder.old.prime) col.now roots.now × (length col.now ≤ 128) }
     ensures { Runs.Listing (Runs.held builder.old) (λ field. Periodic.factors field col.now point) (Runs.held builder.new) (length col.now) result }
 {
@@ -155,11 +156,11 @@ fn basis_factors(
 }
 
 // A list of places from its end, 0 past the last.
-fn backwards(places: &[usize]) -> [usize; 128]
+fn backwards(places: &[usize]) -> [usize; MOST_ENTRIES]
     requires { length places.now ≤ 128 }
     ensures { result ≡ padded 0 128 (Periodic.backwards places.now) }
 {
-    let mut turned = [0usize; 128];
+    let mut turned = [0usize; MOST_ENTRIES];
     turned[..places.len()].copy_from_slice(places);
     turned[..places.len()].reverse();
     turned

@@ -70,18 +70,18 @@ module _ (field : Field) where
   turn_fine l w i n x h e = rw e (fine_mono (Low field) i n (at l i) h (w i))
 
   -- Build's turn: the record at place i of l, renamed and entered
-  module _ (l : List NodeKind) (w : WellFormed (Low field) l) (i : ℕ) (result map : List ℕ) (count : ℕ) (h : Holds field (replay field.elements l i) i result map count) where
-    pub turn_request : (x : NodeKind) → x ≡ at l i → Request field (interleaved result) count (rename (read map) x)
+  module _ (l : List NodeKind) (w : WellFormed (Low field) l) {i : ℕ} {result map : List ℕ} {count : ℕ} (h : Holds field (replay field.elements l i) i result map count) where
+    pub turn_request : {x : NodeKind} → x ≡ at l i → Request field (interleaved result) count (rename (read map) x)
     unfolding WellFormed
-    turn_request x e = rw e (renamed_request (replay field.elements l i) i result map count h (replay_replayed field.elements (element_laws field) l w i) (at l i) (w i))
+    turn_request e = rw e (renamed_request (replay field.elements l i) i result map count h (replay_replayed field.elements (element_laws field) l w i) (at l i) (w i))
 
     pub turn_short : count ≤ i
     turn_short = let a = count_is (replay field.elements l i) i result map count h in let b = Rattle.builder.specs.ReplayLaws.replay_short field.elements (element_laws field) l w i in omega arith
 
-    pub turn_holds : (x : NodeKind) (after : List ℕ) (e : Entered) → x ≡ at l i → Pushed field result count (rename (read map) x) after e → i < length map
+    pub turn_holds : {x : NodeKind} {after : List ℕ} {e : Entered} → x ≡ at l i → Pushed field result count (rename (read map) x) after e → i < length map
         → Holds field (replay field.elements l (i + 1)) (i + 1) after (set map i e.place) e.count
     unfolding replay WellFormed
-    turn_holds x after e ex push f =
+    turn_holds {x} {after} {e} ex push f =
         let r = replay field.elements l i in
         let same = ap (rename (read map)) ex ∙ rename_agree (Low field) (read map) (place_of r) i (at l i) (w i) (place_read r i result map count h) in
         let b : step field.elements (nodes (interleaved result) count) (rename (read map) x) ≡ step field.elements r.list (rename (place_of r) (at l i)) = ap₂ (step field.elements) h.list_is same in

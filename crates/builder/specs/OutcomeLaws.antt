@@ -15,9 +15,7 @@ use Rattle.builder.specs.Steps.{is_constant, element, follow, add_rule, sub_rule
 use Rattle.builder.specs.StepLaws.{add_unfold, sub_unfold, add_hands_lower, sub_hands_lower}
 use Rattle.builder.specs.Promises.{ConstantBelow, ConstantsBelow, Operands}
 use Rattle.builder.specs.declared.Rule.{Rule}
-use Rattle.builder.specs.declared.Rule.TheVariants.{Use, Make, HandOver}
-use Rattle.builder.specs.declared.Outcome.{Outcome}
-use Rattle.builder.specs.declared.Outcome.TheVariants.{Place, Node}
+use Rattle.builder.specs.declared.Rule.TheVariants.{HandOver}
 
 module _ (field : Field) where
   -- a constant that may stand somewhere is in lowest form
@@ -41,26 +39,8 @@ module _ (field : Field) where
     unfolding WellFormed
     at_below i x h e = rw (e, ← at_nodes s n i h) (constant_below i (at (nodes s n) i) (list_fine i))
 
-  -- a rule's answer r is what its step comes to, where `other` says what operands handed over come to
-  module _ (rule : NodeKind → NodeKind → ℕ → ℕ → Rule) (this other : ℕ → ℕ → Outcome) (x y : NodeKind) (a b : ℕ)
-      (unfolds : this a b ≡ follow field.elements (rule x y a b) other) (r : Rule) (er : r ≡ rule x y a b) where
-    told_rule : (q : Rule) → r ≡ q → this a b ≡ follow field.elements q other
-    told_rule q e = unfolds ∙ ap (λ k. follow field.elements k other) (sym er ∙ e)
-
-    used : (i : ℕ) → r ≡ Use i → Place i ≡ this a b
-    unfolding follow
-    used i e = sym (told_rule (Use i) e)
-
-    made : (z : NodeKind) → r ≡ Make z → Node z ≡ this a b
-    unfolding follow
-    made z e = sym (told_rule (Make z) e)
-
-    handed : (c d : ℕ) (o : Outcome) → r ≡ HandOver c d → o ≡ other c d → o ≡ this a b
-    unfolding follow
-    handed c d o e h = h ∙ sym (told_rule (HandOver c d) e)
-
-  -- the same for operands a, b of a store, whose records the code has read
-  module _ (s : View) (n a b : ℕ) (ops : Operands field s n a b) (x y : NodeKind) (ex : x ≡ record_at s a) (ey : y ≡ record_at s b) (r : Rule) where
+  -- operands a, b of a store, whose records the code has read
+  module _ {s : View} {n a b : ℕ} (ops : Operands field s n a b) {x y : NodeKind} (ex : x ≡ record_at s a) (ey : y ≡ record_at s b) where
     fine : WellFormed (Low field) (nodes s n)
     fine = list_fine s n ops.sound
 
@@ -87,34 +67,20 @@ module _ (field : Field) where
     lower c d h =
         (h.2, record { sound = ops.sound; left_inside = omega (arith, length_nodes s n); right_inside = omega (arith, length_nodes s n) })
 
-    module _ (er : r ≡ add_rule field.elements x y a b) where
-      add_unfolds : add_outcome field.elements (nodes s n) a b ≡ follow field.elements (add_rule field.elements x y a b) (sub_outcome field.elements (nodes s n))
-      add_unfolds = add_unfold field.elements (element_laws field) (nodes s n) fine a b ∙ rw (read_a, read_b)
+    -- what add's rule says is what add comes to
+    pub add_told : {q : Rule} → q ≡ add_rule field.elements x y a b → follow field.elements q (sub_outcome field.elements (nodes s n)) ≡ add_outcome field.elements (nodes s n) a b
+    add_told e =
+        ap (λ k. follow field.elements k (sub_outcome field.elements (nodes s n))) e
+        ∙ sym (add_unfold field.elements (element_laws field) (nodes s n) fine a b ∙ rw (read_a, read_b))
 
-      pub add_used : (i : ℕ) → r ≡ Use i → Place i ≡ add_outcome field.elements (nodes s n) a b
-      add_used = used (add_rule field.elements) (add_outcome field.elements (nodes s n)) (sub_outcome field.elements (nodes s n)) x y a b add_unfolds r er
+    pub add_lower : {c d : ℕ} → HandOver c d ≡ add_rule field.elements x y a b → (c + d < a + b) × Operands field s n c d
+    add_lower {c} {d} e = lower c d (add_hands_lower field.elements (element_laws field) (nodes s n) fine a b c d inside_a inside_b (rw (read_a, read_b) (sym e)))
 
-      pub add_made : (z : NodeKind) → r ≡ Make z → Node z ≡ add_outcome field.elements (nodes s n) a b
-      add_made = made (add_rule field.elements) (add_outcome field.elements (nodes s n)) (sub_outcome field.elements (nodes s n)) x y a b add_unfolds r er
+    -- what sub's rule says is what sub comes to
+    pub sub_told : {q : Rule} → q ≡ sub_rule field.elements x y a b → follow field.elements q (add_outcome field.elements (nodes s n)) ≡ sub_outcome field.elements (nodes s n) a b
+    sub_told e =
+        ap (λ k. follow field.elements k (add_outcome field.elements (nodes s n))) e
+        ∙ sym (sub_unfold field.elements (element_laws field) (nodes s n) fine a b ∙ rw (read_a, read_b))
 
-      pub add_handed : (c d : ℕ) (o : Outcome) → r ≡ HandOver c d → o ≡ sub_outcome field.elements (nodes s n) c d → o ≡ add_outcome field.elements (nodes s n) a b
-      add_handed = handed (add_rule field.elements) (add_outcome field.elements (nodes s n)) (sub_outcome field.elements (nodes s n)) x y a b add_unfolds r er
-
-      pub add_lower : (c d : ℕ) → r ≡ HandOver c d → (c + d < a + b) × Operands field s n c d
-      add_lower c d e = lower c d (add_hands_lower field.elements (element_laws field) (nodes s n) fine a b c d inside_a inside_b (rw (read_a, read_b) (sym er ∙ e)))
-
-    module _ (er : r ≡ sub_rule field.elements x y a b) where
-      sub_unfolds : sub_outcome field.elements (nodes s n) a b ≡ follow field.elements (sub_rule field.elements x y a b) (add_outcome field.elements (nodes s n))
-      sub_unfolds = sub_unfold field.elements (element_laws field) (nodes s n) fine a b ∙ rw (read_a, read_b)
-
-      pub sub_used : (i : ℕ) → r ≡ Use i → Place i ≡ sub_outcome field.elements (nodes s n) a b
-      sub_used = used (sub_rule field.elements) (sub_outcome field.elements (nodes s n)) (add_outcome field.elements (nodes s n)) x y a b sub_unfolds r er
-
-      pub sub_made : (z : NodeKind) → r ≡ Make z → Node z ≡ sub_outcome field.elements (nodes s n) a b
-      sub_made = made (sub_rule field.elements) (sub_outcome field.elements (nodes s n)) (add_outcome field.elements (nodes s n)) x y a b sub_unfolds r er
-
-      pub sub_handed : (c d : ℕ) (o : Outcome) → r ≡ HandOver c d → o ≡ add_outcome field.elements (nodes s n) c d → o ≡ sub_outcome field.elements (nodes s n) a b
-      sub_handed = handed (sub_rule field.elements) (sub_outcome field.elements (nodes s n)) (add_outcome field.elements (nodes s n)) x y a b sub_unfolds r er
-
-      pub sub_lower : (c d : ℕ) → r ≡ HandOver c d → (c + d < a + b) × Operands field s n c d
-      sub_lower c d e = lower c d (sub_hands_lower field.elements (element_laws field) (nodes s n) fine a b c d inside_a inside_b (rw (read_a, read_b) (sym er ∙ e)))
+    pub sub_lower : {c d : ℕ} → HandOver c d ≡ sub_rule field.elements x y a b → (c + d < a + b) × Operands field s n c d
+    sub_lower {c} {d} e = lower c d (sub_hands_lower field.elements (element_laws field) (nodes s n) fine a b c d inside_a inside_b (rw (read_a, read_b) (sym e)))

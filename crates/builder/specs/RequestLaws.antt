@@ -49,55 +49,55 @@ searched_node l n (Place i) z e = let q : ◌≡◌ {A = ℕ} 0 1 = cc in absurd
 searched_node l n (Node y) z e = ap Node (new_unless_fine n y (lookup l y n) z e)
 
 module _ (field : Field) where
-  module _ (s : View) (n : ℕ) (x : NodeKind) (req : Request field s n x) where
+  module _ {s : View} {n : ℕ} {x : NodeKind} (req : Request field s n x) where
     asks : (y : NodeKind) → x ≡ y → Fine (Low field) n y
     asks y e = subst (λ (z : NodeKind). Fine (Low field) n z) e req.fine
 
     operands_of : (a b : ℕ) → (a < n) × (b < n) → Operands field s n a b
     operands_of a b h = record { sound = req.sound; left_inside = h.0; right_inside = h.1 }
 
-    pub asks_add : (a b : ℕ) → x ≡ Add a b → Operands field s n a b
+    pub asks_add : {a b : ℕ} → x ≡ Add a b → Operands field s n a b
     unfolding Fine
-    asks_add a b e = operands_of a b (asks (Add a b) e)
+    asks_add {a} {b} e = operands_of a b (asks (Add a b) e)
 
-    pub asks_sub : (a b : ℕ) → x ≡ Sub a b → Operands field s n a b
+    pub asks_sub : {a b : ℕ} → x ≡ Sub a b → Operands field s n a b
     unfolding Fine
-    asks_sub a b e = operands_of a b (asks (Sub a b) e)
+    asks_sub {a} {b} e = operands_of a b (asks (Sub a b) e)
 
-    pub asks_mul : (a b : ℕ) → x ≡ Mul a b → Operands field s n a b
+    pub asks_mul : {a b : ℕ} → x ≡ Mul a b → Operands field s n a b
     unfolding Fine
-    asks_mul a b e = operands_of a b (asks (Mul a b) e)
+    asks_mul {a} {b} e = operands_of a b (asks (Mul a b) e)
 
-    pub asks_neg : (a : ℕ) → x ≡ Neg a → a < n
+    pub asks_neg : {a : ℕ} → x ≡ Neg a → a < n
     unfolding Fine
-    asks_neg a e = asks (Neg a) e
+    asks_neg {a} e = asks (Neg a) e
 
     is_outcome : (y : NodeKind) (o : Outcome) → x ≡ y → o ≡ outcome field.elements (nodes s n) y → o ≡ outcome field.elements (nodes s n) x
     is_outcome y o e h = rw e h
 
-    pub leaf_outcome : ((k : ℕ) × (x ≡ Input k)) ⊎ ((v : QuadFelt) × (x ≡ Constant v)) → Node x ≡ outcome field.elements (nodes s n) x
+    pub leaf_comes : ((k : ℕ) × (x ≡ Input k)) ⊎ ((v : QuadFelt) × (x ≡ Constant v)) → Node x ≡ outcome field.elements (nodes s n) x
     unfolding outcome
-    leaf_outcome (inl p) = rw p.1
-    leaf_outcome (inr p) = rw p.1
+    leaf_comes (inl p) = rw p.1
+    leaf_comes (inr p) = rw p.1
 
-    pub add_outcome_lem : (a b : ℕ) (o : Outcome) → x ≡ Add a b → o ≡ add_outcome field.elements (nodes s n) a b → o ≡ outcome field.elements (nodes s n) x
+    pub add_comes : {a b : ℕ} {o : Outcome} → x ≡ Add a b → o ≡ add_outcome field.elements (nodes s n) a b → o ≡ outcome field.elements (nodes s n) x
     unfolding outcome
-    add_outcome_lem a b o e h = is_outcome (Add a b) o e h
+    add_comes {a} {b} e h = is_outcome (Add a b) _ e h
 
-    pub sub_outcome_lem : (a b : ℕ) (o : Outcome) → x ≡ Sub a b → o ≡ sub_outcome field.elements (nodes s n) a b → o ≡ outcome field.elements (nodes s n) x
+    pub sub_comes : {a b : ℕ} {o : Outcome} → x ≡ Sub a b → o ≡ sub_outcome field.elements (nodes s n) a b → o ≡ outcome field.elements (nodes s n) x
     unfolding outcome
-    sub_outcome_lem a b o e h = is_outcome (Sub a b) o e h
+    sub_comes {a} {b} e h = is_outcome (Sub a b) _ e h
 
-    pub mul_outcome_lem : (a b : ℕ) (y z : NodeKind) (o : Outcome) → x ≡ Mul a b → y ≡ record_at s a → z ≡ record_at s b → o ≡ mul_outcome field.elements y z a b
+    pub mul_comes : {a b : ℕ} {y z : NodeKind} {o : Outcome} → x ≡ Mul a b → y ≡ record_at s a → z ≡ record_at s b → o ≡ mul_outcome field.elements y z a b
         → o ≡ outcome field.elements (nodes s n) x
     unfolding outcome
-    mul_outcome_lem a b y z o e ey ez h =
-        is_outcome (Mul a b) o e
-        (rw (at_nodes s n a (asks_mul a b e).left_inside, at_nodes s n b (asks_mul a b e).right_inside, ← ey, ← ez) h)
+    mul_comes {a} {b} e ey ez h =
+        is_outcome (Mul a b) _ e
+        (rw (at_nodes s n a (asks_mul e).left_inside, at_nodes s n b (asks_mul e).right_inside, ← ey, ← ez) h)
 
-    pub neg_outcome_lem : (a : ℕ) (y : NodeKind) (o : Outcome) → x ≡ Neg a → y ≡ record_at s a → o ≡ neg_outcome field.elements y a → o ≡ outcome field.elements (nodes s n) x
+    pub neg_comes : {a : ℕ} {y : NodeKind} {o : Outcome} → x ≡ Neg a → y ≡ record_at s a → o ≡ neg_outcome field.elements y a → o ≡ outcome field.elements (nodes s n) x
     unfolding outcome
-    neg_outcome_lem a y o e ey h = is_outcome (Neg a) o e (rw (at_nodes s n a (asks_neg a e), ← ey) h)
+    neg_comes {a} e ey h = is_outcome (Neg a) _ e (rw (at_nodes s n a (asks_neg e), ← ey) h)
 
   pub step_appended : (s : View) (n : ℕ) (x : NodeKind) → step field.elements (nodes s n) x ≡ appended (nodes s n) (resolved field (nodes s n) n x)
   unfolding step resolved

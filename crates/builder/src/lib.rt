@@ -206,8 +206,7 @@ fn add_outcome(prime: Prime, list: &[u64], n: usize, a: usize, b: usize) -> Outc
     requires { Promises.Operands (field_of prime) (interleaved list.now) n a b }
     ensures { result ≡ Steps.add_outcome (elements prime) (Nodes.nodes (interleaved list.now) n) a b }
 {
-    let rule = add_rule(prime, dag::node_at(list, a), dag::node_at(list, b), a, b);
-    match rule {
+    match add_rule(prime, dag::node_at(list, a), dag::node_at(list, b), a, b) {
         Rule::Use(i) => Outcome::Place(i),
         Rule::Make(x) => Outcome::Node(x),
         Rule::HandOver(c, d) => sub_outcome(prime, list, n, c, d),
@@ -220,8 +219,7 @@ fn sub_outcome(prime: Prime, list: &[u64], n: usize, a: usize, b: usize) -> Outc
     requires { Promises.Operands (field_of prime) (interleaved list.now) n a b }
     ensures { result ≡ Steps.sub_outcome (elements prime) (Nodes.nodes (interleaved list.now) n) a b }
 {
-    let rule = sub_rule(prime, dag::node_at(list, a), dag::node_at(list, b), a, b);
-    match rule {
+    match sub_rule(prime, dag::node_at(list, a), dag::node_at(list, b), a, b) {
         Rule::Use(i) => Outcome::Place(i),
         Rule::Make(x) => Outcome::Node(x),
         Rule::HandOver(c, d) => add_outcome(prime, list, n, c, d),

@@ -1,4 +1,4 @@
--- The numbers that a column's form holds (document 01, 'Columns'; `sparse_terms` and `LagrangeBasis` of ir.rs, and the inverse DFT). They are
+-- The numbers that a column's form holds (`sparse_terms` and `LagrangeBasis` of ir.rs, and the inverse DFT). They are
 -- coordinates of a field.
 use Rattle.std.specs.Prelude.{ℕ, ◌*◌, ◌-◌, ◌^◌, List, get_or, length}
 use Rattle.field.specs.Fields.{Field}

@@ -12,6 +12,7 @@ ghost use Rattle.coefficients.specs.Arrays as Arrays;
 ghost use Rattle.coefficients.specs.Split as Split;
 
 use arrayvec::ArrayVec;
+use columns::MOST_ENTRIES;
 use field::{Prime, felt};
 
 // So many terms a sparse column has at most.
@@ -44,11 +45,11 @@ pub fn size_inverse(prime: Prime, col: &[u64]) -> u64
 }
 
 // base^0, base^1, .., base^(n − 1), then 0.
-fn powers(prime: Prime, base: u64, n: usize) -> [u64; 128]
+fn powers(prime: Prime, base: u64, n: usize) -> [u64; MOST_ENTRIES]
     requires { (base < modulus_of prime) × (n ≤ 128) }
     ensures { result ≡ Arrays.powers (felt prime) base n }
 {
-    let mut row = [0u64; 128];
+    let mut row = [0u64; MOST_ENTRIES];
     let mut power: u64 = 1;
     for i in 0..n {
         row[i] = power;
@@ -58,7 +59,7 @@ fn powers(prime: Prime, base: u64, n: usize) -> [u64; 128]
 }
 
 // w^k for each row k, then 0.
-pub fn roots(prime: Prime, col: &[u64]) -> [u64; 128]
+pub fn roots(prime: Prime, col: &[u64]) -> [u64; MOST_ENTRIES]
     requires { length col.now ≤ 128 }
     ensures { result ≡ Arrays.roots (field_of prime) col.now }
 {
@@ -70,11 +71,11 @@ pub fn roots(prime: Prime, col: &[u64]) -> [u64; 128]
 }
 
 // A column's entries, then 0.
-fn copied(col: &[u64]) -> [u64; 128]
+fn copied(col: &[u64]) -> [u64; MOST_ENTRIES]
     requires { length col.now ≤ 128 }
     ensures { result ≡ Arrays.copied col.now }
 {
-    let mut row = [0u64; 128];
+    let mut row = [0u64; MOST_ENTRIES];
     row[..col.len()].copy_from_slice(col);
     row
 }
@@ -87,7 +88,15 @@ fn round(n: usize, j: usize) -> usize
 }
 
 // Writes s words, each from two words of the table that is halved.
-fn join_row(prime: Prime, from: &[u64; 128], a: usize, x: u64, s: usize, to: &mut [u64], at: usize)
+fn join_row(
+    prime: Prime,
+    from: &[u64; MOST_ENTRIES],
+    a: usize,
+    x: u64,
+    s: usize,
+    to: &mut [u64],
+    at: usize,
+)
     requires { Split.LowTable (field_of prime) from.now × Split.LowTable (field_of prime) to.old × (x < modulus_of prime) × (a + 2 * s ≤ 128) × (at + s ≤ length to.old) }
     ensures { Split.RowDone (field_of prime) (Split.joined (felt prime) from.now s x a) to.old at s to.new }
 {
@@ -97,11 +106,17 @@ fn join_row(prime: Prime, from: &[u64; 128], a: usize, x: u64, s: usize, to: &mu
 }
 
 // From a table of n rows of 2·s words, one of 2·n rows of s words.
-fn halved(prime: Prime, from: &[u64; 128], factors: &[u64; 128], s: usize, n: usize) -> [u64; 128]
+fn halved(
+    prime: Prime,
+    from: &[u64; MOST_ENTRIES],
+    factors: &[u64; MOST_ENTRIES],
+    s: usize,
+    n: usize,
+) -> [u64; MOST_ENTRIES]
     requires { Split.LowTable (field_of prime) from.now × Split.LowTable (field_of prime) factors.now × (0 < s) × (2 * s * n ≤ 128) }
     ensures { Split.Halved (felt prime) from.now factors.now s n result × Split.LowTable (field_of prime) result }
 {
-    let mut to = [0u64; 128];
+    let mut to = [0u64; MOST_ENTRIES];
     for j in 0..2 * n {
         let a = round(n, j) * (2 * s);
         join_row(prime, from, a, factors[j * s], s, &mut to, j * s);
@@ -110,7 +125,7 @@ fn halved(prime: Prime, from: &[u64; 128], factors: &[u64; 128], s: usize, n: us
 }
 
 // The sum of the entries at the powers of w^(−j), for each row j.
-fn sums(prime: Prime, col: &[u64]) -> [u64; 128]
+fn sums(prime: Prime, col: &[u64]) -> [u64; MOST_ENTRIES]
     requires { ColumnPromises.Column (modulus_of prime) col.now }
     ensures { Split.Reached (field_of prime) col.now 1 (length col.now) result }
 {
@@ -128,13 +143,13 @@ fn sums(prime: Prime, col: &[u64]) -> [u64; 128]
 }
 
 // The dense coefficients, 0 past the last.
-pub fn dense(prime: Prime, col: &[u64]) -> [u64; 128]
+pub fn dense(prime: Prime, col: &[u64]) -> [u64; MOST_ENTRIES]
     requires { ColumnPromises.Column (modulus_of prime) col.now }
     ensures { result ≡ Arrays.coefficients (field_of prime) col.now }
 {
     let scale = size_inverse(prime, col);
     let sums = sums(prime, col);
-    let mut coefficients = [0u64; 128];
+    let mut coefficients = [0u64; MOST_ENTRIES];
     for j in 0..col.len() {
         coefficients[j] = felt::mul(prime, sums[j], scale);
     }

@@ -1,4 +1,4 @@
--- Costs and forms of columns (document 01, 'Columns'; `from_periodic_columns` of ir.rs). A column is the list of its entries; m is the modulus.
+-- Costs and forms of columns (`from_periodic_columns` of ir.rs). A column is the list of its entries; m is the modulus.
 use Rattle.std.specs.Prelude.{ℕ, zero, suc, ◌+◌, ◌*◌, ◌-◌, ◌^◌, Bool, true, false, cond, not, ◌&&◌, ◌||◌, List, [], ◌∷◌, ◌++◌, leb, ltb, eqb, get_or, length}
 use Rattle.ring.specs.Residue.{sub}
 use Rattle.columns.specs.declared.Form.{Form}

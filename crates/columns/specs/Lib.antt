@@ -1,6 +1,7 @@
 pub mod Columns
 pub mod Prepare
 pub mod Promises
+pub mod Held
 pub mod LogLaws
 pub mod CountLaws
 pub mod ClassLaws

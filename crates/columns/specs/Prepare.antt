@@ -1,4 +1,4 @@
--- Prepare (document 01): the tests of columns that are handed over, and the answer.
+-- Prepare: the tests of columns that are handed over, and the answer.
 use Rattle.std.specs.Prelude.{ℕ, ◌+◌, Bool, true, ◌&&◌, List, [], ◌∷◌, leb, ltb, get_or, length, take, drop, Result, Ok, Err}
 use Rattle.dag.specs.Arrays.{up_to, padded}
 use Rattle.dag.specs.Refusals.{Checked, first_refused, need, ◌then◌}

@@ -2,7 +2,7 @@
 #![tactic(auto)]
 
 ghost use Rattle.field.specs.Field.{modulus_of};
-ghost use Rattle.std.specs.Prelude.{◌≡◌, true, cond, leb, ℕ, ◌+◌, ◌*◌, ◌-◌, ◌^◌, ◌<◌, ◌≤◌, length, take, IfOk, All};
+ghost use Rattle.std.specs.Prelude.{◌≡◌, ℕ, ◌^◌, ◌<◌, ◌≤◌, length, IfOk, All};
 ghost use Rattle.dag.specs.Refusals as Refusals;
 ghost use Rattle.columns.specs.Columns as Spec;
 ghost use Rattle.columns.specs.Prepare as Prepare;
@@ -14,7 +14,7 @@ use dag::Refusal;
 use field::{Prime, felt};
 
 // The most columns.
-const MOST_COLUMNS: usize = 16;
+pub const MOST_COLUMNS: usize = 16;
 
 // The longest column has 2^7 entries.
 const MOST_LOG: usize = 7;
@@ -34,7 +34,7 @@ pub enum Form {
 #[derive(Clone, Copy, PartialEq, Eq)]
 pub struct Prepared {
     pub count: usize,
-    pub forms: [u64; 16],
+    pub forms: [u64; MOST_COLUMNS],
 }
 
 // The greatest k up to `most` with 2^k at most n, else 0.
@@ -105,9 +105,10 @@ fn standalone(col: &[u64]) -> usize
     if is_sparse(col) {
         let t = others(col, 0);
         let log = log_length(col);
-        return sparse_ops(t, log) + 2 * (t + log);
+        sparse_ops(t, log) + 2 * (t + log)
+    } else {
+        dense_ops(col.len()) + 2 * col.len()
     }
-    dense_ops(col.len()) + 2 * col.len()
 }
 
 // A column's values, each once in order of their first places.
@@ -272,6 +273,8 @@ pub struct Columns<'a> {
 }
 
 impl<'a> Columns<'a> {
+    ghost use Rattle.columns.specs.Held as Held;
+
     // The columns, if they are few, their lengths are powers of two, their entries are there, and below the prime.
     #[tactic(auto, using(crate::specs::PrepareLaws::in_order))]
     pub fn new(prime: Prime, lengths: &'a [u64], entries: &'a [u64]) -> Result<Columns<'a>, Refusal>
@@ -296,7 +299,7 @@ impl<'a> Columns<'a> {
     // Column j.
     pub fn column(&self, j: usize) -> &'a [u64]
         requires { j < length self.now.lengths.now }
-        ensures { result.now ≡ Spec.column (Prepare.columns self.now.lengths.now self.now.entries.now) j }
+        ensures { result.now ≡ Spec.column (Held.columns self.now) j }
     {
         column(self.lengths, self.entries, j)
     }
@@ -304,7 +307,7 @@ impl<'a> Columns<'a> {
     // Whether an earlier column equals column j.
     fn is_repeated(&self, j: usize) -> bool
         requires { j < length self.now.lengths.now }
-        ensures { result ≡ Spec.is_among (Prepare.columns self.now.lengths.now self.now.entries.now) j j }
+        ensures { result ≡ Spec.is_among (Held.columns self.now) j j }
     {
         let col = self.column(j);
         (0..j).any(|i| self.column(i) == col)
@@ -314,13 +317,13 @@ impl<'a> Columns<'a> {
     #[tactic(auto, using(crate::specs::PrepareLaws::tested_column))]
     fn gain(&self, j: usize) -> u64
         requires { j < length self.now.lengths.now }
-        ensures { result ≡ Spec.gain (modulus_of self.now.prime) (Spec.column (Prepare.columns self.now.lengths.now self.now.entries.now) j) }
+        ensures { result ≡ Spec.gain (Held.modulus self.now) (Spec.column (Held.columns self.now) j) }
     {
         gain(self.prime, self.column(j)) as u64
     }
 
     // f at each column, 0 past the last.
-    fn each<F: Fn(usize) -> u64>(&self, f: F) -> [u64; 16]
+    fn each<F: Fn(usize) -> u64>(&self, f: F) -> [u64; MOST_COLUMNS]
         requires { (j : ℕ) → j < length self.now.lengths.now → F.pre f j }
         ensures { (g : ℕ → ℕ) → ((j r : ℕ) → j < length self.now.lengths.now → F.post f j r → r ≡ g j) → result ≡ padded 0 16 (up_to g (length self.now.lengths.now)) }
     {
@@ -336,13 +339,15 @@ impl<'a> Columns<'a> {
 #[derive(Clone, Copy)]
 pub struct Weighed<'a> {
     pub columns: Columns<'a>,
-    pub gains: [u64; 16],
-    pub savings: [u64; 16],
+    pub gains: [u64; MOST_COLUMNS],
+    pub savings: [u64; MOST_COLUMNS],
     ghost gained: { gains ≡ Promises.gains (modulus_of columns.prime) (Prepare.columns columns.lengths.now columns.entries.now) },
     ghost saved: { savings ≡ Promises.savings_each (modulus_of columns.prime) (Prepare.columns columns.lengths.now columns.entries.now) },
 }
 
 impl<'a> Weighed<'a> {
+    ghost use Rattle.columns.specs.Held as Held;
+
     // What each column saves, worked out.
     pub fn new(columns: Columns<'a>) -> Weighed<'a>
         ensures { result.columns ≡ columns.entry }
@@ -360,7 +365,7 @@ impl<'a> Weighed<'a> {
     #[tactic(auto, using(crate::specs::SavingLaws::going_over))]
     fn goes_over(&self, period: u64) -> bool
         requires { period ≤ 128 }
-        ensures { result ≡ Spec.goes_over (modulus_of self.now.columns.prime) (Prepare.columns self.now.columns.lengths.now self.now.columns.entries.now) period }
+        ensures { result ≡ Spec.goes_over (Held.modulus self.now.columns) (Held.columns self.now.columns) period }
     {
         2 <= period && 7 * period + 2 < savings(self.columns.lengths, &self.savings, period)
     }
@@ -369,7 +374,7 @@ impl<'a> Weighed<'a> {
     #[tactic(auto, using(crate::specs::SavingLaws::forms))]
     pub fn form(&self, j: usize) -> Form
         requires { j < length self.now.columns.lengths.now }
-        ensures { result ≡ Spec.form (modulus_of self.now.columns.prime) (Prepare.columns self.now.columns.lengths.now self.now.columns.entries.now) j }
+        ensures { result ≡ Spec.form (Held.modulus self.now.columns) (Held.columns self.now.columns) j }
     {
         let col = self.columns.column(j);
         if self.goes_over(col.len() as u64) && 0 < self.gains[j] {
@@ -382,8 +387,8 @@ impl<'a> Weighed<'a> {
     }
 
     // The columns' forms as numbers, 0 past the last.
-    fn forms(&self) -> [u64; 16]
-        ensures { result ≡ Prepare.forms (modulus_of self.now.columns.prime) (Prepare.columns self.now.columns.lengths.now self.now.columns.entries.now) }
+    fn forms(&self) -> [u64; MOST_COLUMNS]
+        ensures { result ≡ Prepare.forms (Held.modulus self.now.columns) (Held.columns self.now.columns) }
     {
         self.columns.each(|j| self.form(j) as u64)
     }

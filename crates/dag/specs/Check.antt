@@ -1,4 +1,4 @@
--- The list check (document 01), with the bounds of coordinates left open.
+-- The list check, with the bounds of coordinates left open.
 use Rattle.std.specs.Prelude.{ℕ, Bool, true, cond, ◌&&◌, leb, ltb, eqb}
 use Rattle.field.specs.Fields.{Bounds}
 use Rattle.dag.specs.View.{View}

@@ -1,4 +1,4 @@
--- Key numbers (document 01, 'What is handed over'; `InputKey` of keys.rs).
+-- Key numbers (`InputKey` of keys.rs).
 use Rattle.std.specs.Prelude.{ℕ, ◌+◌, ◌*◌, ◌/◌, ◌%◌, ◌^◌, ◌<◌, ◌≤◌, Bool, ◌&&◌, List, [], ◌∷◌, ◌≡◌, refl, ltb, get_or, length}
 
 -- the number of fields of each variant, in the order of `InputKey`

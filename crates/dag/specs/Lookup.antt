@@ -1,4 +1,4 @@
--- The search for the greatest place where a test holds, and the lookup of an equal record by it (document 01, 'Steps').
+-- The search for the greatest place where a test holds, and the lookup of an equal record by it.
 use Rattle.std.specs.Prelude.{ℕ, zero, suc, Bool, cond, List, Some, None, Option}
 use Rattle.dag.specs.Nodes.{at, same_node}
 use Rattle.dag.specs.declared.NodeKind.{NodeKind}

@@ -1,6 +1,6 @@
 -- Accepted is 0: an answer's first word is 0 exactly where the call's tests pass.
 use Rattle.std.specs.Prelude.{ℕ, ◌↔◌, ◌≡◌, get_or, Ok, Err}
-use mathlib.Core.List.{List, []}
+use mathlib.Core.List.{List}
 use Rattle.std.proofs.Math.Path.{refl}
 use Rattle.field.specs.Fields.{Field, modulus}
 use Rattle.dag.specs.View.{View}

@@ -1,6 +1,6 @@
 -- Where Evaluate accepts a list, it accepts what Normalise, Compact or Build made of it, and answers the same.
 use Prim.Native.Nat.{ℕ, zero, suc, ◌<◌, ◌≤◌}
-use Rattle.std.specs.Prelude.{true, List, [], ◌∷◌, ◌≡◌, get_or, length, Option, Result, Ok, Err}
+use Rattle.std.specs.Prelude.{true, List, [], ◌∷◌, ◌≡◌, get_or, length, Option, Result, Ok, Err, is_some}
 use Rattle.std.proofs.Math.Path.{refl}
 use Rattle.std.proofs.Common.{sym, ◌∙◌, ap, arith}
 use Rattle.field.specs.Fields.{Field, Low, element_laws}
@@ -25,7 +25,7 @@ use Rattle.builder.specs.Calls.{build_stores, build_check, build_result}
 use Rattle.dag.specs.WordLaws.{nodes_stored, stored_pass}
 use Rattle.compact.specs.Calls.{compacted, kept_of, compact_check, compact_result}
 use Rattle.compact.specs.AnswerLaws as Compacted
-use Rattle.evaluate.specs.Entries.{entries_check, entry_of, is_found, has_entry, inputs_check}
+use Rattle.evaluate.specs.Entries.{entries_check, entry_of, has_entry, inputs_check}
 use Rattle.evaluate.specs.Calls.{entry_words, given, evaluate_check, evaluate_answer}
 use Rattle.evaluate.specs.CallLaws.{entries_pass}
 use Rattle.evaluate.specs.ValueStepLaws.{given_low}
@@ -38,7 +38,7 @@ use Rattle.demands.specs.Normalising.{count_of, root_of, answer_list, answer_pas
 -- Evaluate's test of inputs, as a statement about every input
 module _ (find : ℕ → Option ℕ) where
   Assigned : ℕ → Type 0
-  Assigned k = is_found (find k) ≡ true
+  Assigned k = is_some (find k) ≡ true
 
   assigned : (x : NodeKind) → has_entry find x ≡ true → Keyed Assigned x
   unfolding Assigned

@@ -23,8 +23,8 @@ use Rattle.compact.specs.RankLaws.{kept_elim}
 use Rattle.plan.specs.Plan.{plan_of, fanout}
 use Rattle.normalize.specs.Rounds.{planned, round, rounded, normalize}
 use Rattle.normalize.specs.RepeatLaws.{rounds_elim}
-use Rattle.plan.specs.declared.Plan.{Plan}
-use Rattle.plan.specs.declared.Plan.TheVariants.{Factored, Rotated, Plain}
+use Rattle.plan.specs.declared.Rewrite.{Rewrite}
+use Rattle.plan.specs.declared.Rewrite.TheVariants.{Factored, Rotated}
 
 -- an input's key has K; other records have no key
 abbrev pub Keyed : (ℕ → Type 0) → NodeKind → Type 0
@@ -165,13 +165,13 @@ module _ (K : ℕ → Type 0) where
         unfolding step
         step_inputs x g = enter_inputs (outcome F l x) (outcome_keyed x g)
 
-    planned_inputs : (r : Replay) (x : NodeKind) (plan : Plan) → Inputs K r.list → Keyed K x → Inputs K (planned F r x plan).list
+    planned_inputs : (r : Replay) (x : NodeKind) (plan : Option Rewrite) → Inputs K r.list → Keyed K x → Inputs K (planned F r x plan).list
     unfolding planned
-    planned_inputs r x (Factored g a b) f h =
+    planned_inputs r x (Some (Factored g a b)) f h =
         let inner = step F r.list (like x (place_of r a) (place_of r b)) in
         step_inputs inner.list (step_inputs r.list f (like x (place_of r a) (place_of r b)) (like_keyed x (place_of r a) (place_of r b) h)) (Mul (place_of r g) inner.place) tt
-    planned_inputs r x (Rotated e y) f h = step_inputs r.list f (like x (place_of r e) (place_of r y)) (like_keyed x (place_of r e) (place_of r y) h)
-    planned_inputs r x Plain f h = step_inputs r.list f (rename (place_of r) x) (rename_keyed (place_of r) x h)
+    planned_inputs r x (Some (Rotated e y)) f h = step_inputs r.list f (like x (place_of r e) (place_of r y)) (like_keyed x (place_of r e) (place_of r y) h)
+    planned_inputs r x None f h = step_inputs r.list f (rename (place_of r) x) (rename_keyed (place_of r) x h)
 
     module _ (l : List NodeKind) (f : Inputs K l) where
       -- Build's requests

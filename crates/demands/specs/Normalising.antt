@@ -200,7 +200,7 @@ module _ (field : Field) where
         -- it answers the same count and root, and 0 rounds kept
         pub answer_again : normalize_answer field t count root' (interleaved again).room work_again ≡ Done count root' 0
         unfolding normalize_answer
-        answer_again = rw (again_accepted, again_list) (ap (λ rs. record { checked = (Ok tt); count = count; roots = roots_from rs; rounds = 0 }) (one (normalized field s n (root ∷ [])).roots one_root))
+        answer_again = rw (again_accepted, again_list) (ap (λ rs. Ok (record { count = count; roots = roots_from rs; rounds = 0 })) (one (normalized field s n (root ∷ [])).roots one_root))
 
         -- and writes the same list, blanks behind it
         pub answer_again_words : normalize_result field t count root' again work_again ≡ stored again list

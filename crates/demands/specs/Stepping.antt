@@ -1,6 +1,6 @@
 -- Step reaches its call: what its answer and its store say together, where it answers a place and a count.
 use Rattle.std.specs.Prelude.{ℕ, ◌<◌, ◌≤◌, true, ◌||◌, List, ◌⊎◌, refl, leb, ltb, length, Ok, Result, Err}
-use Rattle.std.proofs.Common.{inl, inr, arith}
+use Rattle.std.proofs.Common.{inl, inr, ap, arith}
 use Rattle.std.proofs.Math.Path.{◌≡◌}
 use borrow.Author.Tests.{leb-true, ltb-true}
 use Rattle.field.specs.Fields.{Field, Low, element_laws}

@@ -1,3 +1,3 @@
-// Demand 3 as theorems about the calls, words in stores: they stand in specs/.
+// Theorems about the calls, words in stores: they stand in specs/.
 
 #![tactic(auto)]

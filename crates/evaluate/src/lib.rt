@@ -86,7 +86,7 @@ impl<const WIDTH: usize> Entries<'_, WIDTH> {
         Ok(())
     }
 
-    // The tests of the entries: 11, 2, then the first bad entry.
+    // The tests of the entries: their count, the room for them, then the first bad one.
     #[tactic(auto, unfolding(crate::specs::Entries::entries_check))]
     fn check(&self, prime: Prime) -> Result<(), Refusal>
         requires { (2 < WIDTH) × (WIDTH ≤ 3) }
@@ -203,7 +203,7 @@ fn value_of(
     }
 }
 
-// Fills in the values of the first n records, up to the first input whose key has no entry: 12.
+// Fills in the values of the first n records, up to the first input whose key has no entry.
 fn fill_values(
     prime: Prime,
     list: &[u64],

@@ -1,3 +1,3 @@
-// Document 01, "Examples to prove": one lemma over a list of examples stands in specs/.
+// The worked examples: one lemma over a list of them stands in specs/.
 
 #![tactic(auto)]

@@ -13,6 +13,7 @@ use Rattle.columns.specs.PrepareLaws.{column_power}
 use Rattle.columns.specs.declared.Form.{Form}
 use Rattle.columns.specs.declared.Form.TheVariants.{Sparse, Dense, Basis}
 use Rattle.coefficients.specs.TermLaws.{length_support}
+use Rattle.periodic.specs.Builder.{Builder}
 use Rattle.periodic.specs.Periodic.{sparse_value, dense_value, basis_value, column_value, column_node}
 use Rattle.lower.specs.Promises.{Formed, Covered}
 
@@ -37,20 +38,6 @@ log_least k (suc most) n h j = go (below_suc k (suc most) (omega arith)) (λ i. 
     go (inr e) before = rw (le-leb (2 ^ suc most) n (subst (λ x. 2 ^ x ≤ n) e j)) (omega arith)
 
 module _ (field : Field) where
-  -- the value in each form
-  module _ (c : List ℕ) (f : Form) (k : ℕ) where
-    pub value_sparse : f ≡ Sparse → sparse_value field c k ≡ column_value field c f k
-    unfolding column_value
-    value_sparse e = rw e
-
-    pub value_dense : f ≡ Dense → dense_value field c k ≡ column_value field c f k
-    unfolding column_value
-    value_dense e = rw e
-
-    pub value_basis : f ≡ Basis → basis_value field c k ≡ column_value field c f k
-    unfolding column_value
-    value_basis e = rw e
-
   pub formed_of : (ls es : List ℕ) (j : ℕ) (c : List ℕ) (f : Form) → Handed ls es → j < length ls → c ≡ column (columns ls es) j → f ≡ form (modulus field) (columns ls es) j → Formed c f
   formed_of ls es j c f h k ec ef =
       rw ec
@@ -77,3 +64,17 @@ module _ (field : Field) where
   pub node_is : (cs : List (List ℕ)) (S j : ℕ) (c : List ℕ) (f : Form) (L : ℕ) → c ≡ column cs j → f ≡ form (modulus field) cs j → L ≡ log_length c → column_value field c f (S - L) ≡ column_node field cs S j
   unfolding column_node
   node_is cs S j c f L ec ef el = rw (el, ec, ef)
+
+-- the value in each form
+module _ (c : List ℕ) (f : Form) (k : ℕ) where
+  pub value_sparse : f ≡ Sparse → ◌≡◌ {A = Field → Builder ℕ} (λ field. sparse_value field c k) (λ field. column_value field c f k)
+  unfolding column_value
+  value_sparse e = rw e
+
+  pub value_dense : f ≡ Dense → ◌≡◌ {A = Field → Builder ℕ} (λ field. dense_value field c k) (λ field. column_value field c f k)
+  unfolding column_value
+  value_dense e = rw e
+
+  pub value_basis : f ≡ Basis → ◌≡◌ {A = Field → Builder ℕ} (λ field. basis_value field c k) (λ field. column_value field c f k)
+  unfolding column_value
+  value_basis e = rw e

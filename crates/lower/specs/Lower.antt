@@ -1,4 +1,4 @@
--- Lower (document 01): its tests, its answer, and every word of every lent store.
+-- Lower: its tests, its answer, and every word of every lent store.
 use Rattle.std.specs.Prelude.{ℕ, Bool, cond, ◌&&◌, ◌||◌, List, [], ◌∷◌, leb, eqb, length, replicate, Result, Ok, Err}
 use Rattle.field.specs.Fields.{Field, modulus}
 use Rattle.dag.specs.View.{View, interleaved}

@@ -1,8 +1,8 @@
 -- What the functions of Lower ask and say.
-use Rattle.std.specs.Prelude.{ℕ, ◌<◌, ◌≤◌, List, ◌≡◌, Bool, cond, ◌&&◌, length, leb, Result, Ok, Err}
+use Rattle.std.specs.Prelude.{ℕ, ◌<◌, ◌≤◌, List, ◌≡◌, Bool, cond, length, leb, Result, Ok, Err}
 use Rattle.field.specs.Fields.{Field, modulus}
-use Rattle.dag.specs.View.{View, interleaved, Agree}
-use Rattle.dag.specs.Nodes.{most_records, nodes, filled}
+use Rattle.dag.specs.View.{View, interleaved}
+use Rattle.dag.specs.Nodes.{filled}
 use Rattle.dag.specs.Store.{front, stored}
 use Rattle.dag.specs.Refusals.{unless_refused}
 use Rattle.dag.specs.PassLaws.{Listed}
@@ -11,10 +11,9 @@ use Rattle.columns.specs.Prepare.{columns}
 use Rattle.columns.specs.Promises.{Tested}
 use Rattle.columns.specs.declared.Form.{Form}
 use Rattle.columns.specs.declared.Form.TheVariants.{Sparse}
-use Rattle.periodic.specs.Promises.{Few, store_words, links}
+use Rattle.periodic.specs.Promises.{Few}
 use Rattle.dag.specs.declared.Refusal.{Refusal}
 use Rattle.dag.specs.declared.Refusal.TheVariants.{NoRoom}
-use Rattle.index.specs.Index.{NodeIndex}
 use Rattle.lower.specs.Lower.{lowered, lower_room}
 
 -- a column in a form that it can have
@@ -23,19 +22,13 @@ pub record Formed (c : List ℕ) (f : Form) : Type 0 where
 
 -- a list of count records has room
 abbrev pub has_room : ℕ → List ℕ → Bool
-has_room count result = leb count most_records && leb count (interleaved result).room
+has_room count result = leb count (interleaved result).room
 
 -- what was built is handed over where it has room
 pub record HandedOver (work : List ℕ) (count : ℕ) (ns result places : List ℕ) (r : Result ℕ Refusal) (after listed : List ℕ) : Type 0 where
   pub answer : r ≡ cond (has_room count result) (Ok count) (Err NoRoom)
   pub result_is : after ≡ cond (has_room count result) (filled (length result) (front count work)) result
   pub places_are : listed ≡ cond (has_room count result) (filled (length places) ns) places
-
--- a store to build in, with the first n records of the list s and their index
-pub record Stored (s : View) (n : ℕ) (t : List ℕ) : Type 0 where
-  pub long : length t ≡ store_words
-  pub same : Agree s (interleaved t) n
-  pub indexed : NodeIndex (nodes s n) (links t)
 
 module _ (field : Field) where
   -- columns that passed, none longer than 2^log

@@ -5,68 +5,68 @@ ghost use Rattle.std.specs.Prelude.{◌≡◌, ◌+◌, ◌-◌, ◌<◌, ◌≤
 ghost use Rattle.field.specs.Fields.{field_of};
 ghost use Rattle.field.specs.Field.{modulus_of};
 ghost use Rattle.dag.specs.View.{interleaved};
-ghost use Rattle.dag.specs.Nodes.{most_records, blank, filled};
-ghost use Rattle.dag.specs.Store.{Records};
-ghost use Rattle.columns.specs.Prepare as Prepare;
+ghost use Rattle.dag.specs.Nodes.{blank, filled};
+ghost use Rattle.columns.specs.Held as Held;
 ghost use Rattle.columns.specs.Promises as ColumnPromises;
 ghost use Rattle.periodic.specs.Periodic as Periodic;
-ghost use Rattle.periodic.specs.Promises as PeriodicPromises;
+ghost use Rattle.periodic.specs.Runs as Runs;
 ghost use Rattle.lower.specs.Lower as Lower;
 ghost use Rattle.lower.specs.Promises as Promises;
 
-use builder::Entered;
-use columns::{Columns, Form, Weighed};
+use arrayvec::ArrayVec;
+use columns::{Columns, Form, MOST_COLUMNS, Weighed};
 use dag::Refusal;
 use field::{Prime, felt};
+use periodic::PeriodicBuilder;
 
 // The value of a column in this form, whose point is ZK squared k times.
 fn column_value(
-    prime: Prime,
-    list: &mut [u64],
-    n: usize,
+    builder: &mut PeriodicBuilder,
     col: &[u64],
     form: Form,
     k: usize,
-) -> Entered
-    requires { PeriodicPromises.Ready (field_of prime) list.old n × ColumnPromises.Column (modulus_of prime) col.now × Promises.Formed col.now form }
-    ensures { PeriodicPromises.Entering (field_of prime) list.old n (Periodic.column_value (field_of prime) col.now form k) list.new result }
+) -> Result<usize, Refusal>
+    requires { ColumnPromises.Column (modulus_of builder.old.prime) col.now × Promises.Formed col.now form }
+    ensures { Runs.Entering (Runs.held builder.old) (λ field. Periodic.column_value field col.now form k) (Runs.held builder.new) result }
 {
     match form {
-        Form::Sparse => periodic::sparse_value(prime, list, n, col, k),
-        Form::Dense => periodic::dense_value(prime, list, n, col, k),
-        Form::Basis => basis::basis_value(prime, list, n, col, k),
+        Form::Sparse => builder.sparse_value(col, k),
+        Form::Dense => builder.dense_value(col, k),
+        Form::Basis => basis::basis_value(builder, col, k),
     }
 }
 
 // The node of column j under the shared period 2^log.
-fn column_node(list: &mut [u64], n: usize, weighed: &Weighed, log: usize, j: usize) -> Entered
-    requires { let c = weighed.now.columns in PeriodicPromises.Ready (field_of c.prime) list.old n × Promises.Covered (field_of c.prime) c.lengths.now c.entries.now log × (j < length c.lengths.now) }
-    ensures { let c = weighed.now.columns in PeriodicPromises.Entering (field_of c.prime) list.old n (Periodic.column_node (field_of c.prime) (Prepare.columns c.lengths.now c.entries.now) log j) list.new result }
+fn column_node(
+    builder: &mut PeriodicBuilder,
+    weighed: &Weighed,
+    log: usize,
+    j: usize,
+) -> Result<usize, Refusal>
+    requires { let c = weighed.now.columns in (builder.old.prime ≡ c.prime) × Promises.Covered (field_of c.prime) c.lengths.now c.entries.now log × (j < length c.lengths.now) }
+    ensures { let c = weighed.now.columns in Runs.Entering (Runs.held builder.old) (λ field. Periodic.column_node field (Held.columns c) log j) (Runs.held builder.new) result }
 {
     let col = weighed.columns.column(j);
     let k = log - columns::log_length(col);
-    column_value(weighed.columns.prime, list, n, col, weighed.form(j), k)
+    column_value(builder, col, weighed.form(j), k)
 }
 
-// The nodes of all columns under the shared period 2^log, into a store of places; answers the count.
+// The nodes of all columns under the shared period 2^log.
 fn build_periodic_nodes(
-    list: &mut [u64],
-    n: usize,
+    builder: &mut PeriodicBuilder,
     columns: Columns,
     log: usize,
-    places: &mut [u64],
-) -> usize
-    requires { PeriodicPromises.Ready (field_of columns.prime) list.old n × Promises.Covered (field_of columns.prime) columns.lengths.now columns.entries.now log × (length columns.lengths.now ≤ length places.old) }
-    ensures { let c = columns.entry in PeriodicPromises.Listing (field_of c.prime) list.old n (Periodic.build_periodic_nodes (field_of c.prime) (Prepare.columns c.lengths.now c.entries.now) log) list.new result places.new (length c.lengths.now) }
+) -> Result<ArrayVec<u64, MOST_COLUMNS>, Refusal>
+    requires { (builder.old.prime ≡ columns.prime) × Promises.Covered (field_of columns.prime) columns.lengths.now columns.entries.now log }
+    ensures { let c = columns.entry in Runs.Listing (Runs.held builder.old) (λ field. Periodic.build_periodic_nodes field (Held.columns c) log) (Runs.held builder.new) (length c.lengths.now) result }
 {
     let weighed = Weighed::new(columns);
-    let mut count = n;
+    let mut nodes = ArrayVec::new();
     for j in 0..columns.lengths.len() {
-        let e = column_node(list, count, &weighed, log, j);
-        places[j] = e.place as u64;
-        count = e.count;
+        let node = column_node(builder, &weighed, log, j)?;
+        nodes.push(node as u64);
     }
-    count
+    Ok(nodes)
 }
 
 // The longest of these lengths.
@@ -128,15 +128,6 @@ fn fill_from(from: &[u64], to: &mut [u64])
     dag::blank_from(to, from.len());
 }
 
-// Writes the first n records of a list and their index to a store.
-fn store_list(list: &[u64], n: usize, store: &mut [u64])
-    requires { Records (interleaved list.now) n × (n ≤ most_records) × (length store.old ≡ PeriodicPromises.store_words) }
-    ensures { Promises.Stored (interleaved list.now) n store.new }
-{
-    dag::copy_records(list, n, store);
-    index::index_list(list, n, &mut store[periodic::LIST_WORDS..]);
-}
-
 // The list that was built, and its columns' nodes, where there is room for the list.
 fn hand_over(
     work: &[u64],
@@ -145,10 +136,10 @@ fn hand_over(
     res: &mut [u64],
     places: &mut [u64],
 ) -> Result<usize, Refusal>
-    requires { (most_records ≤ (interleaved work.now).room) × (length nodes.now ≤ length places.old) }
+    requires { (count ≤ (interleaved work.now).room) × (length nodes.now ≤ length places.old) }
     ensures { Promises.HandedOver work.now count nodes.now res.old places.old result res.new places.new }
 {
-    if dag::MOST_RECORDS < count || dag::room(res) < count {
+    if dag::room(res) < count {
         return Err(Refusal::NoRoom);
     }
     dag::store_records(work, count, res);
@@ -156,24 +147,23 @@ fn hand_over(
     Ok(count)
 }
 
-// Lower past its first tests, built in this store.
+// Lower past its first tests, but for the work store.
 fn lower_with(
     list: &[u64],
     n: usize,
     columns: Columns,
     period: u64,
     res: &mut [u64],
-    store: &mut [u64],
     places: &mut [u64],
 ) -> Result<usize, Refusal>
-    requires { Promises.Passed (field_of columns.prime) (interleaved list.now) n columns.lengths.now columns.entries.now period (length places.old) × (length store.old ≡ PeriodicPromises.store_words) }
+    requires { Promises.Passed (field_of columns.prime) (interleaved list.now) n columns.lengths.now columns.entries.now period (length places.old) }
     ensures { let c = columns.entry in Promises.Finished (field_of c.prime) (interleaved list.now) n c.lengths.now c.entries.now period res.old places.old result res.new places.new }
 {
-    store_list(list, n, store);
-    let mut nodes = [0u64; 16];
+    let mut builder = PeriodicBuilder::new(columns.prime);
+    builder.load(list, n);
     let log = columns::log_within(felt::most_log(columns.prime), period);
-    let count = build_periodic_nodes(store, n, columns, log, &mut nodes);
-    hand_over(store, count, &nodes[..columns.lengths.len()], res, places)
+    let nodes = build_periodic_nodes(&mut builder, columns, log)?;
+    hand_over(&builder.list, builder.count, &nodes, res, places)
 }
 
 // Lower past its first tests.
@@ -190,8 +180,7 @@ fn lower_ready(
     ensures { let c = columns.entry in Promises.Finished (field_of c.prime) (interleaved list.now) n c.lengths.now c.entries.now period res.old places.old result res.new places.new × (work.new ≡ replicate (length work.old) blank) }
 {
     dag::blank_from(work, 0);
-    let mut store = [0u64; periodic::STORE_WORDS];
-    lower_with(list, n, columns, period, res, &mut store, places)
+    lower_with(list, n, columns, period, res, places)
 }
 
 // Lower: the list with the nodes of these columns, under a shared period; answers its count.

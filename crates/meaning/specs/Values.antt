@@ -1,4 +1,4 @@
--- What a record is worth (document 01, 'Normalising', last paragraph), over any ring and any element given to each key.
+-- What a record is worth, over any ring and any element given to each key.
 use Rattle.std.specs.Prelude.{ℕ, zero, suc, List, [], ◌∷◌, ◌++◌, get_or, length}
 use Rattle.ring.specs.Ring.{Ops}
 use Rattle.field.specs.declared.QuadFelt.{QuadFelt}

@@ -34,7 +34,7 @@ module _ (field : Field) where
         by_two = let k = h.by_one in omega arith;
       }
 
-  module _ (work : List ℕ) (count : ℕ) (map : List ℕ) (i : ℕ) (x : NodeKind) (plan : Option Rewrite) (h : Entering field work count map i x plan) where
+  module _ {work : List ℕ} {count : ℕ} {map : List ℕ} {i : ℕ} {x : NodeKind} {plan : Option Rewrite} (h : Entering field work count map i x plan) where
     -- there is room for a request
     pub push_room : (links : List ℕ) → Linked work count links → Room work count links
     push_room links d = let a = h.room in let b = d.room in record { room = omega arith; index = d.index; link_room = omega arith }

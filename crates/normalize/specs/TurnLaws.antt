@@ -40,8 +40,15 @@ module _ (field : Field) where
   unfolding round fired
   round_begins s n fan work map = record { holds = holds_nothing field work map; fired_is = refl }
 
-  module _ (s : List ℕ) (n : ℕ) (fan work₀ map₀ : List ℕ) (g : Rounding field s n fan work₀ map₀) (i : ℕ) (work map : List ℕ) (count : ℕ) (t : Bool)
-      (ew : length work ≡ length work₀) (em : length map ≡ length map₀) (h : RoundHeld field s n fan i work map count t) where
+  -- stores of the same lengths serve a round too
+  pub rounding_still : {s : List ℕ} {n : ℕ} {fan work map : List ℕ} → Rounding field s n fan work map → (later places : List ℕ) → length later ≡ length work → length places ≡ length map → Rounding field s n fan later places
+  rounding_still {s} {n} {fan} {work} {map} g later places ew em =
+      let a = g.work_fits in
+      let b = g.map_fits in
+      let q = same_room later work ew in
+      record { sound = g.sound; few = g.few; fan_fits = g.fan_fits; work_fits = omega arith; map_fits = omega arith }
+
+  module _ {s : List ℕ} {n : ℕ} {fan : List ℕ} {i : ℕ} {work map : List ℕ} {count : ℕ} {t : Bool} (g : Rounding field s n fan work map) (h : RoundHeld field s n fan i work map count t) where
     r : Replay
     r = round field.elements (nodes (interleaved s) n) (read fan) i
 
@@ -70,7 +77,6 @@ module _ (field : Field) where
         turn_entering =
             let f = g.map_fits in
             let b = g.work_fits in
-            let q = same_room work work₀ ew in
             let c = round_count in
             record {
               sound = h.holds.sound;

@@ -148,11 +148,9 @@ fn normalize_within<const SCRATCH_WORDS: usize>(
         rounds: 0,
     };
     while let Some(kept) = normalize_once(prime, res, end.count, end.roots, work, &mut scratch) {
-        end = NormalEnd {
-            count: kept.count,
-            roots: kept.roots,
-            rounds: end.rounds + 1,
-        };
+        end.count = kept.count;
+        end.roots = kept.roots;
+        end.rounds += 1;
     }
     end
 }

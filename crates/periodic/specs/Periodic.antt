@@ -1,4 +1,4 @@
--- `build_periodic_nodes` of periodic.rs (document 01, 'Columns'), without its caches: an equal request is answered by the same place. F is the
+-- `build_periodic_nodes` of periodic.rs, without its caches: an equal request is answered by the same place. F is the
 -- ring of the list's elements.
 use Rattle.std.specs.Prelude.{ℕ, zero, suc, ◌+◌, ◌-◌, Bool, true, false, cond, not, ◌&&◌, List, [], ◌∷◌, eqb, get_or, length}
 use Rattle.ring.specs.Ring.{Ops}

@@ -17,6 +17,8 @@ ghost use Rattle.periodic.specs.Promises as Promises;
 
 use arrayvec::ArrayVec;
 use builder::Outcome;
+use coefficients::MOST_TERMS;
+use columns::MOST_ENTRIES;
 use dag::{NodeKind, Refusal};
 use field::{Prime, QuadFelt};
 
@@ -150,7 +152,7 @@ impl PeriodicBuilder {
         &mut self,
         first: usize,
         factors: &[usize],
-    ) -> Result<ArrayVec<usize, 128>, Refusal>
+    ) -> Result<ArrayVec<usize, MOST_ENTRIES>, Refusal>
         requires { (first < self.old.count) × Promises.AllInside self.old.count factors.now × (length factors.now < 128) }
         ensures { Runs.Listing (Runs.held self.old) (λ field. Periodic.chain field.elements first factors.now (length factors.now)) (Runs.held self.new) (length factors.now + 1) result }
     {
@@ -165,7 +167,7 @@ impl PeriodicBuilder {
     }
 
     // The constants of these numbers.
-    fn constants(&mut self, numbers: &[u64]) -> Result<ArrayVec<usize, 128>, Refusal>
+    fn constants(&mut self, numbers: &[u64]) -> Result<ArrayVec<usize, MOST_ENTRIES>, Refusal>
         requires { (all_below (modulus_of self.old.prime) numbers.now ≡ true) × (length numbers.now ≤ 128) }
         ensures { Runs.Listing (Runs.held self.old) (λ field. Periodic.constants field.elements (λ j. get_or numbers.now j 0) (length numbers.now)) (Runs.held self.new) (length numbers.now) result }
     {
@@ -234,9 +236,9 @@ impl PeriodicBuilder {
     fn sparse_sum(
         &mut self,
         zpow: &[usize],
-        rows: [[u64; 7]; 11],
+        rows: [[u64; 7]; MOST_TERMS],
         log: usize,
-        values: [u64; 11],
+        values: [u64; MOST_TERMS],
         t: usize,
     ) -> Result<usize, Refusal>
         requires { Promises.AllInside self.old.count zpow.now × Promises.Rows (field_of self.old.prime) rows log values t × (log ≤ length zpow.now) }

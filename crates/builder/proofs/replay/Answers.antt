@@ -1,4 +1,4 @@
-use Rattle.std.proofs.Common.{rules, ◌≡◌, ◌∙◌, ap, length, refl, sym, arith, length-set}
+use Rattle.std.proofs.Common.{rules, ◌≡◌, ◌∙◌, ap, length, sym, arith}
 use Rattle.dag.specs.View.{interleaved}
 use Rattle.dag.specs.ViewLaws.{same_room}
 use Rattle.dag.specs.Nodes as Nodes
@@ -19,8 +19,8 @@ loop-i-init c =
 
 pub renamed-x-requires : goal.renamed-x-requires
 renamed-x-requires c =
-    fine_any (Below c.args.prime) _ _ (turn_fine (field_of c.args.prime) (Nodes.nodes (interleaved c.args.list.now) c.args.n)
-    (list_fine (field_of c.args.prime) (interleaved c.args.list.now) c.args.n c.requires.0) c.loop-i.i _ _
+    let w = list_fine (field_of c.args.prime) (interleaved c.args.list.now) c.args.n c.requires.0 in
+    fine_any (Below c.args.prime) _ _ (turn_fine (field_of c.args.prime) _ w c.loop-i.i _ _
     (omega (arith, c.requires.2, c.loop-i.auto.map, c.loop-i-test.true))
     (c.node_at.ensures ∙ sym (at_nodes _ _ _ c.loop-i-test.true)))
 
@@ -28,11 +28,10 @@ pub push-requires : goal.push-requires
 push-requires c =
     let v = c.loop-i.invariant in
     let e = c.new-builder.ensures.empty in
-    let h = turn_short (field_of c.args.prime) (Nodes.nodes (interleaved c.args.list.now) c.args.n) (list_fine (field_of c.args.prime) (interleaved c.args.list.now) c.args.n c.requires.0)
-    c.loop-i.i c.loop-i.builder.list.now c.loop-i.map c.loop-i.builder.count v.holds in (
-      rw (v.same.prime, e.prime_is, c.renamed-x.ensures) (turn_request (field_of c.args.prime) (Nodes.nodes (interleaved c.args.list.now) c.args.n)
-          (list_fine (field_of c.args.prime) (interleaved c.args.list.now) c.args.n c.requires.0) c.loop-i.i c.loop-i.builder.list.now c.loop-i.map
-          c.loop-i.builder.count v.holds _ (c.node_at.ensures ∙ sym (at_nodes _ _ _ c.loop-i-test.true))),
+    let w = list_fine (field_of c.args.prime) (interleaved c.args.list.now) c.args.n c.requires.0 in
+    let h = turn_short (field_of c.args.prime) _ w v.holds in (
+      rw (v.same.prime, e.prime_is, c.renamed-x.ensures)
+          (turn_request (field_of c.args.prime) _ w v.holds (c.node_at.ensures ∙ sym (at_nodes _ _ _ c.loop-i-test.true))),
       record {
         room = rw (same_room c.loop-i.builder.list.now c.args.res.now (v.same.list_words ∙ ap length e.list_is)) (omega (arith, h, c.requires.1, c.loop-i-test.true));
         index = v.index;
@@ -44,11 +43,10 @@ pub loop-i-preserved : goal.loop-i-preserved
 loop-i-preserved c =
     let v = c.loop-i.invariant in
     let e = c.push.ensures in
+    let w = list_fine (field_of c.args.prime) (interleaved c.args.list.now) c.args.n c.requires.0 in
     record {
       same = same_still _ _ _ v.same e.same;
-      holds = turn_holds (field_of c.args.prime) (Nodes.nodes (interleaved c.args.list.now) c.args.n)
-          (list_fine (field_of c.args.prime) (interleaved c.args.list.now) c.args.n c.requires.0) c.loop-i.i c.loop-i.builder.list.now c.loop-i.map
-          c.loop-i.builder.count v.holds _ _ _ (c.node_at.ensures ∙ sym (at_nodes _ _ _ c.loop-i-test.true))
+      holds = turn_holds (field_of c.args.prime) _ w v.holds (c.node_at.ensures ∙ sym (at_nodes _ _ _ c.loop-i-test.true))
           (rw (v.same.prime, c.new-builder.ensures.empty.prime_is, c.renamed-x.ensures) at e.noted.pushed)
           (omega (arith, c.requires.2, c.loop-i-test.true, c.loop-i.auto.map));
       index = e.noted.index;

@@ -1,27 +1,29 @@
-use Rattle.std.proofs.Common.{ℕ, sym, ◌∙◌, ap, subst, le_trans, le_of_eq, length-take-le, arith}
+use Rattle.std.proofs.Common.{ℕ, ◌≡◌, ◌<◌, length, ◌∙◌, ap, subst}
 use Rattle.field.specs.Fields.{field_of}
 use Rattle.columns.specs.Columns.{log_within}
-use Rattle.dag.specs.ViewLaws.{words_room}
-use Rattle.lower.specs.Promises as Said
-use Rattle.lower.specs.CallLaws.{stored_ready, finished}
+use Rattle.columns.specs.Prepare.{columns}
+use Rattle.dag.specs.Nodes.{most_records}
+use Rattle.dag.specs.View.{interleaved}
+use Rattle.periodic.specs.Periodic.{build_periodic_nodes}
+use Rattle.periodic.specs.Runs.{held}
+use Rattle.lower.specs.Lower.{lowered}
+use Rattle.lower.specs.CallLaws.{lowered_is, finished_long, finished_done}
 use Rattle.lower.proofs.lower_with.Goals as goal
+use Rattle.lower.proofs.lower_with.Goals.{After-build_periodic_nodes}
 
-pub build_periodic_nodes-count-requires : goal.build_periodic_nodes-count-requires
-build_periodic_nodes-count-requires c = (
-  stored_ready (field_of c.args.columns.prime) _ c.requires.0.list.most _ c.requires.0.list.sound _ c.store_list.ensures,
-  subst (Said.Covered (field_of c.args.columns.prime) c.args.columns.lengths.now c.args.columns.entries.now)
-      (sym (c.log_within-log.ensures.log ∙ ap (λ (k : ℕ). log_within k c.args.period) c.most_log.ensures)) c.requires.0.covered,
-  c.requires.0.tested.handed.few,
-)
+-- what is run is the definition's
+same : (c : After-build_periodic_nodes) → let b = held c.load.new.self in (build_periodic_nodes (field_of b.prime) (columns c.args.columns.lengths.now c.args.columns.entries.now) c.log_within-log.result).run b.list ≡ lowered (field_of c.args.columns.prime) (interleaved c.args.list.now) c.args.n c.args.columns.lengths.now c.args.columns.entries.now c.args.period
+same c = lowered_is c.args.columns.prime _ _ (interleaved c.args.list.now) c.args.n _ _ c.args.period _ (c.load.ensures.prime_is ∙ c.new-builder.ensures.0) c.load.ensures.list_is (c.log_within-log.ensures.log ∙ ap (λ (k : ℕ). log_within k c.args.period) c.most_log.ensures)
 
-pub hand_over-requires : goal.hand_over-requires
-hand_over-requires c = (
-  words_room _ _ (omega (arith, c.build_periodic_nodes-count.auto.list, c.store_list.ensures.long)),
-  le_trans (le_of_eq (length-take-le _ c.build_periodic_nodes-count.new.places (omega (arith, c.requires.0.tested.handed.few)))) c.requires.0.place_room,
-)
+pub returns-in_err-nodes : goal.returns-in_err-nodes
+returns-in_err-nodes c =
+    let told = c.in_err-nodes.ensures.told in
+    finished_long (field_of c.args.columns.prime) _ _ _ _ _ _ _ _ c.from_residual.ensures told.reason
+    (subst (λ r. most_records < length r.list) (same (goal.at.returns-in_err-nodes c).After-build_periodic_nodes) told.long)
 
 pub returns : goal.returns
 returns c =
-    finished (field_of c.args.columns.prime) _ _ _ _ _ _ _ _ _ _ _ _ _ _ _ c.requires.0 c.store_list.ensures
-    (c.log_within-log.ensures.log ∙ ap (λ (k : ℕ). log_within k c.args.period) c.most_log.ensures)
-    c.build_periodic_nodes-count.ensures c.hand_over.ensures
+    let ran = c.in_ok-nodes.ensures.told.ran in
+    let e = same (goal.at.returns c).After-build_periodic_nodes in
+    let b = c.build_periodic_nodes.new.builder in
+    finished_done (field_of c.args.columns.prime) _ _ _ _ _ _ _ _ b.list b.count _ b.few b.sound (ran.list_is ∙ ap (λ r. r.list) e) (c.deref.ensures.0 ∙ (ran.answer_is ∙ ap (λ r. r.answer) e)) _ _ _ c.hand_over.ensures

@@ -14,39 +14,29 @@ loop-i-init c =
 
 pub plan_of-plan-requires : goal.plan_of-plan-requires
 plan_of-plan-requires c =
-    let r = c.args.round in
     let v = c.loop-i.invariant in
-    let e = c.new-built.ensures.empty in (
-      c.requires.1,
-      omega arith,
-      Turn.fine_turn (field_of c.args.prime) r.list.now r.n r.fan.now c.args.work.now c.args.map.now c.requires.0 c.loop-i.i c.loop-i.built.list.now c.loop-i.map c.loop-i.built.count c.loop-i.fired
-          (v.same.list_words ∙ ap length e.list_is) c.loop-i.auto.map v.held c.loop-i-test.true _ (c.node_at-x.ensures ∙ sym (at_nodes _ _ _ c.loop-i-test.true)),
-    )
+    let e = c.new-built.ensures.empty in
+    let g = Turn.rounding_still (field_of c.args.prime) c.requires.0 _ _ (v.same.list_words ∙ ap length e.list_is) c.loop-i.auto.map in
+    (c.requires.1, omega arith, Turn.fine_turn (field_of c.args.prime) g v.held c.loop-i-test.true _ (c.node_at-x.ensures ∙ sym (at_nodes _ _ _ c.loop-i-test.true)))
 
 pub enter_planned-place-requires : goal.enter_planned-place-requires
 enter_planned-place-requires c =
-    let r = c.args.round in
     let v = c.loop-i.invariant in
     let e = c.new-built.ensures.empty in
-    let h = Turn.round_count (field_of c.args.prime) r.list.now r.n r.fan.now c.args.work.now c.args.map.now c.requires.0 c.loop-i.i c.loop-i.built.list.now c.loop-i.map c.loop-i.built.count c.loop-i.fired
-    (v.same.list_words ∙ ap length e.list_is) c.loop-i.auto.map v.held in (
-      (
-        c.loop-i.i,
-        rw (v.same.prime, e.prime_is) (Turn.turn_entering (field_of c.args.prime) r.list.now r.n r.fan.now c.args.work.now c.args.map.now c.requires.0 c.loop-i.i c.loop-i.built.list.now c.loop-i.map c.loop-i.built.count c.loop-i.fired
-            (v.same.list_words ∙ ap length e.list_is) c.loop-i.auto.map v.held c.loop-i-test.true _ (c.node_at-x.ensures ∙ sym (at_nodes _ _ _ c.loop-i-test.true)) _ c.plan_of-plan.ensures),
-      ),
+    let g = Turn.rounding_still (field_of c.args.prime) c.requires.0 _ _ (v.same.list_words ∙ ap length e.list_is) c.loop-i.auto.map in
+    let h = Turn.round_count (field_of c.args.prime) g v.held in (
+      (c.loop-i.i, rw (v.same.prime, e.prime_is) (Turn.turn_entering (field_of c.args.prime) g v.held c.loop-i-test.true _ (c.node_at-x.ensures ∙ sym (at_nodes _ _ _ c.loop-i-test.true)) _ c.plan_of-plan.ensures)),
       record { index = v.index; room = rw (v.same.link_words, e.link_words) (omega (arith, h, c.requires.3, c.loop-i-test.true)) },
     )
 
 pub loop-i-preserved : goal.loop-i-preserved
 loop-i-preserved c =
-    let r = c.args.round in
     let v = c.loop-i.invariant in
     let e = c.new-built.ensures.empty in
+    let g = Turn.rounding_still (field_of c.args.prime) c.requires.0 _ _ (v.same.list_words ∙ ap length e.list_is) c.loop-i.auto.map in
     let p = c.enter_planned-place.ensures in
     record {
       same = same_still _ _ _ v.same p.same;
-      held = Turn.turn_held (field_of c.args.prime) r.list.now r.n r.fan.now c.args.work.now c.args.map.now c.requires.0 c.loop-i.i c.loop-i.built.list.now c.loop-i.map c.loop-i.built.count c.loop-i.fired
-          (v.same.list_words ∙ ap length e.list_is) c.loop-i.auto.map v.held c.loop-i-test.true _ (c.node_at-x.ensures ∙ sym (at_nodes _ _ _ c.loop-i-test.true)) _ c.plan_of-plan.ensures _ _ _ (rw (v.same.prime, e.prime_is) at p.planned) (rw c.is_some-fired.ensures);
+      held = Turn.turn_held (field_of c.args.prime) g v.held c.loop-i-test.true _ (c.node_at-x.ensures ∙ sym (at_nodes _ _ _ c.loop-i-test.true)) _ c.plan_of-plan.ensures _ _ _ (rw (v.same.prime, e.prime_is) at p.planned) cc;
       index = p.index;
     }
