@@ -1,15 +1,13 @@
 -- A call on the stores laid for a case, a case that has room, and one case more.
-use Rattle.std.specs.Prelude.{ℕ, ◌+◌, ◌≤◌, Bool, true, false, cond, ◌&&◌, List, ◌≡◌, leb}
+use Rattle.std.specs.Prelude.{ℕ, ◌+◌, Bool, true, cond, ◌&&◌, List, ◌≡◌, leb}
 use Rattle.std.proofs.Math.Bool.{and-eq-true_iff}
 use Rattle.std.proofs.Common.{◌∙◌, ap, add-one, leb-true}
-use Rattle.recorded.specs.Stream.{word, behind, past, places, fit, follows, hold_all}
+use Rattle.recorded.specs.Stream.{word, fit, follows, hold_all}
 use Rattle.recorded.specs.declared.Trio.{Trio}
 use Rattle.recorded.specs.declared.Reads.{Reads}
 use Rattle.recorded.specs.declared.Writes.{Writes}
-use Rattle.recorded_calls.specs.Calls.{shape_of, stores}
 use Rattle.recorded_calls.specs.Promises.{Asked, case_outcome, read, written}
 use Rattle.recorded_calls.specs.declared.Call.{Call}
-use Rattle.recorded_calls.specs.declared.Shape.{Shape}
 use Rattle.replay.specs.Cases.{parts_of, laid, answered, room, Within, HasRoom, same, place_of, matched}
 use Rattle.replay.specs.declared.Parts.{Parts}
 

@@ -13,9 +13,10 @@ use recorded_calls::Call;
 use std::io;
 use std::io::{Read, Write};
 
-// The words of an array that a case's read stores are laid in, and of one for its written stores.
+// The words of an array that a store is laid in which a call reads.
 const READ: usize = 4096;
 
+// The words of one for a store that a call writes.
 const WRITTEN: usize = 12352;
 
 // Where the parts of a case are: the stores that its call reads, those that it writes, the answer, the written stores
