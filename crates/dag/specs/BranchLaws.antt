@@ -1,16 +1,10 @@
 -- Small steps that proofs of branching code share.
-use Rattle.std.specs.Prelude.{Bool, true, false, cond, ◌&&◌, ◌||◌, ◌≡◌, refl}
+use Rattle.std.specs.Prelude.{Bool, true, false, cond, ◌&&◌, ◌≡◌, refl}
 use Rattle.std.proofs.Common.{sym, ◌∙◌}
 
 -- what a result is, where it is v and a definition equals it
 pub told : {A : Type 0} {r d v : A} → r ≡ d → r ≡ v → d ≡ v
 told e f = sym e ∙ f
-
-pub and_when : {a : Bool} {c : Bool} → a ≡ true → c ≡ (a && c)
-and_when p = rw p
-
-pub and_never : {a : Bool} → a ≡ false → (c : Bool) → false ≡ (a && c)
-and_never p c = rw p
 
 -- a chain of tests: past one that fails, and into one that holds
 pub skip : {A : Type 0} {t : Bool} {v y : A} (x : A) → t ≡ false → v ≡ y → v ≡ cond t x y
@@ -18,15 +12,6 @@ skip x p e = rw p e
 
 pub into : {A : Type 0} {t : Bool} {v x : A} (y : A) → t ≡ true → v ≡ x → v ≡ cond t x y
 into y p e = rw p e
-
-pub or_first : {a : Bool} (b : Bool) → a ≡ true → (a || b) ≡ true
-or_first b p = rw p
-
-pub or_second : {a b : Bool} → a ≡ false → b ≡ true → (a || b) ≡ true
-or_second p q = rw (p, q)
-
-pub or_none : {a b : Bool} → a ≡ false → b ≡ false → (a || b) ≡ false
-or_none p q = rw (p, q)
 
 -- three tests in a row, however they are paired
 pub and_both : (a b c : Bool) → a && (b && c) ≡ (a && b) && c

@@ -9,7 +9,7 @@ use Rattle.dag.specs.Keys.{is_key}
 use Rattle.dag.specs.Nodes.{tag, first, second, decode, record_at, nodes}
 use Rattle.dag.specs.NodeLaws.{length_nodes, at_nodes}
 use Rattle.dag.specs.CaseLaws.{and_true, below_suc, below_suc_elim}
-use Rattle.dag.specs.Refusals.{need, ◌then◌, is_refused, unless_refused, first_refused, Checked}
+use Rattle.dag.specs.Refusals.{need, ◌then◌, is_refused, first_refused, Checked}
 use Rattle.dag.specs.Check.{formed, earlier, record_check, check_at, records_check}
 use Rattle.dag.specs.WellFormed.{Fine, WellFormed}
 use Rattle.dag.specs.WellFormedLaws.{well_formed_below}
@@ -38,18 +38,6 @@ refused_then (Err r) d e = refl
 pub refused_is : (c : Checked) → is_refused c ≡ true → (r : Refusal) × (c ≡ Err r)
 refused_is (Ok u) h = absurd (true≢false (sym h))
 refused_is (Err r) h = (r, refl)
-
--- what a call gives where its tests refuse
-pub refused_gives : {A : Type 0} (f : Checked → A) (c : Checked) (given : A) → is_refused c ≡ true → f c ≡ unless_refused c (λ r. f (Err r)) given
-refused_gives f (Ok u) given e = absurd (true≢false (sym e))
-refused_gives f (Err r) given e = refl
-
--- what a call of `is_refused` tells of a definition
-pub good_told : {r d : Checked} {b : Bool} → r ≡ d → b ≡ is_refused r → b ≡ false → d ≡ Ok tt
-good_told {r} e f g = sym e ∙ not_refused r (sym f ∙ g)
-
-pub bad_told : {r d : Checked} {b : Bool} → r ≡ d → b ≡ is_refused r → b ≡ true → is_refused d ≡ true
-bad_told e f g = ap is_refused (sym e) ∙ (sym f ∙ g)
 
 -- a test at the places below n, one by one
 module _ (test : ℕ → Checked) where

@@ -1,12 +1,12 @@
 -- Stores that pass the list check, and what writing a record does to one.
-use Rattle.std.specs.Prelude.{ℕ, zero, suc, ◌+◌, ◌*◌, ◌≤◌, ◌<◌, List, [], ◌∷◌, ◌++◌, ◌≡◌, refl, get_or, length, set, take, drop, eqb, Ok}
-use Rattle.std.proofs.Common.{append_assoc, ◌∙◌, ap, add-one, mul-suc, arith, length-set, get_or-set_same, get_or-set_other, drop-set-lt, take-suc}
+use Rattle.std.specs.Prelude.{ℕ, zero, suc, ◌+◌, ◌*◌, ◌≤◌, ◌<◌, List, [], ◌∷◌, ◌++◌, ◌≡◌, refl, get_or, length, set, take, eqb, Ok}
+use Rattle.std.proofs.Common.{append_assoc, ◌∙◌, ap, add-one, mul-suc, arith, length-set, get_or-set_same, get_or-set_other, take-suc}
 use Rattle.std.proofs.Math.Path.{sym, ap₂}
 use Rattle.std.proofs.Math.Numerals.{add-three, towards_suc}
 use Rattle.field.specs.Fields.{Bounds, Within}
 use Rattle.dag.specs.View.{View, interleaved, Agree}
 use Rattle.dag.specs.ViewLaws.{room_words, same_room, words_agree, agree_nodes, agree_checks}
-use Rattle.dag.specs.Nodes.{record_words, tag, first, second, three, record_at, nodes, at, words, words_of, same_node}
+use Rattle.dag.specs.Nodes.{tag, first, second, three, record_at, nodes, at, words, words_of, same_node}
 use Rattle.dag.specs.NodeLaws.{decode_words, at_nodes}
 use Rattle.dag.specs.BranchLaws.{and_both}
 use Rattle.dag.specs.CaseLaws.{below_suc_elim}
@@ -140,13 +140,6 @@ module _ (s : List ℕ) (n : ℕ) (x : NodeKind) (fits : n < (interleaved s).roo
         room = rw (same_room (put s n x) s (length_put s n x)) fits;
         good = rw (← agree_checks (interleaved s) (interleaved (put s n x)) m n put_agrees, sound.good) (check_put s n x fits m f);
       }
-
--- a record put leaves what stands behind it
-pub put_behind : (s : List ℕ) (n k : ℕ) (y : NodeKind) → n < k → drop (record_words * k) (put s n y) ≡ drop (record_words * k) s
-unfolding put
-put_behind s n k y h =
-    drop-set-lt (3 * k) (set (set s (3 * n) (tag y)) (3 * n + 1) (first y)) (3 * n + 2) (second y) (omega arith)
-    ∙ (drop-set-lt (3 * k) (set s (3 * n) (tag y)) (3 * n + 1) (first y) (omega arith) ∙ drop-set-lt (3 * k) s (3 * n) (tag y) (omega arith))
 
 -- a shorter list of the same store
 pub sound_less : (m : Bounds) (s : View) (n : ℕ) → Sound m s (suc n) → Sound m s n

@@ -1,7 +1,6 @@
 -- Where a record may stand, and how well-formed lists grow.
-use Rattle.std.specs.Prelude.{ℕ, suc, ◌<◌, ◌≤◌, List, [], ◌∷◌, ◌++◌, ◌≡◌}
+use Rattle.std.specs.Prelude.{ℕ, suc, ◌<◌, ◌≤◌, List, [], ◌∷◌, ◌++◌}
 use Rattle.std.proofs.Math.Path.{refl}
-use Rattle.std.proofs.Common.{subst}
 use Rattle.std.proofs.Math.Decide.{dec_le}
 use native.Mathlib.Omega.{arith}
 use Rattle.std.proofs.Math.ListN.{length}
@@ -13,13 +12,6 @@ use Rattle.dag.specs.CaseLaws.{below_suc_elim}
 use Rattle.dag.specs.WellFormed.{Any, Fine, WellFormed}
 use Rattle.dag.specs.declared.NodeKind.{NodeKind}
 use Rattle.dag.specs.declared.NodeKind.TheVariants.{Input, Constant, Add, Sub, Mul, Neg}
-
--- what is known of x, said of what x is
-pub fine_as : (Low : QuadFelt → Type 0) (n : ℕ) {x y : NodeKind} → x ≡ y → Fine Low n x → Fine Low n y
-fine_as Low n e f = subst (λ (z : NodeKind). Fine Low n z) e f
-
-pub renamed_as : {x y z : NodeKind} (m : ℕ → ℕ) → x ≡ y → z ≡ rename m y → z ≡ rename m x
-renamed_as m e h = rw e h
 
 module _ (Low : QuadFelt → Type 0) where
   -- operands alone

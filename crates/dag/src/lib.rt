@@ -212,9 +212,9 @@ pub fn words_at(list: &[u64], i: usize) -> Words
     ensures { result ≡ Nodes.words_at (interleaved list.now) i }
 {
     Words {
-        tag: list[3 * i],
-        first: list[3 * i + 1],
-        second: list[3 * i + 2],
+        tag: list[RECORD_WORDS * i],
+        first: list[RECORD_WORDS * i + 1],
+        second: list[RECORD_WORDS * i + 2],
     }
 }
 
@@ -314,9 +314,9 @@ pub fn put_words(list: &mut [u64], i: usize, w: Words)
     requires { i < (interleaved list.old).room }
     ensures { list.new ≡ Store.put_words list.old i w.tag w.first w.second }
 {
-    list[3 * i] = w.tag;
-    list[3 * i + 1] = w.first;
-    list[3 * i + 2] = w.second;
+    list[RECORD_WORDS * i] = w.tag;
+    list[RECORD_WORDS * i + 1] = w.first;
+    list[RECORD_WORDS * i + 2] = w.second;
 }
 
 // Writes the record x at place i.
@@ -463,7 +463,8 @@ pub fn copy_records(from: &[u64], n: usize, to: &mut [u64])
     requires { (n ≤ (interleaved from.now).room) × (n ≤ (interleaved to.old).room) }
     ensures { to.new ≡ Store.copied_records from.now to.old n }
 {
-    to[..3 * n].copy_from_slice(&from[..3 * n]);
+    let words = RECORD_WORDS * n;
+    to[..words].copy_from_slice(&from[..words]);
 }
 
 // Fills a store with blanks from a place on.
@@ -480,7 +481,7 @@ pub fn blank_records(store: &mut [u64], n: usize)
     requires { n ≤ (interleaved store.old).room }
     ensures { store.new ≡ Store.blanked_behind store.old n }
 {
-    blank_from(store, 3 * n);
+    blank_from(store, RECORD_WORDS * n);
 }
 
 // Writes the first n records of a store to another, blanks behind them.

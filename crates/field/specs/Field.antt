@@ -77,10 +77,6 @@ pub zero_second : (prime : Prime) → 0 < second_below prime
 zero_second Goldilocks = lit< tt
 zero_second BabyBear = lit< tt
 
-pub second_below_lem : (prime : Prime) (c : ℕ) → c < second_below prime → c < modulus_of prime
-second_below_lem Goldilocks c h = h
-second_below_lem BabyBear c h = omega arith
-
 -- The laws hold of the residues modulo any number above 1, of the pairs over any ring, and of their first parts.
 pub of_residues : (prime : Prime) → Laws (felt prime)
 unfolding felt

@@ -255,10 +255,11 @@ pub fn pow(prime: Prime, base: u64, exponent: u64) -> u64
     let mut result: u64 = 1;
     let mut square = base;
     let mut left = exponent;
+    // A while: the exponent falls by half.
     while 0 < left {
         result = times_odd(prime, result, square, left);
         square = mul(prime, square, square);
-        left = left / 2;
+        left /= 2;
     }
     result
 }

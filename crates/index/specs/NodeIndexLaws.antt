@@ -116,19 +116,19 @@ module _ (s : View) (n : ℕ) (links : List ℕ) (v : Words) where
     lookup_below x e k h = lookup_whole m s k x v (sound_first m s n k h sound) e
 
     -- what a lookup of x seeks along its bucket, by a test and a search of which this is known
-    pub seeks : (x : NodeKind) → v ≡ three x → (k h : ℕ) → k ≡ bucket_of (half links) h → h ≡ hash v.tag v.first v.second
+    pub seeks : (x : NodeKind) → v ≡ three x → (k : ℕ) → k ≡ bucket_of (half links) (hash v.tag v.first v.second)
         → (may_test : ℕ → Type 0) (tested : ℕ → Bool → Type 0) (may_search : ℕ → Type 0) (searched : ℕ → Option ℕ → Type 0)
         → ((i : ℕ) → i < s.room → may_test i) → ((i : ℕ) (b : Bool) → tested i b → b ≡ words_are s i v)
         → ((i : ℕ) → Sound m s i → may_search i) → ((i : ℕ) (r : Option ℕ) → searched i r → r ≡ lookup (nodes s i) x i)
         → Sought here n links k may_test tested may_search searched
     unfolding here
-    seeks x e k h ek eh may_test tested may_search searched test test_is search_at search_is =
+    seeks x e k ek may_test tested may_search searched test test_is search_at search_is =
         record {
           bucket = bucket;
           indexed = by_bucket;
-          inside = rw (ek, eh) (node_inside (half links) v.tag v.first v.second d.usable.some);
+          inside = rw ek (node_inside (half links) v.tag v.first v.second d.usable.some);
           few = omega (arith, d.room, length_nodes s n);
-          only = λ i j f. only i j f ∙ sym (ek ∙ ap (bucket_of (half links)) eh);
+          only = λ i j f. only i j f ∙ sym ek;
           test = λ i j. test i (omega (arith, sound.room));
           test_is = λ i b j p. test_is i b p;
           search_at = λ i j. search_at i (sound_first m s n i j sound);

@@ -37,6 +37,14 @@ pub fn bucket_of(buckets: usize, h: u64) -> usize
     (h * buckets as u64 / BASE) as usize
 }
 
+// The bucket of three words among those of an index.
+pub fn bucket(links: &[u64], w: Words) -> usize
+    requires { Index.Usable links.now }
+    ensures { (result ≡ Index.bucket_of (Index.half links.now) (Index.hash w.tag w.first w.second)) × (result < Index.half links.now) }
+{
+    bucket_of(links.len() / 2, hash(w))
+}
+
 // Empties an index.
 pub fn clear(links: &mut [u64])
     requires { Index.Usable links.old }
@@ -59,7 +67,7 @@ pub fn note(links: &mut [u64], n: usize, w: Words)
     requires { Index.Usable links.old × (n < Index.half links.old) }
     ensures { links.new ≡ Index.noted links.old n (Index.bucket_of (Index.half links.old) (Index.hash w.tag w.first w.second)) }
 {
-    let k = bucket_of(links.len() / 2, hash(w));
+    let k = bucket(links, w);
     link(links, n, k);
 }
 
@@ -107,7 +115,7 @@ pub fn find(list: &[u64], n: usize, links: &[u64], x: NodeKind) -> Option<usize>
     let wanted = Words::from(x);
     walk(
         links,
-        bucket_of(links.len() / 2, hash(wanted)),
+        bucket(links, wanted),
         |i| dag::words_at(list, i) == wanted,
         |below| dag::lookup(list, below, x),
     )

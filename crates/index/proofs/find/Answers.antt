@@ -11,7 +11,7 @@ walk-requires c = (
   _,
   _,
   seeks (interleaved c.args.list.now) c.args.n c.args.links.now c.from-wanted.result c.requires.0.0 c.requires.0.1 c.requires.1 c.args.x c.from-wanted.ensures
-      _ _ c.bucket_of.ensures.0 c.hash.ensures.0 _ _ _ _
+      _ c.bucket.ensures.0 _ _ _ _
       (λ i room. search rules) (λ i b p. search rules) (λ i sound. search rules) (λ i r p. search rules),
 )
 
@@ -20,7 +20,7 @@ unfolding words_are
 returns c =
     c.walk.ensures _ _
     (seeks (interleaved c.args.list.now) c.args.n c.args.links.now c.from-wanted.result c.requires.0.0 c.requires.0.1 c.requires.1 c.args.x c.from-wanted.ensures
-    _ _ c.bucket_of.ensures.0 c.hash.ensures.0 _ _ _ _
+    _ c.bucket.ensures.0 _ _ _ _
     (λ i room. search rules) (λ i b p. search rules) (λ i sound. search rules) (λ i r p. search rules))
     ∙ lookup_below (interleaved c.args.list.now) c.args.n c.args.links.now c.from-wanted.result c.requires.0.0 c.requires.0.1 c.requires.1 c.args.x c.from-wanted.ensures
     c.args.n (omega arith)
