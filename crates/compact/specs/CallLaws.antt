@@ -6,9 +6,9 @@ use Rattle.std.proofs.Math.ListN.{get_or}
 use Rattle.std.proofs.lemmas.List.{length-replicate}
 use Rattle.field.specs.Fields.{Field, Within}
 use Rattle.dag.specs.View.{View, interleaved}
-use Rattle.dag.specs.Nodes.{most_records, nodes}
+use Rattle.dag.specs.Nodes.{nodes}
 use Rattle.dag.specs.NodeLaws.{length_nodes}
-use Rattle.dag.specs.Roots.{roots_of, roots_from}
+use Rattle.dag.specs.Roots.{roots_of, roots_from, Inside}
 use Rattle.dag.specs.RootLaws.{roots_from_lem, roots_agree, inside_one}
 use Rattle.dag.specs.Check.{list_check}
 use Rattle.dag.specs.CheckLaws.{then_good}
@@ -107,10 +107,8 @@ module _ (field : Field) where
         roots_are : roots_of roots ≡ root ∷ []
         roots_are = rw (q, roots_from_lem (root ∷ []))
 
-        pub may_compact : Markable s n roots most_records × (length (compacted s n (roots_of roots)).list ≤ (interleaved result).room)
-        may_compact =
-            let h = rooted field.bounds s n root tests.0 in
-            (record { sound = (field.bounds, h.list.sound); inside = rw q (inside_one n root h.inside); fits = h.list.most }, rw roots_are room)
+        pub may_compact : Inside n roots × (length (compacted s n (roots_of roots)).list ≤ (interleaved result).room)
+        may_compact = (rw q (inside_one n root (rooted field.bounds s n root tests.0).inside), rw roots_are room)
 
         module _ (k : Kept) (f : k ≡ kept_of (compacted s n (roots_of roots))) where
           pub answer_done : Ok k ≡ compact_answer field s n root (interleaved result).room

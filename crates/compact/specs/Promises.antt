@@ -1,16 +1,22 @@
 -- What the functions of compaction ask of their stores.
 use Rattle.std.specs.Prelude.{ℕ, ◌≤◌, ◌<◌, Bool, false, List, ◌++◌, ◌≡◌, get_or, length, drop, replicate}
-use Rattle.dag.specs.View.{View}
+use Rattle.dag.specs.View.{View, interleaved}
 use Rattle.dag.specs.Nodes.{nodes}
 use Rattle.dag.specs.Roots.{roots_of, Inside}
 use Rattle.dag.specs.Store.{Records}
 use Rattle.dag.specs.declared.Roots.{Roots}
-use Rattle.compact.specs.Compact.{rank, ranks}
+use Rattle.dag.specs.declared.Dag.{Dag}
+use Rattle.compact.specs.Calls.{compacted}
+use Rattle.compact.specs.Compact.{rank, ranks, Rooted}
 use Rattle.compact.specs.Reach.{marked, sweep, ◌∈◌}
 
 -- a mark for each record of a round's list
 abbrev pub most_marks : ℕ
 most_marks = 8192
+
+-- a list, compacted to what the roots reach
+abbrev pub reached : Dag → Roots → Rooted
+reached dag roots = compacted (interleaved dag.list.now) dag.n (roots_of roots)
 
 -- no record is marked yet
 abbrev pub Unmarked : List Bool → Type 0

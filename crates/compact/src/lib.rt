@@ -1,18 +1,19 @@
 // `AceDag::compact`: reachability marks, new places, Compact.
 #![tactic(auto)]
 
-ghost use Rattle.std.specs.Prelude.{◌≡◌, ◌++◌, ◌≤◌, length, drop};
+ghost use Rattle.std.specs.Prelude.{◌≡◌, ◌++◌, ◌≤◌, length, drop, IfOk};
 ghost use Rattle.field.specs.Fields.{field_of};
 ghost use Rattle.dag.specs.View.{interleaved};
 ghost use Rattle.dag.specs.Nodes as Nodes;
+ghost use Rattle.dag.specs.Refusals.{outcome};
 ghost use Rattle.dag.specs.Roots.{roots_of, Inside};
 ghost use Rattle.compact.specs.Reach as Reach;
 ghost use Rattle.compact.specs.Compact as Places;
 ghost use Rattle.dag.specs.Store.{written};
-ghost use Rattle.compact.specs.Promises.{most_marks, Unmarked, Markable, Numbered, Writing, AllBelow};
+ghost use Rattle.compact.specs.Promises.{most_marks, reached, Unmarked, Markable, Numbered, Writing, AllBelow};
 ghost use Rattle.compact.specs.Calls as Calls;
 
-use dag::{FEW_RECORDS, MOST_RECORDS, NodeKind, Refusal, Roots};
+use dag::{Dag, FEW_RECORDS, MOST_RECORDS, NodeKind, Refusal, Roots};
 use field::Prime;
 
 // The most marks: one for each record of a round's list.
@@ -125,52 +126,49 @@ pub fn write_numbered(
 
 // Writes what the roots reach, renamed, to the start of the result store; at most so many records.
 #[tactic(auto, unfolding(crate::specs::Calls::kept_of))]
-fn compact_within<const RECORDS: usize>(
-    list: &[u64],
-    n: usize,
-    roots: Roots,
-    res: &mut [u64],
-) -> Kept
-    requires { Markable (interleaved list.now) n roots most_marks × (n ≤ RECORDS) × (RECORDS ≤ Nodes.most_records) × (length (Calls.compacted (interleaved list.now) n (roots_of roots)).list ≤ (interleaved res.old).room) }
-    ensures value { result ≡ Calls.kept_of (Calls.compacted (interleaved list.now) n (roots_of roots)) }
-    ensures res_after { res.new ≡ written res.old (Calls.compacted (interleaved list.now) n (roots_of roots)).list }
+fn compact_within<const RECORDS: usize>(dag: Dag, roots: Roots, res: &mut [u64]) -> Kept
+    requires { Inside dag.n roots × (dag.n ≤ RECORDS) × (RECORDS ≤ Nodes.most_records) × (length (reached dag roots).list ≤ (interleaved res.old).room) }
+    ensures value { result ≡ Calls.kept_of (reached dag.entry roots) }
+    ensures res_after { res.new ≡ written res.old (reached dag.entry roots).list }
 {
     let mut reachable = [false; MOST_MARKS];
     let mut remap = [0u64; RECORDS];
-    let count = number_reachable(list, n, roots, &mut reachable, &mut remap);
+    let count = number_reachable(dag.list, dag.n, roots, &mut reachable, &mut remap);
     Kept {
         count,
-        roots: write_numbered(list, n, roots, &reachable, &remap, res),
+        roots: write_numbered(dag.list, dag.n, roots, &reachable, &remap, res),
     }
 }
 
 // The same, with room for the new places by the list's length.
-fn compact_sized(list: &[u64], n: usize, roots: Roots, res: &mut [u64]) -> Kept
-    requires markable { Markable (interleaved list.now) n roots Nodes.most_records }
-    requires roots_len_bound { length (Calls.compacted (interleaved list.now) n (roots_of roots)).list ≤ (interleaved res.old).room }
-    ensures value { result ≡ Calls.kept_of (Calls.compacted (interleaved list.now) n (roots_of roots)) }
-    ensures res_after { res.new ≡ written res.old (Calls.compacted (interleaved list.now) n (roots_of roots)).list }
+fn compact_sized(dag: Dag, roots: Roots, res: &mut [u64]) -> Kept
+    requires inside { Inside dag.n roots }
+    requires roots_len_bound { length (reached dag roots).list ≤ (interleaved res.old).room }
+    ensures value { result ≡ Calls.kept_of (reached dag.entry roots) }
+    ensures res_after { res.new ≡ written res.old (reached dag.entry roots).list }
 {
-    if n <= FEW_RECORDS {
-        compact_within::<FEW_RECORDS>(list, n, roots, res)
+    if dag.n <= FEW_RECORDS {
+        compact_within::<FEW_RECORDS>(dag, roots, res)
     } else {
-        compact_within::<MOST_RECORDS>(list, n, roots, res)
+        compact_within::<MOST_RECORDS>(dag, roots, res)
     }
 }
 
-// Compact's tests.
+// Compact's tests: the list, if it passes them.
 #[tactic(auto, unfolding(crate::specs::Calls::compact_check))]
-fn compact_check(
+fn compact_check<'a>(
     prime: Prime,
-    list: &[u64],
+    list: &'a [u64],
     n: usize,
     root: usize,
     result_room: usize,
-) -> Result<(), Refusal>
-    ensures { result ≡ Calls.compact_check (field_of prime) (interleaved list.now) n root result_room }
+) -> Result<Dag<'a>, Refusal>
+    ensures checked { outcome result ≡ Calls.compact_check (field_of prime) (interleaved list.now) n root result_room }
+    ensures held { IfOk result (λ dag. (dag.prime ≡ prime) × (dag.list.now ≡ list.now) × (dag.n ≡ n)) }
 {
-    dag::list_check(prime, list, n, root)?;
-    dag::room_check(n, result_room)
+    let dag = Dag::new(prime, list, n, root)?;
+    dag::room_check(n, result_room)?;
+    Ok(dag)
 }
 
 // Compact: the records that the root reaches, in order, into the result store.
@@ -184,8 +182,8 @@ pub fn compact(
     ensures answer { result ≡ Calls.compact_answer (field_of prime) (interleaved list.now) n root (interleaved res.old).room }
     ensures store { res.new ≡ Calls.compact_result (field_of prime) (interleaved list.now) n root res.old }
 {
-    compact_check(prime, list, n, root, dag::room(res))?;
-    let kept = compact_sized(list, n, Roots::one(root), res);
+    let dag = compact_check(prime, list, n, root, dag::room(res))?;
+    let kept = compact_sized(dag, Roots::one(root), res);
     dag::blank_records(res, kept.count);
     Ok(kept)
 }

@@ -3,7 +3,7 @@ use Rattle.std.specs.Prelude.{ℕ, zero, suc, pred, ◌+◌, ◌*◌, ◌-◌, �
 use Rattle.std.proofs.Math.Path.{refl, ap}
 use Rattle.std.proofs.Common.{sym, ◌∙◌, ap₂, add-one, arith}
 use Rattle.std.proofs.Math.Nat.{sub-zero}
-use Rattle.field.specs.Fields.{Field, element_laws}
+use Rattle.field.specs.Fields.{Field, field_of, element_laws}
 use Rattle.dag.specs.View.{View, interleaved}
 use Rattle.dag.specs.Nodes.{most_records, nodes, blank}
 use Rattle.dag.specs.NodeLaws.{length_nodes}
@@ -15,6 +15,7 @@ use Rattle.dag.specs.CheckLaws.{then_good}
 use Rattle.dag.specs.PassLaws.{room_enough, rooted}
 use Rattle.dag.specs.Store.{Sound, written, stored, copied_records, blanked_behind}
 use Rattle.dag.specs.declared.NodeKind.{NodeKind}
+use Rattle.dag.specs.declared.Dag.{Dag}
 use Rattle.dag.specs.declared.Roots.{Roots}
 use Rattle.dag.specs.declared.Refusal.{Refusal}
 use Rattle.compact.specs.declared.Kept.{Kept}
@@ -33,6 +34,10 @@ use Rattle.normalize.specs.declared.NormalEnd.{NormalEnd}
 well_rooted : (n : ℕ) (is : List ℕ) → AllBelow n is → 0 < length is → length is ≤ most_roots → WellRooted n (roots_from is)
 unfolding roots_from
 well_rooted n is low some few = record { inside = inside_from n is few (below_at n is low); some = some; exact = ap roots_from (roots_from_lem is) }
+
+-- a list that passed its tests, with its roots, is ready for the rounds
+pub dag_ready : (dag : Dag) {roots : Roots} {k : ℕ} → WellRooted dag.n roots → 2 * dag.n ≤ k → Ready (field_of dag.prime) dag.list.now dag.n roots k
+dag_ready dag rooted room = record { sound = dag.sound; few = dag.most; rooted = rooted; room = room }
 
 module _ (field : Field) where
   -- a round that is kept
@@ -147,14 +152,14 @@ module _ (field : Field) where
       }
 
   -- the whole list copied to the result store, which is then ready for the rounds
-  module _ {s : List ℕ} {n : ℕ} {roots : Roots} {result_room work_room : ℕ} (h : Passed field s n roots result_room work_room) (d : List ℕ) {t : List ℕ} (e : t ≡ copied_records s d n) where
+  module _ {s : List ℕ} {n : ℕ} {roots : Roots} {work_room : ℕ} (h : Ready field s n roots work_room) (d : List ℕ) {t : List ℕ} (e : t ≡ copied_records s d n) where
     is_written : t ≡ written d (nodes (interleaved s) n)
     is_written = e ∙ copied_written field.bounds s d n h.sound
 
     pub copied_ready : Ready field t n roots work_room
     copied_ready =
         let sound : Sound field.bounds (interleaved t) n = rw is_written (rw (length_nodes (interleaved s) n) at (sound_written field.bounds d (nodes (interleaved s) n) (list_fine field (interleaved s) n h.sound))) in
-        record { sound = sound; few = h.few; rooted = h.rooted; room = h.work_room_lem }
+        record { sound = sound; few = h.few; rooted = h.rooted; room = h.room }
 
     copied_normalized : normalized field (interleaved t) n (roots_of roots) ≡ normalized field (interleaved s) n (roots_of roots)
     unfolding normalized

@@ -105,7 +105,7 @@ module _ (field : Field) where
     pub roots_are : e.roots ≡ roots_from (normalized field (interleaved s) n (roots_of roots)).roots
     pub rounds_are : e.rounds ≡ (normalized field (interleaved s) n (roots_of roots)).rounds
 
-  -- what Normalise asks once its tests have passed
+  -- what is known once Normalise's tests have passed
   pub record Passed (s : List ℕ) (n : ℕ) (roots : Roots) (result_room work_room : ℕ) : Type 0 where
     pub sound : Sound field.bounds (interleaved s) n
     pub few : n ≤ most_records

@@ -1,11 +1,12 @@
 // normalize.rs: a round, the rounds, Normalise.
 #![tactic(auto)]
 
-ghost use Rattle.std.specs.Prelude.{◌≡◌, ℕ, ◌*◌, ◌≤◌, length};
+ghost use Rattle.std.specs.Prelude.{◌≡◌, ℕ, ◌*◌, ◌≤◌, length, IfOk};
 ghost use Rattle.field.specs.Fields.{field_of};
 ghost use Rattle.field.specs.Field.{elements};
 ghost use Rattle.dag.specs.View.{interleaved};
 ghost use Rattle.dag.specs.Nodes as Nodes;
+ghost use Rattle.dag.specs.Refusals.{outcome};
 ghost use Rattle.index.specs.Index.{half, Usable, NodeIndex};
 ghost use Rattle.builder.specs.Promises.{SameStores};
 ghost use Rattle.plan.specs.Promises.{Standing};
@@ -15,7 +16,7 @@ ghost use Rattle.normalize.specs.Calls as Calls;
 
 use builder::DagBuilder;
 use compact::Kept;
-use dag::{FEW_RECORDS, MOST_RECORDS, NodeKind, Refusal, Roots};
+use dag::{Dag, FEW_RECORDS, MOST_RECORDS, NodeKind, Refusal, Roots};
 use field::Prime;
 use plan::{Rewrite, Round};
 
@@ -179,37 +180,32 @@ fn normalize_sized(
     }
 }
 
-// Normalise's tests.
+// Normalise's tests: the list, if it passes them.
 #[tactic(auto, unfolding(crate::specs::Calls::normalize_check))]
-fn normalize_check(
+fn normalize_check<'a>(
     prime: Prime,
-    list: &[u64],
+    list: &'a [u64],
     n: usize,
     root: usize,
     result_room: usize,
     work_room: usize,
-) -> Result<(), Refusal>
-    ensures { result ≡ Calls.normalize_check (field_of prime) (interleaved list.now) n root result_room work_room }
+) -> Result<Dag<'a>, Refusal>
+    ensures checked { outcome result ≡ Calls.normalize_check (field_of prime) (interleaved list.now) n root result_room work_room }
+    ensures held { IfOk result (λ dag. (dag.prime ≡ prime) × (dag.list.now ≡ list.now) × (dag.n ≡ n)) }
 {
-    dag::list_check(prime, list, n, root)?;
+    let dag = Dag::new(prime, list, n, root)?;
     dag::room_check(n, result_room)?;
-    dag::room_check(2 * n, work_room)
+    dag::room_check(2 * n, work_room)?;
+    Ok(dag)
 }
 
 // Normalise past its tests.
-fn normalize_ready(
-    prime: Prime,
-    list: &[u64],
-    n: usize,
-    roots: Roots,
-    res: &mut [u64],
-    work: &mut [u64],
-) -> NormalEnd
-    requires { Promises.Passed (field_of prime) list.now n roots (interleaved res.old).room (interleaved work.old).room }
-    ensures { Promises.Finished (field_of prime) list.now n roots res.old work.old result res.new work.new }
+fn normalize_ready(dag: Dag, roots: Roots, res: &mut [u64], work: &mut [u64]) -> NormalEnd
+    requires { Promises.WellRooted dag.n roots × (dag.n ≤ (interleaved res.old).room) × (2 * dag.n ≤ (interleaved work.old).room) }
+    ensures { Promises.Finished (field_of dag.entry.prime) dag.entry.list.now dag.entry.n roots res.old work.old result res.new work.new }
 {
-    dag::copy_records(list, n, res);
-    let end = normalize_sized(prime, n, roots, res, work);
+    dag::copy_records(dag.list, dag.n, res);
+    let end = normalize_sized(dag.prime, dag.n, roots, res, work);
     dag::blank_records(res, end.count);
     dag::blank_from(work, 0);
     end
@@ -228,6 +224,6 @@ pub fn normalize(
     ensures res { res.new ≡ Calls.normalize_result (field_of prime) (interleaved list.now) n root res.old (interleaved work.old).room }
     ensures work { work.new ≡ Calls.normalize_work (field_of prime) (interleaved list.now) n root (interleaved res.old).room work.old }
 {
-    normalize_check(prime, list, n, root, dag::room(res), dag::room(work))?;
-    Ok(normalize_ready(prime, list, n, Roots::one(root), res, work))
+    let dag = normalize_check(prime, list, n, root, dag::room(res), dag::room(work))?;
+    Ok(normalize_ready(dag, Roots::one(root), res, work))
 }

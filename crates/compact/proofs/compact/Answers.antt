@@ -1,14 +1,15 @@
+use Rattle.std.proofs.Common.{sym, ◌∙◌, ap}
 use Rattle.std.proofs.lemmas.Result.{err_from_is_err_and}
 use Rattle.field.specs.Fields.{field_of}
 use Rattle.dag.specs.View.{interleaved}
-use Rattle.dag.specs.BranchLaws.{told}
+use Rattle.dag.specs.Refusals.{outcome}
 use Rattle.compact.specs.CallLaws.{answer_refused, result_refused, may_compact, may_blank, answer_done, result_done}
 use Rattle.compact.proofs.compact.Goals as goal
 
-pub returns-in_err-compact_check : goal.returns-in_err-compact_check
-returns-in_err-compact_check c =
+pub returns-in_err-dag : goal.returns-in_err-dag
+returns-in_err-dag c =
     let p = err_from_is_err_and c.from_residual.result c.from_residual.ensures.1 in
-    let bad = rw c.room.ensures at (told c.compact_check.ensures c.in_err-compact_check.was) in
+    let bad = rw c.room.ensures at (sym c.compact_check.ensures.checked ∙ ap outcome c.in_err-dag.was) in
     record {
       answer = rw (p.1, p.2) (answer_refused (field_of c.args.prime) (interleaved c.args.list.now) c.args.n c.args.root c.args.res.now _ bad);
       store = result_refused (field_of c.args.prime) (interleaved c.args.list.now) c.args.n c.args.root c.args.res.now _ bad;
@@ -16,22 +17,24 @@ returns-in_err-compact_check c =
 
 pub compact_sized-kept-requires : goal.compact_sized-kept-requires
 compact_sized-kept-requires c =
-    let good = rw c.room.ensures at (told c.compact_check.ensures c.in_ok-compact_check.was) in
+    let same = c.in_ok-dag.ensures.held in
+    let good = rw c.room.ensures at (sym c.compact_check.ensures.checked ∙ ap outcome c.in_ok-dag.was) in
     let both = may_compact (field_of c.args.prime) (interleaved c.args.list.now) c.args.n c.args.root c.args.res.now good _ c.one.ensures in
-    record { markable = both.0; roots_len_bound = both.1 }
+    rw (same.1, same.2) (record { inside = both.0; roots_len_bound = both.1 })
 
 pub blank_records-requires : goal.blank_records-requires
 blank_records-requires c =
-    let good = rw c.room.ensures at (told c.compact_check.ensures c.in_ok-compact_check.was) in
-    may_blank (field_of c.args.prime) (interleaved c.args.list.now) c.args.n c.args.root c.args.res.now good _ c.one.ensures _
-    c.compact_sized-kept.ensures.value _ c.compact_sized-kept.ensures.res_after
+    let same = c.in_ok-dag.ensures.held in
+    let good = rw c.room.ensures at (sym c.compact_check.ensures.checked ∙ ap outcome c.in_ok-dag.was) in
+    let kept = rw (same.1, same.2) at c.compact_sized-kept.ensures in
+    may_blank (field_of c.args.prime) (interleaved c.args.list.now) c.args.n c.args.root c.args.res.now good _ c.one.ensures _ kept.value _ kept.res_after
 
 pub returns : goal.returns
 returns c =
-    let good = rw c.room.ensures at (told c.compact_check.ensures c.in_ok-compact_check.was) in
+    let same = c.in_ok-dag.ensures.held in
+    let good = rw c.room.ensures at (sym c.compact_check.ensures.checked ∙ ap outcome c.in_ok-dag.was) in
+    let kept = rw (same.1, same.2) at c.compact_sized-kept.ensures in
     record {
-      answer = answer_done (field_of c.args.prime) (interleaved c.args.list.now) c.args.n c.args.root c.args.res.now good _ c.one.ensures _
-          c.compact_sized-kept.ensures.value;
-      store = result_done (field_of c.args.prime) (interleaved c.args.list.now) c.args.n c.args.root c.args.res.now good _ c.one.ensures _
-          c.compact_sized-kept.ensures.value _ c.compact_sized-kept.ensures.res_after _ c.blank_records.ensures;
+      answer = answer_done (field_of c.args.prime) (interleaved c.args.list.now) c.args.n c.args.root c.args.res.now good _ c.one.ensures _ kept.value;
+      store = result_done (field_of c.args.prime) (interleaved c.args.list.now) c.args.n c.args.root c.args.res.now good _ c.one.ensures _ kept.value _ kept.res_after _ c.blank_records.ensures;
     }
