@@ -1,5 +1,4 @@
 use Rattle.std.proofs.Common.{rules, ◌≡◌, ◌∙◌, ap, length, sym, arith}
-use Rattle.dag.specs.View.{interleaved}
 use Rattle.dag.specs.ViewLaws.{same_room}
 use Rattle.dag.specs.Nodes as Nodes
 use Rattle.dag.specs.NodeLaws.{at_nodes}
@@ -19,7 +18,7 @@ loop-i-init c =
 
 pub renamed-x-requires : goal.renamed-x-requires
 renamed-x-requires c =
-    let w = list_fine (field_of c.args.dag.prime) (interleaved c.args.dag.list.now) c.args.dag.n c.args.dag.sound in
+    let w = list_fine (field_of c.args.dag.prime) _ _ c.args.dag.sound in
     fine_any (Below c.args.dag.prime) _ _ (turn_fine (field_of c.args.dag.prime) _ w c.loop-i.i _ _
     (omega (arith, c.requires.1, c.loop-i.auto.map, c.loop-i-test.true))
     (c.node.ensures ∙ sym (at_nodes _ _ _ c.loop-i-test.true)))
@@ -28,7 +27,7 @@ pub push-requires : goal.push-requires
 push-requires c =
     let v = c.loop-i.invariant in
     let e = c.new-builder.ensures.empty in
-    let w = list_fine (field_of c.args.dag.prime) (interleaved c.args.dag.list.now) c.args.dag.n c.args.dag.sound in
+    let w = list_fine (field_of c.args.dag.prime) _ _ c.args.dag.sound in
     let h = turn_short (field_of c.args.dag.prime) _ w v.holds in (
       rw (v.same.prime, e.prime_is, c.renamed-x.ensures)
           (turn_request (field_of c.args.dag.prime) _ w v.holds (c.node.ensures ∙ sym (at_nodes _ _ _ c.loop-i-test.true))),
@@ -43,7 +42,7 @@ pub loop-i-preserved : goal.loop-i-preserved
 loop-i-preserved c =
     let v = c.loop-i.invariant in
     let e = c.push.ensures in
-    let w = list_fine (field_of c.args.dag.prime) (interleaved c.args.dag.list.now) c.args.dag.n c.args.dag.sound in
+    let w = list_fine (field_of c.args.dag.prime) _ _ c.args.dag.sound in
     record {
       same = same_still _ _ _ v.same e.same;
       holds = turn_holds (field_of c.args.dag.prime) _ w v.holds (c.node.ensures ∙ sym (at_nodes _ _ _ c.loop-i-test.true))
