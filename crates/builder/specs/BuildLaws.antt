@@ -25,18 +25,16 @@ use Rattle.builder.specs.Promises.{read, Holds, Ready, Finished}
 use Rattle.builder.specs.declared.BuiltDag.{BuiltDag}
 
 module _ (field : Field) where
-  pub ready : (s : View) (n root result_room map_words : ℕ) → build_check field s n root result_room map_words ≡ Ok tt → Ready field s n (roots_from (root ∷ [])) result_room map_words
+  pub ready : (s : View) (n root result_room map_words : ℕ) → build_check field s n root result_room map_words ≡ Ok tt → Ready n (roots_from (root ∷ [])) result_room map_words
   unfolding build_check build_stores
   ready s n root result_room map_words e =
       let both = then_good (list_check field.bounds s n root) (build_stores n result_room map_words) e in
       let list = rooted field.bounds s n root both.0 in
       let stores = then_good (room_check n result_room) (room_check n map_words) both.1 in
       record {
-        sound = list.list.sound;
         result_room_lem = room_enough n result_room stores.0;
         map_room = room_enough n map_words stores.1;
         inside = inside_one n root list.inside;
-        most = list.list.most;
       }
 
   module _ (s : View) (n : ℕ) (roots : Roots) (result map : List ℕ) (sound : Sound field.bounds s n) (inside : Inside n roots) where

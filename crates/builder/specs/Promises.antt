@@ -2,21 +2,23 @@
 use Rattle.std.specs.Prelude.{ℕ, ◌+◌, ◌<◌, ◌≤◌, true, cond, ◌&&◌, eqb, Option, Some, None, Result, Ok, Err, List, [], ◌∷◌, ◌++◌, ◌≡◌, length, get_or, take}
 use mathlib.Core.List as Lists
 use Rattle.field.specs.Fields.{Field, Low}
+use Rattle.field.specs.Field.{elements}
 use Rattle.field.specs.declared.Prime.{Prime}
 use Rattle.field.specs.declared.QuadFelt.{QuadFelt}
 use Rattle.dag.specs.Store.{Sound, written, stored}
 use Rattle.dag.specs.Refusals.{unless_refused}
 use Rattle.dag.specs.View.{View, interleaved}
-use Rattle.dag.specs.Nodes.{first, second, nodes, most_records, filled}
+use Rattle.dag.specs.Nodes.{first, second, nodes, filled}
 use Rattle.dag.specs.Lookup.{lookup}
 use Rattle.dag.specs.Roots.{roots_of, roots_from, Inside}
 use Rattle.dag.specs.WellFormed.{Fine}
 use Rattle.index.specs.Index.{half, NodeIndex}
 use Rattle.dag.specs.declared.NodeKind.{NodeKind}
 use Rattle.dag.specs.declared.NodeKind.TheVariants.{Add, Mul}
+use Rattle.dag.specs.declared.Dag.{Dag}
 use Rattle.dag.specs.declared.Roots.{Roots}
 use Rattle.dag.specs.declared.Refusal.{Refusal}
-use Rattle.builder.specs.Steps.{is_constant, is_add, is_sub, element, outcome, Built, step, Replay, place_of}
+use Rattle.builder.specs.Steps.{is_constant, is_add, is_sub, element, outcome, Built, step, Replay, place_of, replay}
 use Rattle.builder.specs.Calls.{step_room_check}
 use Rattle.builder.specs.declared.Outcome.{Outcome}
 use Rattle.builder.specs.declared.Outcome.TheVariants.{Place, Node}
@@ -83,6 +85,16 @@ pub record Room (s : List ℕ) (n : ℕ) (links : List ℕ) : Type 0 where
 abbrev pub read : List ℕ → ℕ → ℕ
 read map j = get_or map j 0
 
+-- the replay of a list's requests
+abbrev pub replay_of : Dag → Replay
+replay_of dag = replay (elements dag.prime) (nodes (interleaved dag.list.now) dag.n) dag.n
+
+-- what Build's functions ask of n records, their roots, and the words of the result and the map
+pub record Ready (n : ℕ) (roots : Roots) (result_room map_words : ℕ) : Type 0 where
+  pub result_room_lem : n ≤ result_room
+  pub map_room : n ≤ map_words
+  pub inside : Inside n roots
+
 -- the answer and the stores of a replay r
 pub record Finished (r : Replay) (roots : Roots) (result map : List ℕ) (a : BuiltDag) (after places : List ℕ) : Type 0 where
   pub answer : a ≡ record { count = length r.list; roots = roots_from (Lists.map (place_of r) (roots_of roots)) }
@@ -132,14 +144,6 @@ module _ (field : Field) where
     pub sound : Sound field.bounds (interleaved result) count
     pub list_is : nodes (interleaved result) count ≡ r.list
     pub map_is : take i map ≡ r.map
-
-  -- what Build asks once its tests have passed
-  pub record Ready (s : View) (n : ℕ) (roots : Roots) (result_room map_words : ℕ) : Type 0 where
-    pub sound : Sound field.bounds s n
-    pub result_room_lem : n ≤ result_room
-    pub map_room : n ≤ map_words
-    pub inside : Inside n roots
-    pub most : n ≤ most_records
 
 -- a list that is built, over the same stores as before
 pub record SameStores (before after : DagBuilder) : Type 0 where

@@ -1,18 +1,19 @@
 // builder.rs: what a request comes to, interning, Step and Build.
 #![tactic(auto)]
 
-ghost use Rattle.std.specs.Prelude.{◌≡◌, ◌/◌, ◌<◌, ◌≤◌, length};
+ghost use Rattle.std.specs.Prelude.{◌≡◌, ◌/◌, ◌<◌, ◌≤◌, length, IfOk};
 ghost use Rattle.field.specs.Fields.{field_of};
 ghost use Rattle.field.specs.Field.{elements};
 ghost use Rattle.dag.specs.View.{interleaved};
 ghost use Rattle.dag.specs.Nodes as Nodes;
+ghost use Rattle.dag.specs.Refusals as Refusals;
 ghost use Rattle.dag.specs.Store as Store;
 ghost use Rattle.index.specs.Index.{half, Usable, noted, node_bucket, NodeIndex};
 ghost use Rattle.builder.specs.Steps as Steps;
 ghost use Rattle.builder.specs.Promises as Promises;
 ghost use Rattle.builder.specs.Calls as Calls;
 
-use dag::{NodeKind, Refusal, Roots, Words};
+use dag::{Dag, NodeKind, Refusal, Roots, Words};
 use field::{Prime, QuadFelt};
 
 // The links of a short list's index.
@@ -377,58 +378,51 @@ pub fn step(prime: Prime, list: &mut [u64], n: usize, words: Words) -> Result<En
 }
 
 // Replays the requests one after the other into an empty list; answers its count.
-fn replay(
-    prime: Prime,
-    list: &[u64],
-    n: usize,
-    res: &mut [u64],
-    map: &mut [u64],
-    links: &mut [u64],
-) -> usize
-    requires { Store.Sound (field_of prime).bounds (interleaved list.now) n × (n ≤ (interleaved res.old).room) × (n ≤ length map.old) × Usable links.old × (n ≤ half links.old) }
-    ensures { Promises.Holds (field_of prime) (Steps.replay (elements prime) (Nodes.nodes (interleaved list.now) n) n) n res.new map.new result }
+fn replay(dag: Dag, res: &mut [u64], map: &mut [u64], links: &mut [u64]) -> usize
+    requires { (dag.n ≤ (interleaved res.old).room) × (dag.n ≤ length map.old) × Usable links.old × (dag.n ≤ half links.old) }
+    ensures { let d = dag.entry in Promises.Holds (field_of d.prime) (Promises.replay_of d) d.n res.new map.new result }
 {
-    let mut builder = DagBuilder::new(prime, res, links);
-    for i in 0..n {
-        let x = dag::node_at(list, i).renamed(map);
+    let mut builder = DagBuilder::new(dag.prime, res, links);
+    for i in 0..dag.n {
+        let x = dag.node(i).renamed(map);
         map[i] = builder.push(x) as u64;
     }
     builder.count
 }
 
-// Build's tests.
+// Build's tests: the list, if they pass.
 #[tactic(auto, unfolding(crate::specs::Calls::build_check, crate::specs::Calls::build_stores))]
-fn build_check(
+fn build_check<'a>(
     prime: Prime,
-    list: &[u64],
+    list: &'a [u64],
     n: usize,
     root: usize,
     result_room: usize,
     map_words: usize,
-) -> Result<(), Refusal>
-    ensures { result ≡ Calls.build_check (field_of prime) (interleaved list.now) n root result_room map_words }
+) -> Result<Dag<'a>, Refusal>
+    ensures checked { Refusals.outcome result ≡ Calls.build_check (field_of prime) (interleaved list.now) n root result_room map_words }
+    ensures held { IfOk result (λ dag. (dag.prime ≡ prime) × (dag.list.now ≡ list.now) × (dag.n ≡ n)) }
 {
-    dag::list_check(prime, list, n, root)?;
+    let dag = Dag::new(prime, list, n, root)?;
     dag::room_check(n, result_room)?;
-    dag::room_check(n, map_words)
+    dag::room_check(n, map_words)?;
+    Ok(dag)
 }
 
 // Build past its tests, with an index of so many links.
 fn build_with<const LINKS: usize>(
-    prime: Prime,
-    list: &[u64],
-    n: usize,
+    dag: Dag,
     roots: Roots,
     res: &mut [u64],
     map: &mut [u64],
 ) -> BuiltDag
-    requires { Promises.Ready (field_of prime) (interleaved list.now) n roots (interleaved res.old).room (length map.old) × (2 ≤ LINKS) × (LINKS ≤ 8192) × (n ≤ LINKS / 2) }
-    ensures { Promises.Finished (Steps.replay (elements prime) (Nodes.nodes (interleaved list.now) n) n) roots res.old map.old result res.new map.new }
+    requires { Promises.Ready dag.n roots (interleaved res.old).room (length map.old) × (2 ≤ LINKS) × (LINKS ≤ 8192) × (dag.n ≤ LINKS / 2) }
+    ensures { Promises.Finished (Promises.replay_of dag.entry) roots res.old map.old result res.new map.new }
 {
     let mut links = [0u64; LINKS];
-    let count = replay(prime, list, n, res, map, &mut links);
+    let count = replay(dag, res, map, &mut links);
     dag::blank_records(res, count);
-    dag::blank_from(map, n);
+    dag::blank_from(map, dag.n);
     BuiltDag {
         count,
         roots: roots.renamed(map),
@@ -436,21 +430,14 @@ fn build_with<const LINKS: usize>(
 }
 
 // Build past its tests, with links for the list's length.
-fn build_sized(
-    prime: Prime,
-    list: &[u64],
-    n: usize,
-    roots: Roots,
-    res: &mut [u64],
-    map: &mut [u64],
-) -> BuiltDag
-    requires { Promises.Ready (field_of prime) (interleaved list.now) n roots (interleaved res.old).room (length map.old) }
-    ensures { Promises.Finished (Steps.replay (elements prime) (Nodes.nodes (interleaved list.now) n) n) roots res.old map.old result res.new map.new }
+fn build_sized(dag: Dag, roots: Roots, res: &mut [u64], map: &mut [u64]) -> BuiltDag
+    requires { Promises.Ready dag.n roots (interleaved res.old).room (length map.old) }
+    ensures { Promises.Finished (Promises.replay_of dag.entry) roots res.old map.old result res.new map.new }
 {
-    if n <= dag::FEW_RECORDS {
-        build_with::<FEW_LINKS>(prime, list, n, roots, res, map)
+    if dag.n <= dag::FEW_RECORDS {
+        build_with::<FEW_LINKS>(dag, roots, res, map)
     } else {
-        build_with::<MOST_LINKS>(prime, list, n, roots, res, map)
+        build_with::<MOST_LINKS>(dag, roots, res, map)
     }
 }
 
@@ -467,6 +454,6 @@ pub fn build(
     ensures res { res.new ≡ Calls.build_result (field_of prime) (interleaved list.now) n root res.old (length map.old) }
     ensures map { map.new ≡ Calls.build_map (field_of prime) (interleaved list.now) n root (interleaved res.old).room map.old }
 {
-    build_check(prime, list, n, root, dag::room(res), map.len())?;
-    Ok(build_sized(prime, list, n, Roots::one(root), res, map))
+    let dag = build_check(prime, list, n, root, dag::room(res), map.len())?;
+    Ok(build_sized(dag, Roots::one(root), res, map))
 }

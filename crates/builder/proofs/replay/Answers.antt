@@ -1,5 +1,4 @@
 use Rattle.std.proofs.Common.{rules, ◌≡◌, ◌∙◌, ap, length, sym, arith}
-use Rattle.dag.specs.View.{interleaved}
 use Rattle.dag.specs.ViewLaws.{same_room}
 use Rattle.dag.specs.Nodes as Nodes
 use Rattle.dag.specs.NodeLaws.{at_nodes}
@@ -19,23 +18,23 @@ loop-i-init c =
 
 pub renamed-x-requires : goal.renamed-x-requires
 renamed-x-requires c =
-    let w = list_fine (field_of c.args.prime) (interleaved c.args.list.now) c.args.n c.requires.0 in
-    fine_any (Below c.args.prime) _ _ (turn_fine (field_of c.args.prime) _ w c.loop-i.i _ _
-    (omega (arith, c.requires.2, c.loop-i.auto.map, c.loop-i-test.true))
-    (c.node_at.ensures ∙ sym (at_nodes _ _ _ c.loop-i-test.true)))
+    let w = list_fine (field_of c.args.dag.prime) _ _ c.args.dag.sound in
+    fine_any (Below c.args.dag.prime) _ _ (turn_fine (field_of c.args.dag.prime) _ w c.loop-i.i _ _
+    (omega (arith, c.requires.1, c.loop-i.auto.map, c.loop-i-test.true))
+    (c.node.ensures ∙ sym (at_nodes _ _ _ c.loop-i-test.true)))
 
 pub push-requires : goal.push-requires
 push-requires c =
     let v = c.loop-i.invariant in
     let e = c.new-builder.ensures.empty in
-    let w = list_fine (field_of c.args.prime) (interleaved c.args.list.now) c.args.n c.requires.0 in
-    let h = turn_short (field_of c.args.prime) _ w v.holds in (
+    let w = list_fine (field_of c.args.dag.prime) _ _ c.args.dag.sound in
+    let h = turn_short (field_of c.args.dag.prime) _ w v.holds in (
       rw (v.same.prime, e.prime_is, c.renamed-x.ensures)
-          (turn_request (field_of c.args.prime) _ w v.holds (c.node_at.ensures ∙ sym (at_nodes _ _ _ c.loop-i-test.true))),
+          (turn_request (field_of c.args.dag.prime) _ w v.holds (c.node.ensures ∙ sym (at_nodes _ _ _ c.loop-i-test.true))),
       record {
-        room = rw (same_room c.loop-i.builder.list.now c.args.res.now (v.same.list_words ∙ ap length e.list_is)) (omega (arith, h, c.requires.1, c.loop-i-test.true));
+        room = rw (same_room c.loop-i.builder.list.now c.args.res.now (v.same.list_words ∙ ap length e.list_is)) (omega (arith, h, c.requires.0, c.loop-i-test.true));
         index = v.index;
-        link_room = rw (v.same.link_words, e.link_words) (omega (arith, h, c.requires.4, c.loop-i-test.true));
+        link_room = rw (v.same.link_words, e.link_words) (omega (arith, h, c.requires.3, c.loop-i-test.true));
       },
     )
 
@@ -43,17 +42,17 @@ pub loop-i-preserved : goal.loop-i-preserved
 loop-i-preserved c =
     let v = c.loop-i.invariant in
     let e = c.push.ensures in
-    let w = list_fine (field_of c.args.prime) (interleaved c.args.list.now) c.args.n c.requires.0 in
+    let w = list_fine (field_of c.args.dag.prime) _ _ c.args.dag.sound in
     record {
       same = same_still _ _ _ v.same e.same;
-      holds = turn_holds (field_of c.args.prime) _ w v.holds (c.node_at.ensures ∙ sym (at_nodes _ _ _ c.loop-i-test.true))
+      holds = turn_holds (field_of c.args.dag.prime) _ w v.holds (c.node.ensures ∙ sym (at_nodes _ _ _ c.loop-i-test.true))
           (rw (v.same.prime, c.new-builder.ensures.empty.prime_is, c.renamed-x.ensures) at e.noted.pushed)
-          (omega (arith, c.requires.2, c.loop-i-test.true, c.loop-i.auto.map));
+          (omega (arith, c.requires.1, c.loop-i-test.true, c.loop-i.auto.map));
       index = e.noted.index;
     }
 
 pub returns : goal.returns
 returns c =
-    let e : c.loop-i.i ≡ c.args.n = omega arith in
+    let e : c.loop-i.i ≡ c.args.dag.n = omega arith in
     let h = rw e at c.loop-i.invariant.holds in
     search rules
