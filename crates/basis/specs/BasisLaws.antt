@@ -166,7 +166,7 @@ module _ (field : Field) where
 
 -- the sum of a class that is asked for
 pub class_long : (b : State) (p : Prime) → b.prime ≡ p → (c prefix suffix : List ℕ) (d v k sum : ℕ) → d ≡ offset (modulus (field_of p)) c → (v ≡ d → ⊥) → k ≡ (field_of p).coordinates.sub v d
-    → (t : Bool) → t ≡ eqb k (modulus (field_of p) - 1) → (minus : Bool) → not (beq t minus) ≡ false → {r : Refusal} → Overlong b (λ field. class_sum field c prefix suffix v) r → Overlong b (λ field. term_turn field c minus prefix suffix v sum) r
+    → (t : Bool) → t ≡ eqb k (modulus (field_of p) - 1) → (minus : Bool) → not (beq t minus) ≡ false → {s : State} {r : Refusal} → Overlong b (λ field. class_sum field c prefix suffix v) s r → Overlong b (λ field. term_turn field c minus prefix suffix v sum) s r
 unfolding add_class sub_class
 class_long b p e c prefix suffix d v k sum ed n ek t et false h q =
     long_like {m = λ field. add_class field c prefix suffix v sum} e (same_is (term_added (field_of p) c prefix suffix d v k sum ed n ek t et false h refl)) (long_first _ q)

@@ -43,7 +43,7 @@ module _ (b : PeriodicBuilder) (x : NodeKind) (fine : Fine (Low (field_of b.prim
       enter_long h =
           let l = nodes (interleaved b.list) b.count in
           let k = step_appended (field_of b.prime) (interleaved b.list) b.count x ∙ ap (appended l) (sym e ∙ q) in
-          record { told = record { reason = refl; long = omega (arith, ap (λ r. length r.list) k, length_snoc l y, length_nodes (interleaved b.list) b.count) } }
+          record { told = record { reason = refl; prime_is = refl; longer = omega arith; long = omega (arith, ap (λ r. length r.list) k, length_snoc l y, length_nodes (interleaved b.list) b.count) } }
 
       -- a new record, put and noted
       module _ (list links : List ℕ) (el : list ≡ put b.list b.count y) (ek : links ≡ noted b.links b.count (node_bucket (half b.links) y)) (room : b.count < (interleaved b.list).room) (link_room : b.count < half b.links) where

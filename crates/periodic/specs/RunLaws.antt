@@ -26,11 +26,11 @@ grows : {A : Type 0} (m : Builder A) (l : List NodeKind) → length l ≤ length
 grows m l = omega (arith, ap length (m.extends l).1, length-append l (m.extends l).0)
 
 -- a list that is too long stays so
-pub long_first : {A B : Type 0} {b : State} {m : Field → Builder A} (f : Field → A → Builder B) {r : Refusal} → Overlong b m r → Overlong b (λ field. m field >>= f field) r
+pub long_first : {A B : Type 0} {b : State} {m : Field → Builder A} (f : Field → A → Builder B) {s : State} {r : Refusal} → Overlong b m s r → Overlong b (λ field. m field >>= f field) s r
 unfolding ◌>>=◌
 long_first {b = b} {m = m} f d =
     let l = (m (field_of b.prime)).run b.list in
-    record { reason = d.reason; long = omega (arith, d.long, grows (f (field_of b.prime) l.answer) l.list) }
+    record { reason = d.reason; prime_is = d.prime_is; longer = d.longer; long = omega (arith, d.long, grows (f (field_of b.prime) l.answer) l.list) }
 
 -- one computation, then the next on its answer
 module _ {A B : Type 0} {b c : State} {m : Field → Builder A} {a : A} (f : Field → A → Builder B) (d : Ran b m c a) where
@@ -50,8 +50,8 @@ module _ {A B : Type 0} {b c : State} {m : Field → Builder A} {a : A} (f : Fie
         answer_is = q.answer_is ∙ ap (λ r. r.answer) same_run;
       }
 
-  pub then_long : {r : Refusal} → Overlong c (λ field. f field a) r → Overlong b (λ field. m field >>= f field) r
-  then_long q = record { reason = q.reason; long = subst (λ r. most_records < length r.list) same_run q.long }
+  pub then_long : {s : State} {r : Refusal} → Overlong c (λ field. f field a) s r → Overlong b (λ field. m field >>= f field) s r
+  then_long q = record { reason = q.reason; prime_is = q.prime_is ∙ d.prime_is; longer = le_trans d.longer q.longer; long = subst (λ r. most_records < length r.list) same_run q.long }
 
 then_told : {A : Type 0} {b c : State} {m : Field → Builder A} {a : A} (f : Field → A → Builder ℕ) (e : State) (r : Result ℕ Refusal)
     → Ran b m c a → Answered c (λ field. f field a) e r → Answered b (λ field. m field >>= f field) e r
@@ -71,7 +71,7 @@ unfolding done
 enter_done h = record { told = record { ran = record { prime_is = refl; longer = omega arith; list_is = refl; answer_is = refl }; inside = h } }
 
 -- a refusal is passed on
-pub refused : {b : State} {m : Field → Builder ℕ} (c : State) (r : Result ℕ Refusal) {x : Refusal} → IsErr r × IsErrAnd r (λ y. y ≡ x) → Overlong b m x → Entering b m c r
+pub refused : {b : State} {m : Field → Builder ℕ} (c : State) (r : Result ℕ Refusal) {x : Refusal} → IsErr r × IsErrAnd r (λ y. y ≡ x) → Overlong b m c x → Entering b m c r
 refused c r h d = let p = err_from_is_err_and r h.1 in rw (p.1, p.2) (record { told = d })
 
 -- turns
@@ -84,18 +84,18 @@ module _ {A : Type 0} (f : Field → ℕ → A → Builder A) (b : State) (a : A
   unfolding turns
   turn_next {i} d q = rw (add-one i) (then_ran (λ field. f field i) d q)
 
-  more_turns : (i k : ℕ) (r : Refusal) → i ≤ k → Overlong b (λ field. turns (f field) i a) r → Overlong b (λ field. turns (f field) k a) r
+  more_turns : (i k : ℕ) (s : State) (r : Refusal) → i ≤ k → Overlong b (λ field. turns (f field) i a) s r → Overlong b (λ field. turns (f field) k a) s r
   unfolding turns
-  more_turns i zero r h d = let e : i ≡ 0 = omega arith in subst (λ n. Overlong b (λ field. turns (f field) n a) r) e d
-  more_turns i (suc k) r h d = go (below_suc i (suc k) (omega arith)) (λ j. more_turns i k r j d)
+  more_turns i zero s r h d = let e : i ≡ 0 = omega arith in subst (λ n. Overlong b (λ field. turns (f field) n a) s r) e d
+  more_turns i (suc k) s r h d = go (below_suc i (suc k) (omega arith)) (λ j. more_turns i k s r j d)
     where
-      go : (i < suc k) ⊎ (i ≡ suc k) → (i ≤ k → Overlong b (λ field. turns (f field) k a) r) → Overlong b (λ field. turns (f field) (suc k) a) r
+      go : (i < suc k) ⊎ (i ≡ suc k) → (i ≤ k → Overlong b (λ field. turns (f field) k a) s r) → Overlong b (λ field. turns (f field) (suc k) a) s r
       go (inl j) before = long_first (λ field. f field k) (before (omega arith))
-      go (inr e) before = subst (λ n. Overlong b (λ field. turns (f field) n a) r) e d
+      go (inr e) before = subst (λ n. Overlong b (λ field. turns (f field) n a) s r) e d
 
-  pub turn_long : {i k : ℕ} {c : State} {x : A} {r : Refusal} → i < k → Ran b (λ field. turns (f field) i a) c x → Overlong c (λ field. f field i x) r → Overlong b (λ field. turns (f field) k a) r
+  pub turn_long : {i k : ℕ} {c : State} {x : A} {s : State} {r : Refusal} → i < k → Ran b (λ field. turns (f field) i a) c x → Overlong c (λ field. f field i x) s r → Overlong b (λ field. turns (f field) k a) s r
   unfolding turns
-  turn_long {i} {k} {r = r} h d q = more_turns (suc i) k r (omega arith) (then_long (λ field. f field i) d q)
+  turn_long {i} {k} {s = s} {r = r} h d q = more_turns (suc i) k s r (omega arith) (then_long (λ field. f field i) d q)
 
   pub turn_all : {i k : ℕ} {c : State} {x : A} → i ≤ k → k ≤ i → Ran b (λ field. turns (f field) i a) c x → Ran b (λ field. turns (f field) k a) c x
   turn_all {i} {k} {c} {x} h j d = let e : i ≡ k = omega arith in subst (λ n. Ran b (λ field. turns (f field) n a) c x) e d
@@ -116,7 +116,7 @@ also_ran : {b : State} {m : Field → Builder ℕ} {c : State} {q : ℕ} (ps : L
 unfolding also done
 also_ran ps d = then_ran (λ field q. done (ps ++ (q ∷ []))) d (record { prime_is = refl; longer = omega arith; list_is = refl; answer_is = refl })
 
-also_long : {b : State} {m : Field → Builder ℕ} {r : Refusal} (ps : List ℕ) → Overlong b m r → Overlong b (λ field. also ps (m field)) r
+also_long : {b : State} {m : Field → Builder ℕ} {s : State} {r : Refusal} (ps : List ℕ) → Overlong b m s r → Overlong b (λ field. also ps (m field)) s r
 unfolding also
 also_long ps d = long_first (λ field q. done (ps ++ (q ∷ []))) d
 
@@ -158,8 +158,8 @@ module _ (g : Field → ℕ → List ℕ → Builder ℕ) (b : State) (a : List 
         many = omega (arith, d.many, length-append ps (q ∷ []));
       })
 
-  pub list_long : {i n k : ℕ} {c : State} (ps : List ℕ) {r : Refusal} → i < k → Listed b (λ field. turns (λ i ps. also ps (g field i ps)) i a) c n ps → Overlong c (λ field. g field i ps) r
-      → Overlong b (λ field. turns (λ i ps. also ps (g field i ps)) k a) r
+  pub list_long : {i n k : ℕ} {c : State} (ps : List ℕ) {s : State} {r : Refusal} → i < k → Listed b (λ field. turns (λ i ps. also ps (g field i ps)) i a) c n ps → Overlong c (λ field. g field i ps) s r
+      → Overlong b (λ field. turns (λ i ps. also ps (g field i ps)) k a) s r
   list_long ps h d q = turn_long (λ field i ps. also ps (g field i ps)) b a h d.ran (also_long ps q)
 
   pub list_all : {i k n m : ℕ} {c : State} (ps : ArrayVec ℕ) → i ≤ k → k ≤ i → n ≡ m → Listed b (λ field. turns (λ i ps. also ps (g field i ps)) i a) c n ps.items
@@ -167,12 +167,12 @@ module _ (g : Field → ℕ → List ℕ → Builder ℕ) (b : State) (a : List 
   list_all ps h j e d = record { told = record { ran = turn_all (λ field i ps. also ps (g field i ps)) b a h j d.ran; inside = d.inside; many = d.many ∙ e } }
 
 -- a refusal where places are asked for
-pub refused_list : {b : State} {m : Field → Builder (List ℕ)} {n : ℕ} (c : State) (r : Result (ArrayVec ℕ) Refusal) {x : Refusal} → IsErr r × IsErrAnd r (λ y. y ≡ x) → Overlong b m x → Listing b m c n r
+pub refused_list : {b : State} {m : Field → Builder (List ℕ)} {n : ℕ} (c : State) (r : Result (ArrayVec ℕ) Refusal) {x : Refusal} → IsErr r × IsErrAnd r (λ y. y ≡ x) → Overlong b m c x → Listing b m c n r
 refused_list c r h d = let p = err_from_is_err_and r h.1 in rw (p.1, p.2) (record { told = d })
 
 -- the same computation
-pub long_as : {A : Type 0} {b : State} {m q : Field → Builder A} {r : Refusal} → m ≡ q → Overlong b m r → Overlong b q r
-long_as {b = b} {r = r} e d = subst (λ x. Overlong b x r) e d
+pub long_as : {A : Type 0} {b : State} {m q : Field → Builder A} {s : State} {r : Refusal} → m ≡ q → Overlong b m s r → Overlong b q s r
+long_as {b = b} {s = s} {r = r} e d = subst (λ x. Overlong b x s r) e d
 
 pub enter_as : {b : State} {m q : Field → Builder ℕ} {c : State} {r : Result ℕ Refusal} → m ≡ q → Entering b m c r → Entering b q c r
 enter_as {b = b} {c = c} {r = r} e d = subst (λ x. Entering b x c r) e d
@@ -187,8 +187,8 @@ module _ {A : Type 0} {b : State} {m q : Field → Builder A} {p : Prime} (e : b
       let run = same_here b m q e same in
       record { prime_is = d.prime_is; longer = d.longer; list_is = d.list_is ∙ ap (λ r. r.list) run; answer_is = d.answer_is ∙ ap (λ r. r.answer) run }
 
-  pub long_like : {r : Refusal} → Overlong b m r → Overlong b q r
-  long_like d = record { reason = d.reason; long = subst (λ r. most_records < length r.list) (same_here b m q e same) d.long }
+  pub long_like : {s : State} {r : Refusal} → Overlong b m s r → Overlong b q s r
+  long_like d = record { reason = d.reason; prime_is = d.prime_is; longer = d.longer; long = subst (λ r. most_records < length r.list) (same_here b m q e same) d.long }
 
 pub entered_like : {b : State} {m q : Field → Builder ℕ} {p : Prime} → b.prime ≡ p → Same (m (field_of p)) (q (field_of p)) → {c : State} {a : ℕ} → Entered b m c a → Entered b q c a
 entered_like e same d = record { ran = ran_like e same d.ran; inside = d.inside }

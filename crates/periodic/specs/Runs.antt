@@ -35,9 +35,11 @@ pub record Ran {A : Type 0} (b : State) (m : Field → Builder A) (c : State) (a
   pub list_is : c.list ≡ ((m (field_of b.prime)).run b.list).list
   pub answer_is : a ≡ ((m (field_of b.prime)).run b.list).answer
 
--- its list would be longer than a list may be
-pub record Overlong {A : Type 0} (b : State) (m : Field → Builder A) (r : Refusal) : Type 0 where
+-- its list would be longer than a list may be; c is what was reached
+pub record Overlong {A : Type 0} (b : State) (m : Field → Builder A) (c : State) (r : Refusal) : Type 0 where
   pub reason : r ≡ NoRoom
+  pub prime_is : c.prime ≡ b.prime
+  pub longer : b.count ≤ c.count
   pub long : most_records < length ((m (field_of b.prime)).run b.list).list
 
 -- a place is answered
@@ -48,7 +50,7 @@ pub record Entered (b : State) (m : Field → Builder ℕ) (c : State) (a : ℕ)
 -- a place, or a refusal
 abbrev pub Answered : State → (Field → Builder ℕ) → State → Result ℕ Refusal → Type 0
 Answered b m c (Ok a) = Entered b m c a
-Answered b m c (Err r) = Overlong b m r
+Answered b m c (Err r) = Overlong b m c r
 
 pub record Entering (b : State) (m : Field → Builder ℕ) (c : State) (r : Result ℕ Refusal) : Type 0 where
   pub told : Answered b m c r
@@ -61,7 +63,7 @@ pub record Listed (b : State) (m : Field → Builder (List ℕ)) (c : State) (n 
 
 abbrev pub AllAnswered : State → (Field → Builder (List ℕ)) → State → ℕ → Result (ArrayVec ℕ) Refusal → Type 0
 AllAnswered b m c n (Ok ps) = Listed b m c n ps.items
-AllAnswered b m c n (Err r) = Overlong b m r
+AllAnswered b m c n (Err r) = Overlong b m c r
 
 pub record Listing (b : State) (m : Field → Builder (List ℕ)) (c : State) (n : ℕ) (r : Result (ArrayVec ℕ) Refusal) : Type 0 where
   pub told : AllAnswered b m c n r
