@@ -241,11 +241,7 @@ fn evaluate_within<const VALUES: usize, const LINKS: usize>(
 }
 
 // The same, with stores for the lengths of the list and of the assignment.
-fn evaluate_sized(
-    dag: Dag,
-    root: usize,
-    entries: Entries<ENTRY_WORDS>,
-) -> Result<QuadFelt, Refusal>
+fn evaluate_sized(dag: Dag, root: usize, entries: Entries<ENTRY_WORDS>) -> Result<QuadFelt, Refusal>
     requires inside { root < dag.n }
     requires passed { Promises.Passed (field_of dag.prime) entries.words.now entries.count }
     ensures { let d = dag.entry in result ≡ Calls.evaluate_answer (field_of d.prime) (interleaved d.list.now) d.n root entries.entry.words.now entries.entry.count }
