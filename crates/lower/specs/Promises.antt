@@ -7,7 +7,6 @@ use Rattle.dag.specs.Store.{front, stored}
 use Rattle.dag.specs.Refusals.{Checked, need, ◌then◌, unless_refused}
 use Rattle.columns.specs.Columns.{log_within, log_length, column}
 use Rattle.columns.specs.Prepare.{columns, prepare_check}
-use Rattle.columns.specs.Promises.{Tested}
 use Rattle.columns.specs.declared.Form.{Form}
 use Rattle.columns.specs.declared.Form.TheVariants.{Sparse}
 use Rattle.periodic.specs.Promises.{Few}
@@ -29,12 +28,11 @@ pub record HandedOver (work : List ℕ) (count : ℕ) (ns result places : List �
   pub result_is : after ≡ cond (has_room count result) (filled (length result) (front count work)) result
   pub places_are : listed ≡ cond (has_room count result) (filled (length places) ns) places
 
-module _ (field : Field) where
-  -- columns that passed, none longer than 2^log
-  pub record Covered (ls es : List ℕ) (log : ℕ) : Type 0 where
-    pub tested : Tested (modulus field) ls es
-    pub covers : (j : ℕ) → j < length ls → log_length (column (columns ls es) j) ≤ log
+-- columns none longer than 2^log
+pub record Covered (ls es : List ℕ) (log : ℕ) : Type 0 where
+  pub covers : (j : ℕ) → j < length ls → log_length (column (columns ls es) j) ≤ log
 
+module _ (field : Field) where
   -- the tests behind the list's
   abbrev pub columns_check : List ℕ → List ℕ → ℕ → ℕ → ℕ → Checked
   columns_check ls es period work_room place_words =

@@ -44,7 +44,7 @@ fn column_node(
     log: usize,
     j: usize,
 ) -> Result<usize, Refusal>
-    requires { let c = weighed.now.columns in (builder.old.prime ≡ c.prime) × Promises.Covered (field_of c.prime) c.lengths.now c.entries.now log × (j < length c.lengths.now) }
+    requires { let c = weighed.now.columns in (builder.old.prime ≡ c.prime) × Promises.Covered c.lengths.now c.entries.now log × (j < length c.lengths.now) }
     ensures { let c = weighed.now.columns in Runs.Entering (Runs.held builder.old) (λ field. Periodic.column_node field (Held.columns c) log j) (Runs.held builder.new) result }
 {
     let col = weighed.columns.column(j);
@@ -58,7 +58,7 @@ fn build_periodic_nodes(
     columns: Columns,
     log: usize,
 ) -> Result<ArrayVec<u64, MOST_COLUMNS>, Refusal>
-    requires { (builder.old.prime ≡ columns.prime) × Promises.Covered (field_of columns.prime) columns.lengths.now columns.entries.now log }
+    requires { (builder.old.prime ≡ columns.prime) × Promises.Covered columns.lengths.now columns.entries.now log }
     ensures { let c = columns.entry in Runs.Listing (Runs.held builder.old) (λ field. Periodic.build_periodic_nodes field (Held.columns c) log) (Runs.held builder.new) (length c.lengths.now) result }
 {
     let weighed = Weighed::new(columns);
