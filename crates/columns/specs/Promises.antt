@@ -2,16 +2,9 @@
 use Rattle.std.specs.Prelude.{ℕ, zero, suc, ◌+◌, ◌<◌, ◌≤◌, true, cond, List, ◌≡◌, eqb, get_or, length}
 use Rattle.columns.specs.Columns.{is_power, values, column, gain, is_among, saving}
 use Rattle.columns.specs.Prepare.{total, columns, all_below, most_columns}
-use Rattle.std.specs.Prelude.{Result, Ok, Err, sum, map, filter}
+use Rattle.std.specs.Prelude.{sum, map, filter}
 use Rattle.std.specs.List.{zip}
 use Rattle.dag.specs.Arrays.{up_to, padded}
-use Rattle.dag.specs.Refusals.{Checked}
-use Rattle.dag.specs.declared.Refusal.{Refusal}
-
--- what a result says of the tests before it
-abbrev pub outcome : {A : Type 0} → Result A Refusal → Checked
-outcome (Ok x) = Ok tt
-outcome (Err r) = Err r
 
 -- a column that was tested
 pub record Column (m : ℕ) (c : List ℕ) : Type 0 where

@@ -278,7 +278,7 @@ impl<'a> Columns<'a> {
     // The columns, if they are few, their lengths are powers of two, their entries are there, and below the prime.
     #[tactic(auto, using(crate::specs::PrepareLaws::in_order))]
     pub fn new(prime: Prime, lengths: &'a [u64], entries: &'a [u64]) -> Result<Columns<'a>, Refusal>
-        ensures checked { Promises.outcome result ≡ Prepare.prepare_check (modulus_of prime) lengths.now entries.now }
+        ensures checked { Refusals.outcome result ≡ Prepare.prepare_check (modulus_of prime) lengths.now entries.now }
         ensures columns { IfOk result (λ c. (c.prime ≡ prime) × (c.lengths.now ≡ lengths.now) × (c.entries.now ≡ entries.now)) }
     {
         if MOST_COLUMNS < lengths.len() {

@@ -2,16 +2,16 @@
 use Rattle.std.specs.Prelude.{ℕ, ◌*◌, ◌≤◌, ◌<◌, List, Some, Ok, Err, ◌≡◌, leb, length, replicate}
 use Rattle.std.proofs.Common.{◌∙◌, arith}
 use Rattle.std.proofs.Math.Path.{ap}
-use borrow.Author.Tests.{leb-true}
+use borrow.Author.Tests.{leb-true, le-leb, lt-ltb}
 use Rattle.std.proofs.lemmas.List.{length-replicate}
 use Rattle.field.specs.Fields.{Field, Bounds}
 use Rattle.field.specs.declared.QuadFelt.{QuadFelt}
 use Rattle.dag.specs.View.{View}
 use Rattle.dag.specs.Nodes.{most_records, nodes, at}
 use Rattle.dag.specs.Refusals.{first_refused, need, ◌then◌}
-use Rattle.dag.specs.Check.{list_check}
+use Rattle.dag.specs.Check.{list_check, rootless_check, room_check}
 use Rattle.dag.specs.CheckLaws.{first_good, then_good, need_good}
-use Rattle.dag.specs.PassLaws.{rooted}
+use Rattle.dag.specs.Store.{Sound}
 use Rattle.dag.specs.BlankLaws.{all_zero}
 use Rattle.dag.specs.declared.Refusal.{Refusal}
 use Rattle.dag.specs.declared.Refusal.TheVariants.{StoreTooShort, TooManyEntries, Unassigned}
@@ -23,7 +23,7 @@ use Rattle.evaluate.specs.Calls.{entry_words, element_of, given, evaluate_check,
 use Rattle.index.specs.Index.{half}
 use Rattle.evaluate.specs.KeyIndex.{Keyed}
 use Rattle.evaluate.specs.KeyIndexLaws.{keyed_none}
-use Rattle.evaluate.specs.Promises.{Ready, Tested, Sized}
+use Rattle.evaluate.specs.Promises.{Passed, Sized}
 
 -- a new index
 module _ {values links n m : ℕ} (z : Sized values links n m) where
@@ -45,6 +45,19 @@ entries_pass m width e n h q =
     let two = then_good (need (leb (width * n) (length e)) StoreTooShort) (first_refused (entry_check m width e) n) one.1 in
     (record { wide = h; room = leb-true (width * n) (length e) (need_good (leb (width * n) (length e)) StoreTooShort two.0) }, two.1)
 
+-- no more than Evaluate takes
+pub entries_most : (m : Bounds) (e : List ℕ) (n : ℕ) → entries_check m entry_words e n ≡ Ok tt → n ≤ most_entries
+unfolding entries_check
+entries_most m e n q =
+    let one = then_good (need (leb n most_entries) TooManyEntries) (need (leb (entry_words * n) (length e)) StoreTooShort then first_refused (entry_check m entry_words e) n) q in
+    leb-true n most_entries (need_good (leb n most_entries) TooManyEntries one.0)
+
+-- a list that is sound passes with a root inside it
+pub list_passes : (m : Bounds) (s : View) (n root : ℕ) → Sound m s n → n ≤ most_records → root < n → list_check m s n root ≡ Ok tt
+unfolding list_check rootless_check room_check
+list_passes m s n root h most inside =
+    rw (le-leb 1 n (omega arith), le-leb n most_records most, le-leb n s.room h.room, h.good, lt-ltb root n inside)
+
 module _ (field : Field) where
   module _ (s : View) (n root : ℕ) (a : List ℕ) (m : ℕ) where
     -- where Evaluate refuses
@@ -52,35 +65,28 @@ module _ (field : Field) where
     unfolding evaluate_answer
     answer_refused r e = rw e
 
-    -- where both pass
-    module _ (t : Tested field s n root a m) where
-      inputs_left : evaluate_check field s n root a m ≡ inputs_check (entry_of entry_words a m) (nodes s n) n
+    pub list_refused : (r : Refusal) → list_check field.bounds s n root ≡ Err r → Err r ≡ evaluate_answer field s n root a m
+    unfolding evaluate_check
+    list_refused r e = answer_refused r (rw e)
+
+    -- where the list passes
+    module _ (list : list_check field.bounds s n root ≡ Ok tt) where
+      pub entries_refused : (r : Refusal) → entries_check field.bounds entry_words a m ≡ Err r → Err r ≡ evaluate_answer field s n root a m
       unfolding evaluate_check
-      inputs_left = rw (t.list, t.entries)
+      entries_refused r e = answer_refused r (rw (list, e))
 
-      pub root_inside : root < n
-      root_inside = (rooted field.bounds s n root t.list).inside
+      -- and the entries pass
+      module _ (passed : Passed field a m) where
+        inputs_left : evaluate_check field s n root a m ≡ inputs_check (entry_of entry_words a m) (nodes s n) n
+        unfolding evaluate_check
+        inputs_left = rw (list, passed)
 
-      pub list_most : n ≤ most_records
-      list_most = (rooted field.bounds s n root t.list).list.most
+        pub inputs_refused : (r : Refusal) → inputs_check (entry_of entry_words a m) (nodes s n) n ≡ Err r → Err r ≡ evaluate_answer field s n root a m
+        inputs_refused r e = answer_refused r (inputs_left ∙ e)
 
-      pub entries_most : m ≤ most_entries
-      unfolding entries_check
-      entries_most =
-          let one = then_good (need (leb m most_entries) TooManyEntries) (need (leb (entry_words * m) (length a)) StoreTooShort then first_refused (entry_check field.bounds entry_words a) m) t.entries in
-          leb-true m most_entries (need_good (leb m most_entries) TooManyEntries one.0)
-
-      pub may_fill : (k : ℕ) → n ≤ k → Ready field s n a m k
-      may_fill k h =
-          let q = entries_pass field.bounds entry_words a m (omega arith) t.entries in
-          record { sound = (rooted field.bounds s n root t.list).list.sound; lent = q.0; good = q.1; fits = h }
-
-      pub inputs_refused : (r : Refusal) → inputs_check (entry_of entry_words a m) (nodes s n) n ≡ Err r → Err r ≡ evaluate_answer field s n root a m
-      inputs_refused r e = answer_refused r (inputs_left ∙ e)
-
-      pub inputs_value : inputs_check (entry_of entry_words a m) (nodes s n) n ≡ Ok tt → (v : QuadFelt) → v ≡ value field.elements (given a m) (nodes s n) root → Ok v ≡ evaluate_answer field s n root a m
-      unfolding evaluate_answer
-      inputs_value e v q = rw (q, inputs_left ∙ e)
+        pub inputs_value : inputs_check (entry_of entry_words a m) (nodes s n) n ≡ Ok tt → (v : QuadFelt) → v ≡ value field.elements (given a m) (nodes s n) root → Ok v ≡ evaluate_answer field s n root a m
+        unfolding evaluate_answer
+        inputs_value e v q = rw (q, inputs_left ∙ e)
 
     -- where Evaluate accepts
     module _ (e : evaluate_check field s n root a m ≡ Ok tt) where

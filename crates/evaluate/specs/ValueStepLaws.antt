@@ -14,16 +14,18 @@ use Rattle.dag.specs.Nodes.{nodes, record_at}
 use Rattle.dag.specs.NodeLaws.{length_nodes, at_nodes}
 use Rattle.dag.specs.CaseLaws.{and_true, below_suc_elim}
 use Rattle.dag.specs.CheckLaws.{first_good, need_good}
+use Rattle.dag.specs.Store.{Sound}
 use Rattle.dag.specs.StoreLaws.{sound_well_formed}
-use Rattle.dag.specs.WellFormed.{Fine, WellFormed}
+use Rattle.dag.specs.WellFormed.{WellFormed}
 use Rattle.dag.specs.declared.Refusal.TheVariants.{Malformed, Unassigned}
 use Rattle.meaning.specs.Values.{value, value_of}
 use Rattle.meaning.specs.ValueLaws.{value_at, value_low, value_of_cong}
 use Rattle.evaluate.specs.Entries.{key_at, entry_check, entry_of, inputs_check}
 use Rattle.evaluate.specs.EntryLaws.{entry_inside, an_entry, no_entry}
+use Rattle.evaluate.specs.CallLaws.{entries_pass}
 use Rattle.evaluate.specs.Calls.{entry_words, element_of, given}
-use Rattle.evaluate.specs.Promises.{at_place, record_answer, Valued, Ready, Filled}
-use Rattle.evaluate.specs.RecordLaws.{answered, unanswered}
+use Rattle.evaluate.specs.Promises.{at_place, record_answer, Valued, Passed, Filled}
+use Rattle.evaluate.specs.RecordLaws.{answered, unanswered, fine}
 
 module _ (field : Field) where
   -- the elements that entries in lowest form give
@@ -47,25 +49,21 @@ module _ (field : Field) where
     unfolding given
     given_low key = found_low (entry_of entry_words a m key) (λ i e. entry_inside entry_words a key m i e)
 
-  module _ (s : View) (n : ℕ) (a : List ℕ) (m k : ℕ) (r : Ready field s n a m k) where
+  module _ (s : View) (n : ℕ) (sound : Sound field.bounds s n) (a : List ℕ) (m : ℕ) (passed : Passed field a m) where
     well_formed : WellFormed (Within field.bounds) (nodes s n)
-    well_formed = sound_well_formed field.bounds s n r.sound
+    well_formed = sound_well_formed field.bounds s n sound
 
     low : (i : ℕ) → Low field (value field.elements (given a m) (nodes s n) i)
-    low = value_low field.elements (element_laws field) (given a m) (given_low a m r.good) (nodes s n) well_formed
+    low = value_low field.elements (element_laws field) (given a m) (given_low a m (entries_pass field.bounds entry_words a m (omega arith) passed).1) (nodes s n) well_formed
 
     module _ (values : List QuadFelt) (i : ℕ) (h : i < n) (l : n ≤ length values) (f : Filled field s n a m values i) where
-      fine : Fine (Low field) i (record_at s i)
-      unfolding WellFormed
-      fine = rw (at_nodes s n i h) at (well_formed i)
-
-      pub may_value : Valued field s i values
-      may_value = record { room = omega (arith, r.sound.room); fine = fine; fits = omega arith; low = λ j q. subst (Low field) (sym (f j q)) (low j) }
+      pub may_value : Valued field i values
+      may_value = record { fits = omega arith; low = λ j q. subst (Low field) (sym (f j q)) (low j) }
 
       -- the value computed is the record's
       valued : (v : QuadFelt) → v ≡ value_of field.elements (given a m) (at_place values) (record_at s i) → v ≡ value field.elements (given a m) (nodes s n) i
       valued v e =
-          e ∙ (value_of_cong field.elements (given a m) (Low field) (at_place values) (value field.elements (given a m) (nodes s n)) i (record_at s i) fine f
+          e ∙ (value_of_cong field.elements (given a m) (Low field) (at_place values) (value field.elements (given a m) (nodes s n)) i (record_at s i) (fine field s n sound i h) f
           ∙ (ap (value_of field.elements (given a m) (value field.elements (given a m) (nodes s n))) (sym (at_nodes s n i h))
           ∙ sym (value_at field.elements (given a m) (Within field.bounds) (nodes s n) well_formed i (omega (arith, length_nodes s n)))))
 

@@ -13,7 +13,7 @@ ghost use Rattle.evaluate.specs.KeyIndex as KeyIndex;
 ghost use Rattle.evaluate.specs.Calls as Calls;
 ghost use Rattle.evaluate.specs.Promises as Promises;
 
-use dag::{MOST_RECORDS, NodeKind, Refusal, Words};
+use dag::{Dag, MOST_RECORDS, NodeKind, Refusal, Words};
 use field::{Prime, QuadFelt};
 
 // The most entries that an assignment has.
@@ -182,89 +182,82 @@ fn value_at(values: &[QuadFelt], i: usize) -> QuadFelt
 // The value of the record at place i, on the values before it; none for an input whose key has no entry.
 #[tactic(auto, unfolding(crate::specs::Promises::record_answer, meaning::specs::Values::value_of))]
 fn value_of(
-    prime: Prime,
-    list: &[u64],
+    dag: Dag,
     i: usize,
     entries: Entries<ENTRY_WORDS>,
     links: &[u64],
     values: &[QuadFelt],
 ) -> Option<QuadFelt>
-    requires valued { Promises.Valued (field_of prime) (interleaved list.now) i values.now }
+    requires inside { i < dag.n }
+    requires valued { Promises.Valued (field_of dag.prime) i values.now }
     requires indexed { KeyIndex.Lookup Calls.entry_words entries.words.now entries.count links.now }
-    ensures { result ≡ Promises.record_answer (field_of prime) entries.entry.words.now entries.entry.count (Promises.at_place values.now) (Nodes.record_at (interleaved list.now) i) }
+    ensures { let d = dag.entry in result ≡ Promises.record_answer (field_of d.prime) entries.entry.words.now entries.entry.count (Promises.at_place values.now) (Nodes.record_at (interleaved d.list.now) i) }
 {
-    match dag::node_at(list, i) {
+    match dag.node(i) {
         NodeKind::Input(k) => entries.given(links, k),
         NodeKind::Constant(c) => Some(c),
-        NodeKind::Add(a, b) => Some(value_at(values, a).add(prime, value_at(values, b))),
-        NodeKind::Sub(a, b) => Some(value_at(values, a).sub(prime, value_at(values, b))),
-        NodeKind::Mul(a, b) => Some(value_at(values, a).mul(prime, value_at(values, b))),
-        NodeKind::Neg(a) => Some(value_at(values, a).neg(prime)),
+        NodeKind::Add(a, b) => Some(value_at(values, a).add(dag.prime, value_at(values, b))),
+        NodeKind::Sub(a, b) => Some(value_at(values, a).sub(dag.prime, value_at(values, b))),
+        NodeKind::Mul(a, b) => Some(value_at(values, a).mul(dag.prime, value_at(values, b))),
+        NodeKind::Neg(a) => Some(value_at(values, a).neg(dag.prime)),
     }
 }
 
-// Fills in the values of the first n records, up to the first input whose key has no entry.
+// Fills in the values of a list's records, up to the first input whose key has no entry.
 fn fill_values(
-    prime: Prime,
-    list: &[u64],
-    n: usize,
+    dag: Dag,
     entries: Entries<ENTRY_WORDS>,
     links: &[u64],
     values: &mut [QuadFelt],
 ) -> Result<(), Refusal>
-    requires ready { Promises.Ready (field_of prime) (interleaved list.now) n entries.words.now entries.count (length values.old) }
+    requires passed { Promises.Passed (field_of dag.prime) entries.words.now entries.count }
+    requires fits { dag.n ≤ length values.old }
     requires keyed { KeyIndex.Keyed Calls.entry_words entries.words.now entries.count links.now }
-    ensures value { result ≡ Places.inputs_check (Places.entry_of Calls.entry_words entries.entry.words.now entries.entry.count) (Nodes.nodes (interleaved list.now) n) n }
-    ensures filled { result ≡ Ok tt → Promises.Filled (field_of prime) (interleaved list.now) n entries.entry.words.now entries.entry.count values.new n }
+    ensures value { let d = dag.entry in result ≡ Places.inputs_check (Places.entry_of Calls.entry_words entries.entry.words.now entries.entry.count) (Nodes.nodes (interleaved d.list.now) d.n) d.n }
+    ensures filled { let d = dag.entry in result ≡ Ok tt → Promises.Filled (field_of d.prime) (interleaved d.list.now) d.n entries.entry.words.now entries.entry.count values.new d.n }
 {
-    for i in 0..n {
-        values[i] = value_of(prime, list, i, entries, links, values).ok_or(Refusal::Unassigned(i))?;
+    for i in 0..dag.n {
+        values[i] = value_of(dag, i, entries, links, values).ok_or(Refusal::Unassigned(i))?;
     }
     Ok(())
 }
 
 // Evaluate behind the tests of its words, with stores for so many values, and links for the index.
 fn evaluate_within<const VALUES: usize, const LINKS: usize>(
-    prime: Prime,
-    list: &[u64],
-    n: usize,
+    dag: Dag,
     root: usize,
     entries: Entries<ENTRY_WORDS>,
 ) -> Result<QuadFelt, Refusal>
-    requires tested { Promises.Tested (field_of prime) (interleaved list.now) n root entries.words.now entries.count }
-    requires sized { Promises.Sized VALUES LINKS n entries.count }
-    ensures { result ≡ Calls.evaluate_answer (field_of prime) (interleaved list.now) n root entries.entry.words.now entries.entry.count }
+    requires inside { root < dag.n }
+    requires passed { Promises.Passed (field_of dag.prime) entries.words.now entries.count }
+    requires sized { Promises.Sized VALUES LINKS dag.n entries.count }
+    ensures { let d = dag.entry in result ≡ Calls.evaluate_answer (field_of d.prime) (interleaved d.list.now) d.n root entries.entry.words.now entries.entry.count }
 {
     let mut links = [0u64; LINKS];
     entries.index(&mut links);
     let mut values = [QuadFelt::ZERO; VALUES];
-    fill_values(prime, list, n, entries, &links, &mut values)?;
+    fill_values(dag, entries, &links, &mut values)?;
     Ok(value_at(&values, root))
 }
 
 // The same, with stores for the lengths of the list and of the assignment.
-fn evaluate_sized(
-    prime: Prime,
-    list: &[u64],
-    n: usize,
-    root: usize,
-    entries: Entries<ENTRY_WORDS>,
-) -> Result<QuadFelt, Refusal>
-    requires { Promises.Tested (field_of prime) (interleaved list.now) n root entries.words.now entries.count }
-    ensures { result ≡ Calls.evaluate_answer (field_of prime) (interleaved list.now) n root entries.entry.words.now entries.entry.count }
+fn evaluate_sized(dag: Dag, root: usize, entries: Entries<ENTRY_WORDS>) -> Result<QuadFelt, Refusal>
+    requires inside { root < dag.n }
+    requires passed { Promises.Passed (field_of dag.prime) entries.words.now entries.count }
+    ensures { let d = dag.entry in result ≡ Calls.evaluate_answer (field_of d.prime) (interleaved d.list.now) d.n root entries.entry.words.now entries.entry.count }
 {
-    let most = n.max(entries.count);
+    let most = dag.n.max(entries.count);
     if most <= FEW {
-        evaluate_within::<FEW, FEW_LINKS>(prime, list, n, root, entries)
+        evaluate_within::<FEW, FEW_LINKS>(dag, root, entries)
     } else if most <= MANY {
-        evaluate_within::<MANY, MANY_LINKS>(prime, list, n, root, entries)
+        evaluate_within::<MANY, MANY_LINKS>(dag, root, entries)
     } else {
-        evaluate_within::<MOST_RECORDS, MOST_LINKS>(prime, list, n, root, entries)
+        evaluate_within::<MOST_RECORDS, MOST_LINKS>(dag, root, entries)
     }
 }
 
 // Evaluate: the root's value under an assignment.
-#[tactic(auto, unfolding(crate::specs::Calls::evaluate_answer, crate::specs::Calls::evaluate_check))]
+#[tactic(auto, using(crate::specs::CallLaws::list_refused, crate::specs::CallLaws::entries_refused))]
 pub fn evaluate(
     prime: Prime,
     list: &[u64],
@@ -279,7 +272,7 @@ pub fn evaluate(
         words: assignment,
         count: m,
     };
-    dag::list_check(prime, list, n, root)?;
+    let dag = Dag::new(prime, list, n, root)?;
     entries.check(prime)?;
-    evaluate_sized(prime, list, n, root, entries)
+    evaluate_sized(dag, root, entries)
 }

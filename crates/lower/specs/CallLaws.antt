@@ -22,7 +22,7 @@ use Rattle.dag.specs.NodeLaws.{length_nodes}
 use Rattle.dag.specs.Refusals.{need, ◌then◌, unless_refused}
 use Rattle.dag.specs.Check.{room_check, rootless_check}
 use Rattle.dag.specs.CheckLaws.{then_good, need_good}
-use Rattle.dag.specs.PassLaws.{room_enough, listed}
+use Rattle.dag.specs.PassLaws.{room_enough}
 use Rattle.dag.specs.Store.{Sound, stored}
 use Rattle.dag.specs.WordLaws.{filled_front}
 use Rattle.dag.specs.declared.Refusal.{Refusal}
@@ -32,7 +32,7 @@ use Rattle.columns.specs.Prepare.{columns, prepare_check}
 use Rattle.columns.specs.PrepareLaws.{prepared}
 use Rattle.periodic.specs.Periodic.{build_periodic_nodes}
 use Rattle.lower.specs.Lower.{longest_from, longest, period_good, lower_check, lowered, lower_stores, lower_room, whole_check, lower_answer, lower_result, lower_places, lower_work}
-use Rattle.lower.specs.Promises.{Passed, has_room, HandedOver, Finished}
+use Rattle.lower.specs.Promises.{columns_check, Passed, has_room, HandedOver, Finished}
 use Rattle.lower.specs.FormLaws.{covered}
 
 -- the longest, as std has the greatest
@@ -77,22 +77,27 @@ need_cond true q f g = refl
 need_cond false q f g = refl
 
 module _ (field : Field) where
-  -- what the tests give
-  module _ (s : View) (n : ℕ) (ls es : List ℕ) (period work_room place_words : ℕ) where
-    pub passed : lower_check field s n ls es period work_room place_words ≡ Ok tt → Passed field s n ls es period place_words
-    unfolding lower_check lower_stores
+  -- what the tests behind the list's give
+  module _ (ls es : List ℕ) (period work_room place_words : ℕ) where
+    pub passed : columns_check field ls es period work_room place_words ≡ Ok tt → Passed field ls es period place_words
+    unfolding lower_stores
     passed e =
-        let one = then_good (rootless_check field.bounds 0 s n) (prepare_check (modulus field) ls es then lower_stores ls work_room place_words then need (period_good field ls period) SharedPeriod) e in
-        let two = then_good (prepare_check (modulus field) ls es) (lower_stores ls work_room place_words then need (period_good field ls period) SharedPeriod) one.1 in
-        let three = then_good (lower_stores ls work_room place_words) (need (period_good field ls period) SharedPeriod) two.1 in
-        let stores = then_good (room_check most_records work_room) (room_check (length ls) place_words) three.0 in
-        let t = prepared (modulus field) ls es two.0 in
+        let one = then_good (prepare_check (modulus field) ls es) (lower_stores ls work_room place_words then need (period_good field ls period) SharedPeriod) e in
+        let two = then_good (lower_stores ls work_room place_words) (need (period_good field ls period) SharedPeriod) one.1 in
+        let stores = then_good (room_check most_records work_room) (room_check (length ls) place_words) two.0 in
         record {
-          list = listed field.bounds 0 s n one.0;
-          tested = t;
           place_room = room_enough (length ls) place_words stores.1;
-          covered = covered field ls es period t (covers field ls period (need_good (period_good field ls period) SharedPeriod three.1));
+          covered = covered field ls es period (prepared (modulus field) ls es one.0) (covers field ls period (need_good (period_good field ls period) SharedPeriod two.1));
         }
+
+    -- where the list passes, they are what is left
+    pub columns_left : (s : View) (n : ℕ) → rootless_check field.bounds 0 s n ≡ Ok tt → lower_check field s n ls es period work_room place_words ≡ columns_check field ls es period work_room place_words
+    unfolding lower_check
+    columns_left s n e = rw e
+
+    pub list_refused : (s : View) (n : ℕ) {r : Refusal} → rootless_check field.bounds 0 s n ≡ Err r → lower_check field s n ls es period work_room place_words ≡ Err r
+    unfolding lower_check
+    list_refused s n e = rw e
 
   -- past the tests
   module _ (s : View) (n : ℕ) (ls es : List ℕ) (period : ℕ) (result places : List ℕ) where

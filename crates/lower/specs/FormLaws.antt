@@ -49,11 +49,10 @@ module _ (field : Field) where
       })
 
   -- columns no longer than the shared period
-  pub covered : (ls es : List ℕ) (period : ℕ) → Tested (modulus field) ls es → ((j : ℕ) → j < length ls → get_or ls j 0 ≤ period) → Covered field ls es (log_within field.most_log period)
+  pub covered : (ls es : List ℕ) (period : ℕ) → Tested (modulus field) ls es → ((j : ℕ) → j < length ls → get_or ls j 0 ≤ period) → Covered ls es (log_within field.most_log period)
   unfolding log_length
   covered ls es period t h =
       record {
-        tested = t;
         covers = λ j k.
             let c = column_length ls es j t.handed.enough k in
             log_least (log_within 7 (length (column (columns ls es) j))) field.most_log period (le_trans (log_le 7 (length (column (columns ls es) j))) field.columns_fit)

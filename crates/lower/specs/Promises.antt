@@ -4,17 +4,15 @@ use Rattle.field.specs.Fields.{Field, modulus}
 use Rattle.dag.specs.View.{View, interleaved}
 use Rattle.dag.specs.Nodes.{filled}
 use Rattle.dag.specs.Store.{front, stored}
-use Rattle.dag.specs.Refusals.{unless_refused}
-use Rattle.dag.specs.PassLaws.{Listed}
+use Rattle.dag.specs.Refusals.{Checked, need, ◌then◌, unless_refused}
 use Rattle.columns.specs.Columns.{log_within, log_length, column}
-use Rattle.columns.specs.Prepare.{columns}
-use Rattle.columns.specs.Promises.{Tested}
+use Rattle.columns.specs.Prepare.{columns, prepare_check}
 use Rattle.columns.specs.declared.Form.{Form}
 use Rattle.columns.specs.declared.Form.TheVariants.{Sparse}
 use Rattle.periodic.specs.Promises.{Few}
 use Rattle.dag.specs.declared.Refusal.{Refusal}
-use Rattle.dag.specs.declared.Refusal.TheVariants.{NoRoom}
-use Rattle.lower.specs.Lower.{lowered, lower_room}
+use Rattle.dag.specs.declared.Refusal.TheVariants.{NoRoom, SharedPeriod}
+use Rattle.lower.specs.Lower.{period_good, lowered, lower_stores, lower_room}
 
 -- a column in a form that it can have
 pub record Formed (c : List ℕ) (f : Form) : Type 0 where
@@ -30,16 +28,20 @@ pub record HandedOver (work : List ℕ) (count : ℕ) (ns result places : List �
   pub result_is : after ≡ cond (has_room count result) (filled (length result) (front count work)) result
   pub places_are : listed ≡ cond (has_room count result) (filled (length places) ns) places
 
-module _ (field : Field) where
-  -- columns that passed, none longer than 2^log
-  pub record Covered (ls es : List ℕ) (log : ℕ) : Type 0 where
-    pub tested : Tested (modulus field) ls es
-    pub covers : (j : ℕ) → j < length ls → log_length (column (columns ls es) j) ≤ log
+-- columns none longer than 2^log
+pub record Covered (ls es : List ℕ) (log : ℕ) : Type 0 where
+  pub covers : (j : ℕ) → j < length ls → log_length (column (columns ls es) j) ≤ log
 
-  -- what the tests give
-  pub record Passed (s : View) (n : ℕ) (ls es : List ℕ) (period place_words : ℕ) : Type 0 where
-    pub list : Listed field.bounds s 0 n
-    pub tested : Tested (modulus field) ls es
+module _ (field : Field) where
+  -- the tests behind the list's
+  abbrev pub columns_check : List ℕ → List ℕ → ℕ → ℕ → ℕ → Checked
+  columns_check ls es period work_room place_words =
+      prepare_check (modulus field) ls es
+      then lower_stores ls work_room place_words
+      then need (period_good field ls period) SharedPeriod
+
+  -- what they give
+  pub record Passed (ls es : List ℕ) (period place_words : ℕ) : Type 0 where
     pub place_room : length ls ≤ place_words
     pub covered : Covered ls es (log_within field.most_log period)
 

@@ -6,6 +6,7 @@ ghost use Rattle.field.specs.Fields.{field_of};
 ghost use Rattle.field.specs.Field.{modulus_of};
 ghost use Rattle.dag.specs.View.{interleaved};
 ghost use Rattle.dag.specs.Nodes.{blank, filled};
+ghost use Rattle.dag.specs.Refusals as Refusals;
 ghost use Rattle.columns.specs.Held as Held;
 ghost use Rattle.columns.specs.Promises as ColumnPromises;
 ghost use Rattle.periodic.specs.Periodic as Periodic;
@@ -15,7 +16,7 @@ ghost use Rattle.lower.specs.Promises as Promises;
 
 use arrayvec::ArrayVec;
 use columns::{Columns, Form, MOST_COLUMNS, Weighed};
-use dag::Refusal;
+use dag::{Dag, Refusal};
 use field::{Prime, felt};
 use periodic::PeriodicBuilder;
 
@@ -43,7 +44,7 @@ fn column_node(
     log: usize,
     j: usize,
 ) -> Result<usize, Refusal>
-    requires { let c = weighed.now.columns in (builder.old.prime ≡ c.prime) × Promises.Covered (field_of c.prime) c.lengths.now c.entries.now log × (j < length c.lengths.now) }
+    requires { let c = weighed.now.columns in (builder.old.prime ≡ c.prime) × Promises.Covered c.lengths.now c.entries.now log × (j < length c.lengths.now) }
     ensures { let c = weighed.now.columns in Runs.Entering (Runs.held builder.old) (λ field. Periodic.column_node field (Held.columns c) log j) (Runs.held builder.new) result }
 {
     let col = weighed.columns.column(j);
@@ -57,7 +58,7 @@ fn build_periodic_nodes(
     columns: Columns,
     log: usize,
 ) -> Result<ArrayVec<u64, MOST_COLUMNS>, Refusal>
-    requires { (builder.old.prime ≡ columns.prime) × Promises.Covered (field_of columns.prime) columns.lengths.now columns.entries.now log }
+    requires { (builder.old.prime ≡ columns.prime) × Promises.Covered columns.lengths.now columns.entries.now log }
     ensures { let c = columns.entry in Runs.Listing (Runs.held builder.old) (λ field. Periodic.build_periodic_nodes field (Held.columns c) log) (Runs.held builder.new) (length c.lengths.now) result }
 {
     let weighed = Weighed::new(columns);
@@ -94,22 +95,18 @@ fn lower_stores(lengths: &[u64], work_room: usize, place_words: usize) -> Result
     dag::room_check(lengths.len(), place_words)
 }
 
-// Lower's tests before anything is built: the columns, if they pass.
-#[tactic(auto, unfolding(crate::specs::Lower::lower_check))]
-fn lower_check<'a>(
+// Lower's tests behind the list's: the columns, if they pass.
+fn columns_check<'a>(
     prime: Prime,
-    list: &[u64],
-    n: usize,
     lengths: &'a [u64],
     entries: &'a [u64],
     period: u64,
     work_room: usize,
     place_words: usize,
 ) -> Result<Columns<'a>, Refusal>
-    ensures checked { ColumnPromises.outcome result ≡ Lower.lower_check (field_of prime) (interleaved list.now) n lengths.now entries.now period work_room place_words }
+    ensures checked { Refusals.outcome result ≡ Promises.columns_check (field_of prime) lengths.now entries.now period work_room place_words }
     ensures columns { IfOk result (λ c. (c.prime ≡ prime) × (c.lengths.now ≡ lengths.now) × (c.entries.now ≡ entries.now)) }
 {
-    dag::rootless_check(prime, list, n, 0)?;
     let columns = Columns::new(prime, lengths, entries)?;
     lower_stores(lengths, work_room, place_words)?;
     if !period_good(prime, lengths, period) {
@@ -149,18 +146,18 @@ fn hand_over(
 
 // Lower past its first tests, but for the work store.
 fn lower_with(
-    list: &[u64],
-    n: usize,
+    dag: Dag,
     columns: Columns,
     period: u64,
     res: &mut [u64],
     places: &mut [u64],
 ) -> Result<usize, Refusal>
-    requires { Promises.Passed (field_of columns.prime) (interleaved list.now) n columns.lengths.now columns.entries.now period (length places.old) }
-    ensures { let c = columns.entry in Promises.Finished (field_of c.prime) (interleaved list.now) n c.lengths.now c.entries.now period res.old places.old result res.new places.new }
+    requires same { dag.prime ≡ columns.prime }
+    requires passed { Promises.Passed (field_of columns.prime) columns.lengths.now columns.entries.now period (length places.old) }
+    ensures { let c = columns.entry in Promises.Finished (field_of c.prime) (interleaved dag.entry.list.now) dag.entry.n c.lengths.now c.entries.now period res.old places.old result res.new places.new }
 {
     let mut builder = PeriodicBuilder::new(columns.prime);
-    builder.load(list, n);
+    builder.load(dag.list, dag.n);
     let log = columns::log_within(felt::most_log(columns.prime), period);
     let nodes = build_periodic_nodes(&mut builder, columns, log)?;
     hand_over(&builder.list, builder.count, &nodes, res, places)
@@ -168,19 +165,19 @@ fn lower_with(
 
 // Lower past its first tests.
 fn lower_ready(
-    list: &[u64],
-    n: usize,
+    dag: Dag,
     columns: Columns,
     period: u64,
     res: &mut [u64],
     work: &mut [u64],
     places: &mut [u64],
 ) -> Result<usize, Refusal>
-    requires { Promises.Passed (field_of columns.prime) (interleaved list.now) n columns.lengths.now columns.entries.now period (length places.old) }
-    ensures { let c = columns.entry in Promises.Finished (field_of c.prime) (interleaved list.now) n c.lengths.now c.entries.now period res.old places.old result res.new places.new × (work.new ≡ replicate (length work.old) blank) }
+    requires same { dag.prime ≡ columns.prime }
+    requires passed { Promises.Passed (field_of columns.prime) columns.lengths.now columns.entries.now period (length places.old) }
+    ensures { let c = columns.entry in Promises.Finished (field_of c.prime) (interleaved dag.entry.list.now) dag.entry.n c.lengths.now c.entries.now period res.old places.old result res.new places.new × (work.new ≡ replicate (length work.old) blank) }
 {
     dag::blank_from(work, 0);
-    lower_with(list, n, columns, period, res, places)
+    lower_with(dag, columns, period, res, places)
 }
 
 // Lower: the list with the nodes of these columns, under a shared period; answers its count.
@@ -200,15 +197,14 @@ pub fn lower(
     ensures work { work.new ≡ Lower.lower_work (field_of prime) (interleaved list.now) n lengths.now entries.now period res.old work.old places.old }
     ensures places { places.new ≡ Lower.lower_places (field_of prime) (interleaved list.now) n lengths.now entries.now period res.old work.old places.old }
 {
-    let columns = lower_check(
+    let dag = Dag::rootless(prime, list, n)?;
+    let columns = columns_check(
         prime,
-        list,
-        n,
         lengths,
         entries,
         period,
         dag::room(work),
         places.len(),
     )?;
-    lower_ready(list, n, columns, period, res, work, places)
+    lower_ready(dag, columns, period, res, work, places)
 }

@@ -5,36 +5,36 @@ use Rattle.std.proofs.lemmas.Result.{err_from_is_err_and}
 use Rattle.field.specs.Fields.{field_of}
 use Rattle.field.specs.declared.QuadFelt.{QuadFelt}
 use Rattle.dag.specs.BranchLaws.{told}
-use Rattle.evaluate.specs.CallLaws.{links_room, links_keyed, root_inside, may_fill, inputs_refused, inputs_value}
+use Rattle.evaluate.specs.CallLaws.{links_room, links_keyed, entries_pass, list_passes, inputs_refused, inputs_value}
 use Rattle.evaluate.proofs.evaluate_within.Goals as goal
 
 pub index-requires : goal.index-requires
 index-requires g c = (
   omega arith,
   (
-    (may_fill (field_of c.args.prime) _ _ _ _ _ c.requires.tested _ c.requires.sized.records).lent,
+    (entries_pass (field_of c.args.dag.prime).bounds _ _ _ (omega arith) c.requires.passed).0,
     links_keyed c.requires.sized _ _,
     links_room c.requires.sized,
   ),
 )
 
-pub fill_values-requires-clause-ready : goal.fill_values-requires-clause-ready
-fill_values-requires-clause-ready g c =
-    may_fill (field_of c.args.prime) _ _ _ _ _ c.requires.tested _
-    (omega (arith, length-replicate {A = QuadFelt} g.row.VALUES (record { c0 = 0; c1 = 0 }), c.requires.sized.records))
+pub fill_values-requires-clause-fits : goal.fill_values-requires-clause-fits
+fill_values-requires-clause-fits g c =
+    omega (arith, length-replicate {A = QuadFelt} g.row.VALUES (record { c0 = 0; c1 = 0 }), c.requires.sized.records)
 
 pub returns-in_err-fill_values : goal.returns-in_err-fill_values
 returns-in_err-fill_values g c =
+    let d = c.args.dag in
+    let list = list_passes (field_of d.prime).bounds _ _ _ d.sound d.most c.requires.inside in
     let p = err_from_is_err_and c.from_residual.result c.from_residual.ensures.1 in
     rw (p.1, p.2)
-    (inputs_refused (field_of c.args.prime) _ _ _ _ _ c.requires.tested _ (told c.fill_values.ensures.value c.in_err-fill_values.was))
+    (inputs_refused (field_of d.prime) _ _ _ _ _ list c.requires.passed _ (told c.fill_values.ensures.value c.in_err-fill_values.was))
 
 pub value_at-requires : goal.value_at-requires
 value_at-requires g c =
-    let h = root_inside (field_of c.args.prime) _ _ _ _ _ c.requires.tested in
     omega (
       arith,
-      h,
+      c.requires.inside,
       length-replicate {A = QuadFelt} g.row.VALUES (record { c0 = 0; c1 = 0 }),
       c.requires.sized.records,
       c.fill_values.auto.values,
@@ -42,5 +42,7 @@ value_at-requires g c =
 
 pub returns : goal.returns
 returns g c =
-    inputs_value (field_of c.args.prime) _ _ _ _ _ c.requires.tested (told c.fill_values.ensures.value c.in_ok-fill_values.was) _
-    (c.value_at.ensures ∙ c.fill_values.ensures.filled c.in_ok-fill_values.was _ (root_inside (field_of c.args.prime) _ _ _ _ _ c.requires.tested))
+    let d = c.args.dag in
+    let list = list_passes (field_of d.prime).bounds _ _ _ d.sound d.most c.requires.inside in
+    inputs_value (field_of d.prime) _ _ _ _ _ list c.requires.passed (told c.fill_values.ensures.value c.in_ok-fill_values.was) _
+    (c.value_at.ensures ∙ c.fill_values.ensures.filled c.in_ok-fill_values.was _ c.requires.inside)

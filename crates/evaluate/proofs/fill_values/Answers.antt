@@ -3,6 +3,7 @@ use Rattle.std.proofs.lemmas.Result.{err_from_is_err_and}
 use Rattle.field.specs.Fields.{field_of}
 use Rattle.dag.specs.Refusals.{first_refused}
 use Rattle.dag.specs.BranchLaws.{told}
+use Rattle.evaluate.specs.CallLaws.{entries_pass}
 use Rattle.evaluate.specs.Entries.{inputs_check}
 use Rattle.evaluate.specs.ValueStepLaws.{may_value, filled_more, input_more, input_none}
 use Rattle.evaluate.proofs.fill_values.Goals as goal
@@ -22,19 +23,23 @@ loop-i-init c = (λ j h. absurd (omega arith), refl)
 
 pub value_of-requires-clause-valued : goal.value_of-requires-clause-valued
 value_of-requires-clause-valued c =
-    may_value (field_of c.args.prime) _ _ _ _ _ c.requires.ready _ _ (omega arith) (omega (arith, c.requires.ready.fits)) c.loop-i.invariant.0
+    may_value (field_of c.args.dag.prime) _ _ c.args.dag.sound _ _ c.requires.passed _ _ (omega arith) (omega (arith, c.requires.fits)) c.loop-i.invariant.0
+
+pub value_of-requires-clause-indexed : goal.value_of-requires-clause-indexed
+value_of-requires-clause-indexed c =
+    record { lent = (entries_pass (field_of c.args.dag.prime).bounds _ _ _ (omega arith) c.requires.passed).0; keyed = c.requires.keyed }
 
 pub returns-in_err-values-clause-value : goal.returns-in_err-values-clause-value
 returns-in_err-values-clause-value c =
     let p = err_from_is_err_and c.from_residual.result c.from_residual.ensures.1 in
     let q = none_of c.in_err-values.ensures.value in
     rw (p.1, p.2, q.1)
-    (input_none (field_of c.args.prime) _ _ _ _ _ c.requires.ready _ _ (omega arith) c.loop-i.invariant.1 (sym (told c.value_of.ensures q.0)))
+    (input_none (field_of c.args.dag.prime) _ _ c.args.dag.sound _ _ c.requires.passed _ _ (omega arith) c.loop-i.invariant.1 (sym (told c.value_of.ensures q.0)))
 
 pub loop-i-preserved : goal.loop-i-preserved
 loop-i-preserved c =
     let e = some_of _ c.in_ok-values.ensures.value ∙ c.value_of.ensures in (
-      filled_more (field_of c.args.prime) _ _ _ _ _ c.requires.ready _ _ (omega arith) (omega (arith, c.requires.ready.fits)) c.loop-i.invariant.0
+      filled_more (field_of c.args.dag.prime) _ _ c.args.dag.sound _ _ c.requires.passed _ _ (omega arith) (omega (arith, c.requires.fits)) c.loop-i.invariant.0
           _ _ e refl,
-      input_more (field_of c.args.prime) _ _ _ _ _ c.requires.ready _ _ (omega arith) c.loop-i.invariant.1 _ e,
+      input_more (field_of c.args.dag.prime) _ _ c.args.dag.sound _ _ c.requires.passed _ _ (omega arith) c.loop-i.invariant.1 _ e,
     )

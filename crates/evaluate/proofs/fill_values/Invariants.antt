@@ -10,5 +10,6 @@ use Rattle.evaluate.proofs.fill_values.Given as goal
 
 abbrev pub invariant-loop-i : goal.invariant-loop-i
 invariant-loop-i l =
-    Filled (field_of l.prime) (interleaved l.list) l.n l.entries.words.now l.entries.count l.values l.i
-    × (inputs_check (entry_of entry_words l.entries.words.now l.entries.count) (nodes (interleaved l.list) l.n) l.i ≡ Ok tt)
+    let d = l.dag in
+    Filled (field_of d.prime) (interleaved d.list.now) d.n l.entries.words.now l.entries.count l.values l.i
+    × (inputs_check (entry_of entry_words l.entries.words.now l.entries.count) (nodes (interleaved d.list.now) d.n) l.i ≡ Ok tt)
