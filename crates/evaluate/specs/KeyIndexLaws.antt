@@ -40,19 +40,19 @@ module _ (width : ℕ) (e : List ℕ) (n : ℕ) (links : List ℕ) (key : ℕ) (
   abbrev pub here : ℕ → Bool
   here i = eqb (key_at width e i) key
 
-  pub seeks : (k h : ℕ) (w : Words) → k ≡ bucket_of (half links) h → h ≡ hash w.tag w.first w.second → w ≡ three (Input key)
+  pub seeks : (k : ℕ) (w : Words) → k ≡ bucket_of (half links) (hash w.tag w.first w.second) → w ≡ three (Input key)
       → (may_test : ℕ → Type 0) (tested : ℕ → Bool → Type 0) (may_search : ℕ → Type 0) (searched : ℕ → Option ℕ → Type 0)
       → ((i : ℕ) → width * i < length e → may_test i) → ((i : ℕ) (b : Bool) → tested i b → b ≡ here i)
       → ((i : ℕ) → Lent width e i → may_search i) → ((i : ℕ) (r : Option ℕ) → searched i r → r ≡ entry_of width e i key)
       → Sought here n links k may_test tested may_search searched
   unfolding entry_of
-  seeks k h w ek eh ew may_test tested may_search searched test test_is search_at search_is =
+  seeks k w ek ew may_test tested may_search searched test test_is search_at search_is =
       record {
         bucket = λ i. key_bucket (half links) (key_at width e i);
         indexed = d.keyed.indexed;
-        inside = rw (ek, eh, ew) (node_inside (half links) 0 key 0 d.keyed.usable.some);
+        inside = rw (ek, ew) (node_inside (half links) 0 key 0 d.keyed.usable.some);
         few = d.keyed.room;
-        only = λ i j q. ap (key_bucket (half links)) (eqb-true (key_at width e i) key q) ∙ sym (ek ∙ rw (eh, ew));
+        only = λ i j q. ap (key_bucket (half links)) (eqb-true (key_at width e i) key q) ∙ sym (ek ∙ rw ew);
         test = λ i j. test i (key_room width e n d.lent i j);
         test_is = λ i b j p. test_is i b p;
         search_at = λ i j. search_at i (lent_first width e n i j d.lent);

@@ -24,16 +24,14 @@ const ENTRY_WORDS: usize = 3;
 
 // The records and entries that the smallest stores hold, and the links of their index.
 const FEW: usize = 64;
-
-const FEW_LINKS: usize = 128;
+const FEW_LINKS: usize = 2 * FEW;
 
 // Those that the next larger stores hold.
 const MANY: usize = 512;
-
-const MANY_LINKS: usize = 1024;
+const MANY_LINKS: usize = 2 * MANY;
 
 // The links of the largest index.
-const MOST_LINKS: usize = 8192;
+const MOST_LINKS: usize = 2 * MOST_ENTRIES;
 
 // The first `count` entries of a store, WIDTH words each: a key number, then an element's coordinates.
 #[derive(Clone, Copy)]
@@ -139,7 +137,7 @@ impl<const WIDTH: usize> Entries<'_, WIDTH> {
         requires { KeyIndex.Lookup WIDTH self.now.words.now self.now.count links.now }
         ensures { result ≡ Places.entry_of WIDTH self.now.words.now self.now.count key }
     {
-        let k = index::bucket_of(links.len() / 2, index::hash(words_of_key(key)));
+        let k = index::bucket(links, words_of_key(key));
         index::walk(
             links,
             k,

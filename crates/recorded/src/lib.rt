@@ -163,12 +163,12 @@ pub struct Writes<'a> {
     pub c: &'a mut [u64],
 }
 
-// Whether written stores hold what is recorded of them at three places.
+// Whether stores hold what is recorded of them at three places.
 #[tactic(auto, unfolding(crate::specs::Stream::hold_all))]
-pub fn hold_all(s: &[u8], t: Trio, written: &Writes) -> bool
-    ensures { result ≡ Stream.hold_all s.now t written.now.a.now written.now.b.now written.now.c.now }
+pub fn hold_all(s: &[u8], t: Trio, a: &[u64], b: &[u64], c: &[u64]) -> bool
+    ensures { result ≡ Stream.hold_all s.now t a.now b.now c.now }
 {
-    holds(s, t.a, written.a) && holds(s, t.b, written.b) && holds(s, t.c, written.c)
+    holds(s, t.a, a) && holds(s, t.b, b) && holds(s, t.c, c)
 }
 
 // Whether words are those recorded from a place on.
