@@ -22,7 +22,7 @@ use Rattle.dag.specs.NodeLaws.{length_nodes}
 use Rattle.dag.specs.Refusals.{need, ◌then◌, unless_refused}
 use Rattle.dag.specs.Check.{room_check, rootless_check}
 use Rattle.dag.specs.CheckLaws.{then_good, need_good}
-use Rattle.dag.specs.PassLaws.{room_enough}
+use Rattle.dag.specs.PassLaws.{Listed, room_enough, listed}
 use Rattle.dag.specs.Store.{Sound, stored}
 use Rattle.dag.specs.WordLaws.{filled_front}
 use Rattle.dag.specs.declared.Refusal.{Refusal}
@@ -30,9 +30,10 @@ use Rattle.dag.specs.declared.Refusal.TheVariants.{NoRoom, SharedPeriod}
 use Rattle.columns.specs.Columns.{log_within, is_power}
 use Rattle.columns.specs.Prepare.{columns, prepare_check}
 use Rattle.columns.specs.PrepareLaws.{prepared}
+use Rattle.columns.specs.Promises.{Tested}
 use Rattle.periodic.specs.Periodic.{build_periodic_nodes}
 use Rattle.lower.specs.Lower.{longest_from, longest, period_good, lower_check, lowered, lower_stores, lower_room, whole_check, lower_answer, lower_result, lower_places, lower_work}
-use Rattle.lower.specs.Promises.{columns_check, Passed, has_room, HandedOver, Finished}
+use Rattle.lower.specs.Promises.{columns_check, Ready, has_room, HandedOver, Finished}
 use Rattle.lower.specs.FormLaws.{covered}
 
 -- the longest, as std has the greatest
@@ -79,9 +80,9 @@ need_cond false q f g = refl
 module _ (field : Field) where
   -- what the tests behind the list's give
   module _ (ls es : List ℕ) (period work_room place_words : ℕ) where
-    pub passed : columns_check field ls es period work_room place_words ≡ Ok tt → Passed field ls es period place_words
+    pub ready : columns_check field ls es period work_room place_words ≡ Ok tt → Ready field ls es period place_words
     unfolding lower_stores
-    passed e =
+    ready e =
         let one = then_good (prepare_check (modulus field) ls es) (lower_stores ls work_room place_words then need (period_good field ls period) SharedPeriod) e in
         let two = then_good (lower_stores ls work_room place_words) (need (period_good field ls period) SharedPeriod) one.1 in
         let stores = then_good (room_check most_records work_room) (room_check (length ls) place_words) two.0 in
@@ -98,6 +99,18 @@ module _ (field : Field) where
     pub list_refused : (s : View) (n : ℕ) {r : Refusal} → rootless_check field.bounds 0 s n ≡ Err r → lower_check field s n ls es period work_room place_words ≡ Err r
     unfolding lower_check
     list_refused s n e = rw e
+
+  -- a list and columns that pass
+  pub record Passed (s : View) (n : ℕ) (ls es : List ℕ) : Type 0 where
+    pub list : Listed field.bounds s 0 n
+    pub tested : Tested (modulus field) ls es
+
+  pub passed : (s : View) (n : ℕ) (ls es : List ℕ) (period work_room place_words : ℕ) → lower_check field s n ls es period work_room place_words ≡ Ok tt → Passed s n ls es
+  unfolding lower_check
+  passed s n ls es period work_room place_words e =
+      let both = then_good (rootless_check field.bounds 0 s n) (columns_check field ls es period work_room place_words) e in
+      let tests = then_good (prepare_check (modulus field) ls es) (lower_stores ls work_room place_words then need (period_good field ls period) SharedPeriod) both.1 in
+      record { list = listed field.bounds 0 s n both.0; tested = prepared (modulus field) ls es tests.0 }
 
   -- past the tests
   module _ (s : View) (n : ℕ) (ls es : List ℕ) (period : ℕ) (result places : List ℕ) where

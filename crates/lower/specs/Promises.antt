@@ -40,8 +40,8 @@ module _ (field : Field) where
       then lower_stores ls work_room place_words
       then need (period_good field ls period) SharedPeriod
 
-  -- what they give
-  pub record Passed (ls es : List ℕ) (period place_words : ℕ) : Type 0 where
+  -- what they give of the places and the period
+  pub record Ready (ls es : List ℕ) (period place_words : ℕ) : Type 0 where
     pub place_room : length ls ≤ place_words
     pub covered : Covered ls es (log_within field.most_log period)
 

@@ -153,7 +153,7 @@ fn lower_with(
     places: &mut [u64],
 ) -> Result<usize, Refusal>
     requires same { dag.prime ≡ columns.prime }
-    requires passed { Promises.Passed (field_of columns.prime) columns.lengths.now columns.entries.now period (length places.old) }
+    requires ready { Promises.Ready (field_of columns.prime) columns.lengths.now columns.entries.now period (length places.old) }
     ensures { let c = columns.entry in Promises.Finished (field_of c.prime) (interleaved dag.entry.list.now) dag.entry.n c.lengths.now c.entries.now period res.old places.old result res.new places.new }
 {
     let mut builder = PeriodicBuilder::new(columns.prime);
@@ -173,7 +173,7 @@ fn lower_ready(
     places: &mut [u64],
 ) -> Result<usize, Refusal>
     requires same { dag.prime ≡ columns.prime }
-    requires passed { Promises.Passed (field_of columns.prime) columns.lengths.now columns.entries.now period (length places.old) }
+    requires ready { Promises.Ready (field_of columns.prime) columns.lengths.now columns.entries.now period (length places.old) }
     ensures { let c = columns.entry in Promises.Finished (field_of c.prime) (interleaved dag.entry.list.now) dag.entry.n c.lengths.now c.entries.now period res.old places.old result res.new places.new × (work.new ≡ replicate (length work.old) blank) }
 {
     dag::blank_from(work, 0);

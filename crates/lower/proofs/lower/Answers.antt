@@ -1,7 +1,7 @@
 use Rattle.std.proofs.Common.{sym, ◌∙◌}
 use Rattle.std.proofs.lemmas.Result.{err_from_is_err_and}
 use Rattle.field.specs.Fields.{field_of}
-use Rattle.lower.specs.CallLaws.{passed, columns_left, list_refused, lower_refused, lower_done}
+use Rattle.lower.specs.CallLaws.{ready, columns_left, list_refused, lower_refused, lower_done}
 use Rattle.lower.proofs.lower.Goals as goal
 
 pub returns-in_err-dag : goal.returns-in_err-dag
@@ -11,10 +11,10 @@ returns-in_err-dag c =
     let d = lower_refused (field_of c.args.prime) _ _ _ _ _ _ _ _ _ refused in
     record { answer = rw (p.1, p.2) d.answer; res = d.result_is; work = d.work_is; places = d.places_are }
 
-pub lower_ready-requires-clause-passed : goal.lower_ready-requires-clause-passed
-lower_ready-requires-clause-passed c =
+pub lower_ready-requires-clause-ready : goal.lower_ready-requires-clause-ready
+lower_ready-requires-clause-ready c =
     let same = c.in_ok-columns.ensures.columns in
-    rw (same.0, same.1, same.2) (passed (field_of c.args.prime) _ _ _ _ _ (sym c.in_ok-columns.ensures.checked))
+    rw (same.0, same.1, same.2) (ready (field_of c.args.prime) _ _ _ _ _ (sym c.in_ok-columns.ensures.checked))
 
 pub returns-in_err-columns : goal.returns-in_err-columns
 returns-in_err-columns c =
