@@ -120,7 +120,7 @@ impl LagrangeBasis<'_> {
         requires { Promises.Products (field_of builder.old.prime) builder.old.count self.now × ColumnPromises.Column (modulus_of builder.old.prime) self.now.col.now }
         ensures { Runs.Entering (Runs.held builder.old) (λ field. Periodic.basis_sum field self.now.col.now self.now.prefix.now self.now.suffix.now) (Runs.held builder.new) result }
     {
-        let values = columns::values(self.col);
+        let values = columns::values::<MOST_ENTRIES>(self.col);
         let d = columns::offset(builder.prime, self.col, &values);
         let start = builder.constant(d)?;
         let sum = self.all_terms(builder, &values, d, start, false)?;
@@ -179,7 +179,7 @@ fn basis_back(
 {
     let one = builder.constant(1)?;
     let turned = backwards(factors);
-    let suffix = builder.chain(one, &turned[..col.len() - 1])?;
+    let suffix = builder.chain::<MOST_ENTRIES>(one, &turned[..col.len() - 1])?;
     let basis = LagrangeBasis {
         col,
         roots,
@@ -202,7 +202,7 @@ fn basis_front(
     let scale = coefficients::size_inverse(builder.prime, col);
     let factors = basis_factors(builder, point, roots, col)?;
     let start = builder.constant(scale)?;
-    let prefix = builder.chain(start, &factors[..col.len() - 1])?;
+    let prefix = builder.chain::<MOST_ENTRIES>(start, &factors[..col.len() - 1])?;
     basis_back(builder, roots, &factors, &prefix, col)
 }
 

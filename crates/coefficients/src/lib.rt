@@ -157,8 +157,8 @@ pub fn dense(prime: Prime, col: &[u64]) -> [u64; MOST_ENTRIES]
 }
 
 // The places of a column's nonzero entries.
-pub fn support(col: &[u64]) -> ArrayVec<u64, MOST_TERMS>
-    requires { length (Columns.support col.now) ≤ MOST_TERMS }
+pub fn support<const N: usize>(col: &[u64]) -> ArrayVec<u64, N>
+    requires { length (Columns.support col.now) ≤ N }
     ensures { result.items ≡ Columns.support col.now }
 {
     let mut places = ArrayVec::new();

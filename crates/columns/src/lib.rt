@@ -112,8 +112,8 @@ fn standalone(col: &[u64]) -> usize
 }
 
 // A column's values, each once in order of their first places.
-pub fn values(col: &[u64]) -> ArrayVec<u64, MOST_ENTRIES>
-    requires { length col.now ≤ MOST_ENTRIES }
+pub fn values<const N: usize>(col: &[u64]) -> ArrayVec<u64, N>
+    requires { length col.now ≤ N }
     ensures { result.items ≡ Spec.values col.now }
 {
     let mut values = ArrayVec::new();
@@ -203,7 +203,7 @@ fn gain(prime: Prime, col: &[u64]) -> usize
     if others(col, col[0]) == 0 {
         return 0;
     }
-    let values = values(col);
+    let values = values::<MOST_ENTRIES>(col);
     let d = offset(prime, col, &values);
     standalone(col).saturating_sub(combination_cost(prime, col, &values, d))
 }
@@ -227,7 +227,7 @@ fn all_below(prime: Prime, col: &[u64]) -> bool
 
 // Column j.
 #[tactic(auto, using(crate::specs::ColumnLaws::places))]
-fn column<'a>(lengths: &[u64], entries: &'a [u64], j: usize) -> &'a [u64]
+pub fn column<'a>(lengths: &[u64], entries: &'a [u64], j: usize) -> &'a [u64]
     requires { Promises.Handed lengths.now entries.now × (j < length lengths.now) }
     ensures { result.now ≡ Spec.column (Prepare.columns lengths.now entries.now) j }
 {

@@ -148,12 +148,12 @@ impl PeriodicBuilder {
     }
 
     // The first place, then times the first factor, times the first two, ..
-    pub fn chain(
+    pub fn chain<const N: usize>(
         &mut self,
         first: usize,
         factors: &[usize],
-    ) -> Result<ArrayVec<usize, MOST_ENTRIES>, Refusal>
-        requires { (first < self.old.count) × Promises.AllInside self.old.count factors.now × (length factors.now < 128) }
+    ) -> Result<ArrayVec<usize, N>, Refusal>
+        requires { (first < self.old.count) × Promises.AllInside self.old.count factors.now × (length factors.now < N) }
         ensures { Runs.Listing (Runs.held self.old) (λ field. Periodic.chain field.elements first factors.now (length factors.now)) (Runs.held self.new) (length factors.now + 1) result }
     {
         let mut products = ArrayVec::new();
@@ -261,7 +261,7 @@ impl PeriodicBuilder {
         ensures { Runs.Entering (Runs.held self.old) (λ field. Periodic.sparse_value field col.now k) (Runs.held self.new) result }
     {
         let prime = self.prime;
-        let places = coefficients::support(col);
+        let places = coefficients::support::<MOST_TERMS>(col);
         let rows = coefficients::sparse_twiddles(prime, col, &places);
         let values = coefficients::sparse_values(prime, col, &places);
         let log = columns::log_length(col);

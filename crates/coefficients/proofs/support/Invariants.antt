@@ -8,4 +8,4 @@ use Rattle.columns.specs.Columns as Columns
 use Rattle.coefficients.proofs.support.Given as goal
 
 abbrev pub invariant-loop-j : goal.invariant-loop-j
-invariant-loop-j l = l.places.items ++ Columns.places_from (λ v. not (eqb v 0)) l.j (drop l.j l.col) ≡ Columns.support l.col
+invariant-loop-j g l = l.places.items ++ Columns.places_from (λ v. not (eqb v 0)) l.j (drop l.j l.col) ≡ Columns.support l.col

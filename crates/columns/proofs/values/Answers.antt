@@ -7,10 +7,10 @@ use Rattle.columns.proofs.values.Goals.{then-not-contains, else-not-contains}
 
 pub loop-v-init : goal.loop-v-init
 unfolding Columns.values
-loop-v-init c = search rules
+loop-v-init g c = search rules
 
 pub loop-v-preserved : goal.loop-v-preserved
-loop-v-preserved c =
+loop-v-preserved g c =
     let among : c.contains.result ≡ list_any (λ x. eqb x (get_or c.args.col.now c.loop-v.v-index 0)) c.loop-v.values.items = c.contains.ensures.value ∙ ap (list_any (λ x. eqb x (get_or c.args.col.now c.loop-v.v-index 0))) c.deref.ensures.0 in
     elim c.if-not-contains.branch [
       | then-not-contains w ↦ (
@@ -24,4 +24,4 @@ loop-v-preserved c =
     ]
 
 pub returns : goal.returns
-returns c = values_end _ _ _ _ c.loop-v-test.false c.loop-v.invariant.1
+returns g c = values_end _ _ _ _ c.loop-v-test.false c.loop-v.invariant.1

@@ -8,7 +8,7 @@ use Rattle.periodic.specs.Runs as Runs
 use Rattle.periodic.proofs.PeriodicBuilder.chain.Given as goal
 
 abbrev pub invariant-loop-factor : goal.invariant-loop-factor
-invariant-loop-factor l =
+invariant-loop-factor g l =
     record {
       listed : Runs.Listed (Runs.held l.initial.self) (λ field. Builder.turns (λ i ps. Builder.also ps (Builder.mul field.elements (get_or ps i 0) (get_or l.factors i 0))) l.factor-index (l.first ∷ [])) (Runs.held l.self) (l.factor-index + 1) l.products.items;
       last : l.product ≡ get_or l.products.items l.factor-index 0;
