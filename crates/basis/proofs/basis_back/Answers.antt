@@ -14,12 +14,15 @@ unfolding Periodic.basis_back
 returns-in_err-one c = refused _ _ c.from_residual.ensures (long_first _ c.in_err-one.ensures.told)
 
 pub chain-requires : goal.chain-requires
-chain-requires c = (lit< tt, (
-  c.in_ok-one.ensures.told.inside,
-  all_later c.in_ok-one.ensures.told.ran.longer
-      (turned_inside c.args.factors.now _ _ c.backwards-turned.ensures (omega (arith, c.requires.0.long, c.requires.3.short)) (omega (arith, c.requires.0.long)) _ c.requires.0.inside),
-  omega (arith, turned_long c.args.factors.now _ (length c.args.col.now - 1) c.backwards-turned.ensures (omega (arith, c.requires.0.long, c.requires.3.short)) (omega (arith, c.requires.0.long)), c.requires.3.short, c.requires.3.some),
-))
+chain-requires c = (
+  lit< tt,
+  (
+    c.in_ok-one.ensures.told.inside,
+    all_later c.in_ok-one.ensures.told.ran.longer
+        (turned_inside c.args.factors.now _ _ c.backwards-turned.ensures (omega (arith, c.requires.0.long, c.requires.3.short)) (omega (arith, c.requires.0.long)) _ c.requires.0.inside),
+    omega (arith, turned_long c.args.factors.now _ (length c.args.col.now - 1) c.backwards-turned.ensures (omega (arith, c.requires.0.long, c.requires.3.short)) (omega (arith, c.requires.0.long)), c.requires.3.short, c.requires.3.some),
+  ),
+)
 
 pub returns-in_err-suffix : goal.returns-in_err-suffix
 unfolding Periodic.basis_back
