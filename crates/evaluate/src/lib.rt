@@ -24,10 +24,12 @@ const ENTRY_WORDS: usize = 3;
 
 // The records and entries that the smallest stores hold, and the links of their index.
 const FEW: usize = 64;
+
 const FEW_LINKS: usize = 2 * FEW;
 
 // Those that the next larger stores hold.
 const MANY: usize = 512;
+
 const MANY_LINKS: usize = 2 * MANY;
 
 // The links of the largest index.

@@ -104,7 +104,8 @@ impl<'a> Case<'a> {
             b: laid(s, parts.written.b, &mut b),
             c: laid(s, parts.written.c, &mut c),
         };
-        call.ask(s, at, parts.said, read, &mut written) && hold_all(s, parts.held, written.a, written.b, written.c)
+        call.ask(s, at, parts.said, read, &mut written)
+            && hold_all(s, parts.held, written.a, written.b, written.c)
     }
 
     // Whether the case is answered as recorded.
