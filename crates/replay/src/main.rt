@@ -104,8 +104,9 @@ impl<'a> Case<'a> {
             b: laid(s, parts.written.b, &mut b),
             c: laid(s, parts.written.c, &mut c),
         };
-        call.ask(s, at, parts.said, read, &mut written)
-            && hold_all(s, parts.held, written.a, written.b, written.c)
+        let told = call.ask(s, at, parts.said, read, &mut written);
+        let Writes { a, b, c } = written;
+        told && hold_all(s, parts.held, a, b, c)
     }
 
     // Whether the case is answered as recorded.
