@@ -28,6 +28,9 @@ pub const RECORD_WORDS: usize = 3;
 // A list is short up to so many records: stores for the longest would take longer to clear than it takes to use.
 pub const FEW_RECORDS: usize = 256;
 
+// The greatest tag of a record.
+const LAST_TAG: u64 = 5;
+
 // The most roots that a list has.
 pub const MOST_ROOTS: usize = 8;
 
@@ -155,28 +158,29 @@ pub fn lowest(prime: Prime, c0: u64, c1: u64) -> bool
 }
 
 // Whether a record of a known tag may have these words.
-#[tactic(auto, unfolding(crate::specs::Check::formed))]
+#[tactic(auto, unfolding(crate::specs::Nodes::decode, crate::specs::Check::formed))]
 fn formed(prime: Prime, w: Words) -> bool
+    requires { w.tag ≤ 5 }
     ensures { result ≡ Check.formed (field_of prime).bounds w.tag w.first w.second }
 {
-    match w.tag {
-        0 => is_key(w.first) && w.second == 0,
-        1 => lowest(prime, w.first, w.second),
-        5 => w.second == 0,
+    match NodeKind::from(w) {
+        NodeKind::Input(k) => is_key(k) && w.second == 0,
+        NodeKind::Constant(c) => lowest(prime, c.c0, c.c1),
+        NodeKind::Neg(_) => w.second == 0,
         _ => true,
     }
 }
 
-// Whether the operands of a record with these words come before place i.
-#[tactic(auto, unfolding(crate::specs::Check::earlier))]
+// Whether the operands of a record with these words, of a known tag, come before place i.
+#[tactic(auto, unfolding(crate::specs::Nodes::decode, crate::specs::Check::earlier))]
 fn earlier(w: Words, i: usize) -> bool
+    requires { w.tag ≤ 5 }
     ensures { result ≡ Check.earlier w.tag w.first w.second i }
 {
-    let place = i as u64;
-    match w.tag {
-        0 | 1 => true,
-        5 => w.first < place,
-        _ => w.first < place && w.second < place,
+    match NodeKind::from(w) {
+        NodeKind::Input(_) | NodeKind::Constant(_) => true,
+        NodeKind::Neg(a) => a < i,
+        NodeKind::Add(a, b) | NodeKind::Sub(a, b) | NodeKind::Mul(a, b) => a < i && b < i,
     }
 }
 
@@ -185,7 +189,7 @@ fn earlier(w: Words, i: usize) -> bool
 pub fn record_check(prime: Prime, w: Words, i: usize) -> Result<(), Refusal>
     ensures { result ≡ Check.record_check (field_of prime).bounds w.tag w.first w.second i }
 {
-    if 5 < w.tag {
+    if LAST_TAG < w.tag {
         return Err(Refusal::UnknownTag(i));
     }
     if !formed(prime, w) {
@@ -464,7 +468,9 @@ pub fn copy_records(from: &[u64], n: usize, to: &mut [u64])
     ensures { to.new ≡ Store.copied_records from.now to.old n }
 {
     let words = RECORD_WORDS * n;
-    to[..words].copy_from_slice(&from[..words]);
+    for (i, word) in to[..words].iter_mut().enumerate() {
+        *word = from[i];
+    }
 }
 
 // Fills a store with blanks from a place on.
