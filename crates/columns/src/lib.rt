@@ -194,18 +194,28 @@ pub fn offset(prime: Prime, col: &[u64], values: &[u64]) -> u64
     }
 }
 
-// What a column saves in basis.
-#[tactic(auto, unfolding(crate::specs::Columns::gain, crate::specs::Columns::equal_entries))]
-fn gain(prime: Prime, col: &[u64]) -> usize
-    requires { Promises.Column (modulus_of prime) col.now }
-    ensures { result ≡ Spec.gain (modulus_of prime) col.now }
-{
-    if others(col, col[0]) == 0 {
-        return 0;
+// A column that was tested: 1, 2, 4, .. or 128 entries, below the prime.
+#[derive(Clone, Copy)]
+pub struct Column<'a> {
+    pub prime: Prime,
+    pub entries: &'a [u64],
+    pub ghost tested: { Promises.Column (modulus_of prime) entries.now },
+}
+
+impl<'a> Column<'a> {
+    // What the column saves in basis.
+    #[tactic(auto, unfolding(crate::specs::Columns::gain, crate::specs::Columns::equal_entries))]
+    fn gain(&self) -> usize
+        ensures { result ≡ Spec.gain (modulus_of self.now.prime) self.now.entries.now }
+    {
+        let col = self.entries;
+        if others(col, col[0]) == 0 {
+            return 0;
+        }
+        let values = values::<MOST_ENTRIES>(col);
+        let d = offset(self.prime, col, &values);
+        standalone(col).saturating_sub(combination_cost(self.prime, col, &values, d))
     }
-    let values = values::<MOST_ENTRIES>(col);
-    let d = offset(prime, col, &values);
-    standalone(col).saturating_sub(combination_cost(prime, col, &values, d))
 }
 
 // How many entries columns of these lengths have.
@@ -225,17 +235,6 @@ fn all_below(prime: Prime, col: &[u64]) -> bool
     col.iter().all(|v| *v < modulus)
 }
 
-// Column j.
-#[tactic(auto, using(crate::specs::ColumnLaws::places))]
-pub fn column<'a>(lengths: &[u64], entries: &'a [u64], j: usize) -> &'a [u64]
-    requires { Promises.Handed lengths.now entries.now × (j < length lengths.now) }
-    ensures { result.now ≡ Spec.column (Prepare.columns lengths.now entries.now) j }
-{
-    let a = total(&lengths[..j]);
-    let e = a + lengths[j] as usize;
-    &entries[a..e]
-}
-
 // The first length that is no power of two in 1 to 128.
 #[tactic(auto, using(crate::specs::PrepareLaws::at_each))]
 fn lengths_check(lengths: &[u64]) -> Result<(), Refusal>
@@ -249,18 +248,47 @@ fn lengths_check(lengths: &[u64]) -> Result<(), Refusal>
     Ok(())
 }
 
-// The first column with an entry not below the prime.
-#[tactic(auto, using(crate::specs::PrepareLaws::at_each))]
-fn entries_check(prime: Prime, lengths: &[u64], entries: &[u64]) -> Result<(), Refusal>
-    requires { Promises.Handed lengths.now entries.now }
-    ensures { result ≡ Refusals.first_refused (Prepare.entries_check (modulus_of prime) (Prepare.columns lengths.now entries.now)) (length lengths.now) }
-{
-    for j in 0..lengths.len() {
-        if !all_below(prime, column(lengths, entries, j)) {
-            return Err(Refusal::Malformed(j));
-        }
+// Lengths that passed, and enough entries for them: one column after the other.
+#[derive(Clone, Copy)]
+pub struct Layout<'a> {
+    pub lengths: &'a [u64],
+    pub entries: &'a [u64],
+    pub ghost handed: { Promises.Handed lengths.now entries.now },
+}
+
+impl<'a> Layout<'a> {
+    // Column j.
+    #[tactic(auto, using(crate::specs::ColumnLaws::places))]
+    pub fn column(&self, j: usize) -> &'a [u64]
+        requires { j < length self.now.lengths.now }
+        ensures { result.now ≡ Spec.column (Prepare.columns self.now.lengths.now self.now.entries.now) j }
+    {
+        let a = total(&self.lengths[..j]);
+        let e = a + self.lengths[j] as usize;
+        &self.entries[a..e]
     }
-    Ok(())
+
+    // Whether an earlier column equals column j.
+    fn is_repeated(&self, j: usize) -> bool
+        requires { j < length self.now.lengths.now }
+        ensures { result ≡ Spec.is_among (Prepare.columns self.now.lengths.now self.now.entries.now) j j }
+    {
+        let col = self.column(j);
+        (0..j).any(|i| self.column(i) == col)
+    }
+
+    // The first column with an entry not below the prime.
+    #[tactic(auto, using(crate::specs::PrepareLaws::at_each))]
+    fn entries_check(&self, prime: Prime) -> Result<(), Refusal>
+        ensures { result ≡ Refusals.first_refused (Prepare.entries_check (modulus_of prime) (Prepare.columns self.now.lengths.now self.now.entries.now)) (length self.now.lengths.now) }
+    {
+        for j in 0..self.lengths.len() {
+            if !all_below(prime, self.column(j)) {
+                return Err(Refusal::Malformed(j));
+            }
+        }
+        Ok(())
+    }
 }
 
 // Columns that passed Prepare's tests: their lengths, and their entries one column after the other.
@@ -288,7 +316,7 @@ impl<'a> Columns<'a> {
         if entries.len() < total(lengths) {
             return Err(Refusal::StoreTooShort);
         }
-        entries_check(prime, lengths, entries)?;
+        Layout { lengths, entries }.entries_check(prime)?;
         Ok(Columns {
             prime,
             lengths,
@@ -296,30 +324,26 @@ impl<'a> Columns<'a> {
         })
     }
 
+    // Where the columns stand.
+    fn layout(&self) -> Layout<'a>
+        ensures { (result.lengths ≡ self.now.lengths) × (result.entries ≡ self.now.entries) }
+    {
+        Layout {
+            lengths: self.lengths,
+            entries: self.entries,
+        }
+    }
+
     // Column j.
-    pub fn column(&self, j: usize) -> &'a [u64]
-        requires { j < length self.now.lengths.now }
-        ensures { result.now ≡ Spec.column (Held.columns self.now) j }
-    {
-        column(self.lengths, self.entries, j)
-    }
-
-    // Whether an earlier column equals column j.
-    fn is_repeated(&self, j: usize) -> bool
-        requires { j < length self.now.lengths.now }
-        ensures { result ≡ Spec.is_among (Held.columns self.now) j j }
-    {
-        let col = self.column(j);
-        (0..j).any(|i| self.column(i) == col)
-    }
-
-    // What column j saves in basis.
     #[tactic(auto, using(crate::specs::PrepareLaws::tested_column))]
-    fn gain(&self, j: usize) -> u64
+    pub fn column(&self, j: usize) -> Column<'a>
         requires { j < length self.now.lengths.now }
-        ensures { result ≡ Spec.gain (Held.modulus self.now) (Spec.column (Held.columns self.now) j) }
+        ensures { (result.prime ≡ self.now.prime) × (result.entries.now ≡ Spec.column (Held.columns self.now) j) }
     {
-        gain(self.prime, self.column(j)) as u64
+        Column {
+            prime: self.prime,
+            entries: self.layout().column(j),
+        }
     }
 
     // f at each column, 0 past the last.
@@ -352,8 +376,9 @@ impl<'a> Weighed<'a> {
     pub fn new(columns: Columns<'a>) -> Weighed<'a>
         ensures { result.columns ≡ columns.entry }
     {
-        let gains = columns.each(|j| columns.gain(j));
-        let savings = columns.each(|j| if columns.is_repeated(j) { 0 } else { gains[j] });
+        let layout = columns.layout();
+        let gains = columns.each(|j| columns.column(j).gain() as u64);
+        let savings = columns.each(|j| if layout.is_repeated(j) { 0 } else { gains[j] });
         Weighed {
             columns,
             gains,
@@ -376,7 +401,7 @@ impl<'a> Weighed<'a> {
         requires { j < length self.now.columns.lengths.now }
         ensures { result ≡ Spec.form (Held.modulus self.now.columns) (Held.columns self.now.columns) j }
     {
-        let col = self.columns.column(j);
+        let col = self.columns.column(j).entries;
         if self.goes_over(col.len() as u64) && 0 < self.gains[j] {
             Form::Basis
         } else if is_sparse(col) {

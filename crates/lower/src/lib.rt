@@ -47,7 +47,7 @@ fn column_node(
     requires { let c = weighed.now.columns in (builder.old.prime ≡ c.prime) × Promises.Covered c.lengths.now c.entries.now log × (j < length c.lengths.now) }
     ensures { let c = weighed.now.columns in Runs.Entering (Runs.held builder.old) (λ field. Periodic.column_node field (Held.columns c) log j) (Runs.held builder.new) result }
 {
-    let col = weighed.columns.column(j);
+    let col = weighed.columns.column(j).entries;
     let k = log - columns::log_length(col);
     column_value(builder, col, weighed.form(j), k)
 }

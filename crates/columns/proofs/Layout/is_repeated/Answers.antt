@@ -4,7 +4,7 @@ use Rattle.std.proofs.lemmas.Iterator.Search.{any_from_yields_List}
 use Rattle.columns.specs.Columns.{column, same_entries}
 use Rattle.columns.specs.Prepare.{columns}
 use Rattle.columns.specs.ColumnLaws.{among_is, same_is}
-use Rattle.columns.proofs.Columns.is_repeated.Goals as goal
+use Rattle.columns.proofs.Layout.is_repeated.Goals as goal
 
 pub returns : goal.returns
 returns c =
