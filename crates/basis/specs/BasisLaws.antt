@@ -1,8 +1,7 @@
 -- The classes of a column in basis, by the tests that the code makes.
-use Rattle.std.specs.Prelude.{ℕ, zero, suc, [], ◌+◌, ◌-◌, ◌<◌, ◌≤◌, Bool, List, ◌≡◌, refl, get_or, length, take, replicate}
-use Rattle.std.proofs.Math.Bool.{true, false, not}
-use Rattle.std.specs.Bool.{beq}
-use Rattle.std.proofs.Common.{sym, ◌∙◌, ap, ap₂, arith, eq-eqb, ne_eqb, take_at, get_or-take}
+use Rattle.std.specs.Prelude.{ℕ, zero, suc, [], ◌+◌, ◌-◌, ◌<◌, ◌≤◌, Bool, List, ◌≡◌, refl, get_or, length, take, replicate, Result, Ok, Err, IfOk, ◌⊎◌}
+use Rattle.std.proofs.Math.Bool.{true, false, not, cond, ◌&&◌}
+use Rattle.std.proofs.Common.{inl, inr, sym, ◌∙◌, ap, ap₂, arith, eq-eqb, ne_eqb, take_at, get_or-take}
 use Rattle.std.proofs.Math.ListN.{get_or-append}
 use Rattle.std.proofs.Math.Seq.{take-length}
 use Rattle.std.proofs.Math.Path.{subst}
@@ -14,42 +13,30 @@ use Rattle.columns.specs.Prepare.{all_below}
 use Rattle.columns.specs.Promises.{Column}
 use Rattle.field.specs.Field.{modulus_of}
 use Rattle.dag.specs.Arrays.{up_to, padded}
-use Rattle.columns.specs.ClassLaws.{below_values}
+use Rattle.columns.specs.ClassLaws.{below_at, below_values}
 use Rattle.dag.specs.ArrayLaws.{length_up_to, get_or_up_to, get_or_filled}
 use Rattle.coefficients.specs.Terms.{root}
 use Rattle.coefficients.specs.Arrays.{roots}
 use Rattle.periodic.specs.Builder.{done, ◌>>=◌, add}
 use Rattle.periodic.specs.Periodic.{backwards, factor, element, class_turn, coefficient, is_added, is_subtracted, add_class, sub_class, term_turn}
 use Rattle.periodic.specs.Promises.{AllInside}
-use Rattle.periodic.specs.SameLaws.{same_is}
-use Rattle.periodic.specs.Runs.{State, Overlong}
-use Rattle.periodic.specs.RunLaws.{long_first, long_like, all_later}
+use Rattle.periodic.specs.SameLaws.{Same, same_is}
+use Rattle.periodic.specs.Runs.{State, held, Entering}
+use Rattle.periodic.specs.RunLaws.{all_later, enter_like}
+use Rattle.periodic.specs.declared.PeriodicBuilder.{PeriodicBuilder}
 use Rattle.basis.specs.Promises as Said
-use Rattle.basis.specs.Promises.{Roots, Factors, Products, Class, Offset}
+use Rattle.basis.specs.Promises.{Later, Roots, Factors, Products, Class, Offset}
 use Rattle.basis.specs.declared.LagrangeBasis.{LagrangeBasis}
 use Rattle.dag.specs.declared.Refusal.{Refusal}
 use Rattle.field.specs.Fields.{field_of}
 use Rattle.field.specs.declared.Prime.{Prime}
 use Rattle.periodic.specs.Builder.{Builder, turns}
-use Rattle.periodic.specs.Periodic.{class_sum, all_terms}
+use Rattle.periodic.specs.Periodic.{all_terms}
 use Rattle.coefficients.specs.TermLaws.{up_to_entries}
 use Rattle.dag.specs.ArrayLaws.{length_padded}
 use mathlib.Core.List.{◌++◌, ◌∷◌, reverse}
 use Rattle.std.proofs.lemmas.List.{drop_at, drop-replicate, get_or-reverse, length-reverse, length-take-le}
 use Rattle.std.proofs.Math.ListN.{drop}
-
--- what a test of two flags says
-unlike : (b d : Bool) → not (beq b d) ≡ true → b ≡ not d
-unlike false false e = e
-unlike false true e = refl
-unlike true false e = refl
-unlike true true e = sym e
-
-alike : (b d : Bool) → not (beq b d) ≡ false → b ≡ d
-alike false false e = refl
-alike false true e = sym e
-alike true false e = e
-alike true true e = refl
 
 -- a list of places from its end
 up_to_below : (f g : ℕ → ℕ) (n : ℕ) → ((i : ℕ) → i < n → f i ≡ g i) → up_to f n ≡ up_to g n
@@ -122,56 +109,45 @@ module _ (field : Field) where
   unfolding Said.factor factor
   factor_at c rs point k d h = rw (d.at k h)
 
-  module _ (c prefix suffix : List ℕ) where
-    module _ (d v k sum : ℕ) (ed : d ≡ offset (modulus field) c) where
-      -- the offset is no class
-      pub term_offset : (minus : Bool) → v ≡ d → done sum ≡ term_turn field c minus prefix suffix v sum
-      unfolding term_turn is_added is_subtracted
-      term_offset false e = rw (eq-eqb v (offset (modulus field) c) (e ∙ ed))
-      term_offset true e = rw (eq-eqb v (offset (modulus field) c) (e ∙ ed))
+  -- the class of value v, with offset d
+  module _ (c : List ℕ) (d v : ℕ) (ed : d ≡ offset (modulus field) c) where
+    pub is_coefficient : field.coordinates.sub v d ≡ coefficient field c v
+    unfolding coefficient
+    is_coefficient = ap (field.coordinates.sub v) ed ∙ field.coordinates_sub v (offset (modulus field) c)
 
-      module _ (n : v ≡ d → ⊥) (ek : k ≡ field.coordinates.sub v d) where
-        pub is_coefficient : k ≡ coefficient field c v
-        unfolding coefficient
-        is_coefficient = ek ∙ (ap (field.coordinates.sub v) ed ∙ field.coordinates_sub v (offset (modulus field) c))
+    module _ (w : Bool) (ew : w ≡ eqb (field.coordinates.sub v d) (modulus field - 1)) where
+      minus_one : eqb (coefficient field c v) (modulus field - 1) ≡ w
+      minus_one = sym (ew ∙ ap (λ k. eqb k (modulus field - 1)) is_coefficient)
 
-        other : v ≡ offset (modulus field) c → ⊥
-        other e = n (e ∙ sym ed)
+      module _ (prefix suffix : List ℕ) (sum : ℕ) where
+        pub add_skipped : (v ≡ d) ⊎ ((v ≡ d → ⊥) × (w ≡ true)) → Same (done sum) (term_turn field c false prefix suffix v sum)
+        unfolding term_turn is_added
+        add_skipped (inl e) = same_is (rw (eq-eqb v (offset (modulus field) c) (e ∙ ed)) refl)
+        add_skipped (inr e) = same_is (rw (minus_one ∙ e.1) (neither (eqb v (offset (modulus field) c))))
+          where
+            neither : (b : Bool) → done sum ≡ cond (not b && false) (add_class field c prefix suffix v sum) (done sum)
+            neither true = refl
+            neither false = refl
 
-        module _ (b : Bool) (eb : b ≡ eqb k (modulus field - 1)) where
-          minus_one : eqb (coefficient field c v) (modulus field - 1) ≡ b
-          minus_one = sym (eb ∙ ap (λ k. eqb k (modulus field - 1)) is_coefficient)
+        pub add_taken : (v ≡ d → ⊥) → w ≡ false → Same (add_class field c prefix suffix v sum) (term_turn field c false prefix suffix v sum)
+        unfolding term_turn is_added
+        add_taken n e = same_is (rw (ne_eqb v (offset (modulus field) c) (λ q. n (q ∙ sym ed)), minus_one ∙ e) refl)
 
-          -- the class is none of those asked for
-          pub term_other : (minus : Bool) → not (beq b minus) ≡ true → done sum ≡ term_turn field c minus prefix suffix v sum
-          unfolding term_turn is_added is_subtracted
-          term_other minus e = go minus (minus_one ∙ unlike b minus e)
-            where
-              go : (minus : Bool) → eqb (coefficient field c v) (modulus field - 1) ≡ not minus → done sum ≡ term_turn field c minus prefix suffix v sum
-              go false q = rw (ne_eqb v (offset (modulus field) c) other, q)
-              go true q = rw (ne_eqb v (offset (modulus field) c) other, q)
+        pub sub_skipped : (v ≡ d) ⊎ ((v ≡ d → ⊥) × (w ≡ false)) → Same (done sum) (term_turn field c true prefix suffix v sum)
+        unfolding term_turn is_subtracted
+        sub_skipped (inl e) = same_is (rw (eq-eqb v (offset (modulus field) c) (e ∙ ed)) refl)
+        sub_skipped (inr e) = same_is (rw (minus_one ∙ e.1) (neither (eqb v (offset (modulus field) c))))
+          where
+            neither : (b : Bool) → done sum ≡ cond (not b && false) (sub_class field c prefix suffix v sum) (done sum)
+            neither true = refl
+            neither false = refl
 
-          pub term_added : (minus : Bool) → not (beq b minus) ≡ false → minus ≡ false → add_class field c prefix suffix v sum ≡ term_turn field c minus prefix suffix v sum
-          unfolding term_turn is_added
-          term_added minus e m =
-              subst (λ t. add_class field c prefix suffix v sum ≡ term_turn field c t prefix suffix v sum) (sym m) (rw (ne_eqb v (offset (modulus field) c) other, minus_one ∙ (alike b minus e ∙ m)))
-
-          pub term_subtracted : (minus : Bool) → not (beq b minus) ≡ false → minus ≡ true → sub_class field c prefix suffix v sum ≡ term_turn field c minus prefix suffix v sum
-          unfolding term_turn is_subtracted
-          term_subtracted minus e m =
-              subst (λ t. sub_class field c prefix suffix v sum ≡ term_turn field c t prefix suffix v sum) (sym m) (rw (ne_eqb v (offset (modulus field) c) other, minus_one ∙ (alike b minus e ∙ m)))
+        pub sub_taken : (v ≡ d → ⊥) → w ≡ true → Same (sub_class field c prefix suffix v sum) (term_turn field c true prefix suffix v sum)
+        unfolding term_turn is_subtracted
+        sub_taken n e = same_is (rw (ne_eqb v (offset (modulus field) c) (λ q. n (q ∙ sym ed)), minus_one ∙ e) refl)
 
   pub offset_of : (c vs : List ℕ) (d : ℕ) → all_below (modulus field) c ≡ true → vs ≡ values c → d ≡ offset (modulus field) c → d < modulus field → Offset field c vs d
   offset_of c vs d low e o h = record { are = e; low = rw e (below_values (modulus field) c low); offset_is = o; offset_low = h }
-
--- the sum of a class that is asked for
-pub class_long : (b : State) (p : Prime) → b.prime ≡ p → (c prefix suffix : List ℕ) (d v k sum : ℕ) → d ≡ offset (modulus (field_of p)) c → (v ≡ d → ⊥) → k ≡ (field_of p).coordinates.sub v d
-    → (t : Bool) → t ≡ eqb k (modulus (field_of p) - 1) → (minus : Bool) → not (beq t minus) ≡ false → {s : State} {r : Refusal} → Overlong b (λ field. class_sum field c prefix suffix v) s r → Overlong b (λ field. term_turn field c minus prefix suffix v sum) s r
-unfolding add_class sub_class
-class_long b p e c prefix suffix d v k sum ed n ek t et false h q =
-    long_like {m = λ field. add_class field c prefix suffix v sum} e (same_is (term_added (field_of p) c prefix suffix d v k sum ed n ek t et false h refl)) (long_first _ q)
-class_long b p e c prefix suffix d v k sum ed n ek t et true h q =
-    long_like {m = λ field. sub_class field c prefix suffix v sum} e (same_is (term_subtracted (field_of p) c prefix suffix d v k sum ed n ek t et true h refl)) (long_first _ q)
 
 -- a row tested
 module _ (c prefix suffix : List ℕ) (v j acc : ℕ) where
@@ -183,12 +159,20 @@ module _ (c prefix suffix : List ℕ) (v j acc : ℕ) where
   unfolding class_turn
   row_taken e = rw (eq-eqb (get_or c j 0) v e)
 
+-- a computation at the builder's prime
+pub at_prime : {b a : State} {m : Field → Builder ℕ} {r : Result ℕ Refusal} {p : Prime} → b.prime ≡ p → Entering b m a r → Entering b (λ _. m (field_of p)) a r
+at_prime e d = enter_like e (same_is refl) d
+
 -- the terms of all classes, from the column's values
-pub terms_are : (c prefix suffix : List ℕ) (minus : Bool) (start : ℕ) (vs : List ℕ) → vs ≡ values c
-    → ◌≡◌ {A = Field → Builder ℕ} (λ field. turns (λ k sum. term_turn field c minus prefix suffix (get_or vs k 0) sum) (length vs) start) (λ field. all_terms field c minus prefix suffix start)
+pub terms_entered : {b a : State} {r : Result ℕ Refusal} {p : Prime} (c prefix suffix : List ℕ) (minus : Bool) (start : ℕ) (vs : List ℕ) → b.prime ≡ p → vs ≡ values c
+    → Entering b (λ _. turns (λ k sum. term_turn (field_of p) c minus prefix suffix (get_or vs k 0) sum) (length vs) start) a r → Entering b (λ field. all_terms field c minus prefix suffix start) a r
 unfolding all_terms
-terms_are c prefix suffix minus start vs e =
-    ap {B = Field → Builder ℕ} (λ us field. turns (λ k sum. term_turn field c minus prefix suffix (get_or us k 0) sum) (length us) start) e
+terms_entered c prefix suffix minus start vs e v d = enter_like e (same_is (rw v refl)) d
+
+-- what is entered keeps the prime and the records, and its place is inside
+pub kept : (b a : PeriodicBuilder) (m : Field → Builder ℕ) (r : Result ℕ Refusal) → Entering (held b) m (held a) r → Later b a × IfOk r (λ place. place < a.count)
+kept b a m (Ok place) d = (record { prime_is = d.told.ran.prime_is; longer = d.told.ran.longer }, d.told.inside)
+kept b a m (Err r) d = (record { prime_is = d.told.prime_is; longer = d.told.longer }, tt)
 
 -- over more records, under the same prime
 module _ {p q : Prime} (e : p ≡ q) where
@@ -214,3 +198,10 @@ module _ {p q : Prime} (e : p ≡ q) where
 
   pub column_later : {c : List ℕ} → Column (modulus_of q) c → Column (modulus_of p) c
   column_later d = rw e d
+
+-- what a turn asks, over a later builder
+pub turn_asked : {b q : PeriodicBuilder} {basis : LagrangeBasis} {vs : List ℕ} {d k : ℕ} → Later b q → Products (field_of b.prime) b.count basis → Offset (field_of b.prime) basis.col.now vs d → k < length vs
+    → Products (field_of q.prime) q.count basis × Class (field_of q.prime) basis.col.now d (get_or vs k 0)
+turn_asked {b} {basis = basis} {vs = vs} {d = d} {k = k} h ps os i =
+    let class : Class (field_of b.prime) basis.col.now d (get_or vs k 0) = record { offset_is = os.offset_is; offset_low = os.offset_low; value_low = below_at (modulus_of b.prime) _ _ os.low i } in
+    (products_later h.prime_is h.longer ps, class_later h.prime_is class)

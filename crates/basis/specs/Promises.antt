@@ -1,12 +1,39 @@
 -- What the functions of a column in basis ask.
-use Rattle.std.specs.Prelude.{ℕ, ◌<◌, ◌≤◌, true, List, ◌≡◌, get_or, length}
+use Rattle.std.specs.Prelude.{ℕ, ◌<◌, ◌≤◌, true, List, ◌≡◌, get_or, length, Result, IfOk}
+use Rattle.std.specs.Borrow.{MutBor}
+use Rattle.dag.specs.declared.Refusal.{Refusal}
+use Rattle.periodic.specs.Runs.{held, Entering}
 use Rattle.field.specs.Fields.{Field, modulus}
 use Rattle.columns.specs.Columns.{values, offset}
 use Rattle.columns.specs.Prepare.{all_below}
 use Rattle.coefficients.specs.Terms.{root}
 use Rattle.periodic.specs.Builder.{Builder, constant, sub, ◌>>=◌}
 use Rattle.periodic.specs.Promises.{AllInside}
+use Rattle.periodic.specs.declared.PeriodicBuilder.{PeriodicBuilder}
 use Rattle.basis.specs.declared.LagrangeBasis.{LagrangeBasis}
+
+-- a later builder: the same prime, and no fewer records
+pub record Later (b c : PeriodicBuilder) : Type 0 where
+  pub prime_is : c.prime ≡ b.prime
+  pub longer : b.count ≤ c.count
+
+-- turns on the places of a later builder, each for a value of vs
+module _ (b : PeriodicBuilder) (vs : List ℕ) where
+  -- where each turn may be called
+  abbrev pub Callable : (MutBor PeriodicBuilder → ℕ → ℕ → Type 0) → Type 0
+  Callable pre = (q : MutBor PeriodicBuilder) (k s : ℕ) → Later b q.now → k < length vs → s < q.now.count → pre q (get_or vs k 0) s
+
+  -- each leaves a later builder, and answers a place inside, if any
+  abbrev pub Keeps : (MutBor PeriodicBuilder → ℕ → ℕ → Result ℕ Refusal → MutBor PeriodicBuilder → Type 0) → Type 0
+  Keeps post =
+      (q : MutBor PeriodicBuilder) (k s : ℕ) (r : Result ℕ Refusal) (a : MutBor PeriodicBuilder) → Later b q.now → k < length vs → post q (get_or vs k 0) s r a
+      → Later q.now a.now × IfOk r (λ place. place < a.now.count)
+
+  -- each does what m computes
+  abbrev pub Computes : (MutBor PeriodicBuilder → ℕ → ℕ → Result ℕ Refusal → MutBor PeriodicBuilder → Type 0) → (ℕ → ℕ → Builder ℕ) → Type 0
+  Computes post m =
+      (q : MutBor PeriodicBuilder) (k s : ℕ) (r : Result ℕ Refusal) (a : MutBor PeriodicBuilder) → Later b q.now → k < length vs → post q (get_or vs k 0) s r a
+      → Entering (held q.now) (λ field. m (get_or vs k 0) s) (held a.now) r
 
 module _ (field : Field) where
   -- point − root

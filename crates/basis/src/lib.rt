@@ -1,11 +1,12 @@
 // The value of a column in basis: the Lagrange basis of its rows, and the classes of its entries over it.
 #![tactic(auto)]
 
-ghost use Rattle.std.specs.Prelude.{◌≡◌, ◌+◌, ◌-◌, ◌<◌, ◌≤◌, length};
+ghost use Rattle.std.specs.Prelude.{◌≡◌, ℕ, ◌+◌, ◌-◌, ◌<◌, ◌≤◌, true, false, eqb, get_or, length};
 ghost use Rattle.field.specs.Fields.{field_of};
 ghost use Rattle.field.specs.Field.{modulus_of};
 ghost use Rattle.dag.specs.Arrays.{padded};
 ghost use Rattle.columns.specs.Promises as ColumnPromises;
+ghost use Rattle.periodic.specs.Builder.{Builder, turns};
 ghost use Rattle.periodic.specs.Periodic as Periodic;
 ghost use Rattle.periodic.specs.Promises.{AllInside};
 ghost use Rattle.periodic.specs.Runs as Runs;
@@ -14,8 +15,35 @@ ghost use Rattle.basis.specs.Promises as Promises;
 use arrayvec::ArrayVec;
 use columns::MOST_ENTRIES;
 use dag::Refusal;
-use field::felt;
+use field::{Prime, felt};
 use periodic::PeriodicBuilder;
+
+// Whether a class of value v has the coefficient −1, with offset d.
+fn is_minus(prime: Prime, v: u64, d: u64) -> bool
+    requires { (v < modulus_of prime) × (d < modulus_of prime) }
+    ensures { result ≡ eqb ((field_of prime).coordinates.sub v d) (modulus_of prime - 1) }
+{
+    felt::is_minus_one(prime, felt::sub(prime, v, d))
+}
+
+// The sum with the term of each class, in turn.
+fn all_terms<F: Fn(&mut PeriodicBuilder, u64, usize) -> Result<usize, Refusal>>(
+    builder: &mut PeriodicBuilder,
+    values: &[u64],
+    start: usize,
+    term: F,
+) -> Result<usize, Refusal>
+    requires inside { start < builder.old.count }
+    requires callable { Promises.Callable builder.old values.now (F.pre term) }
+    requires kept { Promises.Keeps builder.old values.now (F.post term) }
+    ensures { (m : ℕ → ℕ → Builder ℕ) → Promises.Computes builder.old values.now (F.post term) m → Runs.Entering (Runs.held builder.old) (λ field. turns (λ k s. m (get_or values.now k 0) s) (length values.now) start) (Runs.held builder.new) result }
+{
+    let mut sum = start;
+    for v in values {
+        sum = term(builder, *v, sum)?;
+    }
+    Ok(sum)
+}
 
 // The Lagrange basis of a column's rows: its entries, their roots, and the places of the products before and behind each row.
 #[derive(Clone, Copy)]
@@ -67,52 +95,45 @@ impl LagrangeBasis<'_> {
         Ok(acc)
     }
 
-    // The sum with the term of the class of value v, where it is one asked for: of the classes with coefficient −1, or of the others.
-    fn term_turn(
+    // The sum with the class of value v added, unless it is the offset's or its coefficient is −1.
+    fn add_turn(
         &self,
         builder: &mut PeriodicBuilder,
         d: u64,
         v: u64,
         sum: usize,
-        minus: bool,
     ) -> Result<usize, Refusal>
         requires { Promises.Products (field_of builder.old.prime) builder.old.count self.now × (sum < builder.old.count) × Promises.Class (field_of builder.old.prime) self.now.col.now d v }
-        ensures { Runs.Entering (Runs.held builder.old) (λ field. Periodic.term_turn field self.now.col.now minus self.now.prefix.now self.now.suffix.now v sum) (Runs.held builder.new) result }
+        ensures { Runs.Entering (Runs.held builder.old) (λ field. Periodic.term_turn field self.now.col.now false self.now.prefix.now self.now.suffix.now v sum) (Runs.held builder.new) result }
     {
-        if v == d {
-            return Ok(sum);
-        }
         let prime = builder.prime;
-        let k = felt::sub(prime, v, d);
-        if felt::is_minus_one(prime, k) != minus {
+        let is_minus = is_minus(prime, v, d);
+        if v == d || is_minus {
             return Ok(sum);
         }
         let class = self.class_sum(builder, v)?;
-        if minus {
-            return builder.sub(sum, class);
-        }
-        let scale = builder.constant(k)?;
+        let scale = builder.constant(felt::sub(prime, v, d))?;
         let term = builder.mul(scale, class)?;
         builder.add(sum, term)
     }
 
-    // The sum with those terms of all classes.
-    fn all_terms(
+    // The sum with the class of value v subtracted, where its coefficient is −1.
+    fn sub_turn(
         &self,
         builder: &mut PeriodicBuilder,
-        values: &[u64],
         d: u64,
-        start: usize,
-        minus: bool,
+        v: u64,
+        sum: usize,
     ) -> Result<usize, Refusal>
-        requires { Promises.Products (field_of builder.old.prime) builder.old.count self.now × (start < builder.old.count) × Promises.Offset (field_of builder.old.prime) self.now.col.now values.now d }
-        ensures { Runs.Entering (Runs.held builder.old) (λ field. Periodic.all_terms field self.now.col.now minus self.now.prefix.now self.now.suffix.now start) (Runs.held builder.new) result }
+        requires { Promises.Products (field_of builder.old.prime) builder.old.count self.now × (sum < builder.old.count) × Promises.Class (field_of builder.old.prime) self.now.col.now d v }
+        ensures { Runs.Entering (Runs.held builder.old) (λ field. Periodic.term_turn field self.now.col.now true self.now.prefix.now self.now.suffix.now v sum) (Runs.held builder.new) result }
     {
-        let mut sum = start;
-        for v in values {
-            sum = self.term_turn(builder, d, *v, sum, minus)?;
+        let is_minus = is_minus(builder.prime, v, d);
+        if v == d || !is_minus {
+            return Ok(sum);
         }
-        Ok(sum)
+        let class = self.class_sum(builder, v)?;
+        builder.sub(sum, class)
     }
 
     // The offset and the classes of the column.
@@ -123,8 +144,12 @@ impl LagrangeBasis<'_> {
         let values = columns::values::<MOST_ENTRIES>(self.col);
         let d = columns::offset(builder.prime, self.col, &values);
         let start = builder.constant(d)?;
-        let sum = self.all_terms(builder, &values, d, start, false)?;
-        self.all_terms(builder, &values, d, sum, true)
+        let sum = all_terms(builder, &values, start, |builder, v, sum| {
+            self.add_turn(builder, d, v, sum)
+        })?;
+        all_terms(builder, &values, sum, |builder, v, sum| {
+            self.sub_turn(builder, d, v, sum)
+        })
     }
 }
 
