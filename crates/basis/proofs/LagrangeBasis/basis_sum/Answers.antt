@@ -21,7 +21,7 @@ all_terms-requires c =
     let offset = offset_later c.in_ok-start.ensures.told.ran.prime_is (offset_of field _ _ _ c.requires.1.low (c.deref-2.ensures.0 ∙ c.values-values.ensures) c.offset-d.ensures.0 c.offset-d.ensures.1) in
     record {
       inside = c.in_ok-start.ensures.told.inside;
-      callable = λ b k s h i j. let q = turn_asked h (products) (offset) i in search rules;
+      callable = λ b k s h i j. let q = turn_asked h products offset i in search rules;
       kept = λ b k s r a h i p.
           let q : Entering (held b.now) (λ field. Periodic.term_turn field c.args.self.now.col.now false c.args.self.now.prefix.now c.args.self.now.suffix.now (get_or c.deref-2.result.now k 0) s) (held a.now) r = search rules in
           kept _ _ _ _ q;
@@ -52,7 +52,7 @@ all_terms-requires-2 c =
     let offset = offset_later e (offset_of field _ _ _ c.requires.1.low (c.deref-3.ensures.0 ∙ c.values-values.ensures) c.offset-d.ensures.0 c.offset-d.ensures.1) in
     record {
       inside = sum.inside;
-      callable = λ b k s h i j. let q = turn_asked h (products) (offset) i in search rules;
+      callable = λ b k s h i j. let q = turn_asked h products offset i in search rules;
       kept = λ b k s r a h i p.
           let q : Entering (held b.now) (λ field. Periodic.term_turn field c.args.self.now.col.now true c.args.self.now.prefix.now c.args.self.now.suffix.now (get_or c.deref-3.result.now k 0) s) (held a.now) r = search rules in
           kept _ _ _ _ q;
