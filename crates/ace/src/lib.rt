@@ -3,6 +3,9 @@
 #![tactic(auto)]
 
 ghost use Rattle.std.specs.Prelude.{◌≡◌, ◌∷◌};
+ghost use Rattle.std.specs.Option.{ok_or};
+ghost use Rattle.field.specs.Numbers.{numbered};
+ghost use Rattle.dag.specs.declared.Refusal.TheVariants as Refusal';
 ghost use Rattle.ace.specs.Answers as Answers;
 ghost use Rattle.ace.specs.Calls as Calls;
 
@@ -10,7 +13,7 @@ use builder::{BuiltDag, Entered};
 use columns::Prepared;
 use compact::Kept;
 use dag::{Refusal, Roots, Words};
-use field::QuadFelt;
+use field::{Prime, QuadFelt};
 use normalize::NormalEnd;
 
 // The interface that include/ace.h names: a caller built against another number is wrong.
@@ -124,6 +127,22 @@ fn lower_words(answer: Result<usize, Refusal>) -> [u64; 4]
     }
 }
 
+// The field of a number: 49 where it is no field's.
+fn prime_of(number: u64) -> Result<Prime, Refusal>
+    ensures { result ≡ ok_or (numbered number) Refusal'.FieldNumber }
+{
+    field::numbered(number).ok_or(Refusal::FieldNumber)
+}
+
+// Step, in a numbered field.
+#[tactic(auto, unfolding(crate::specs::Calls::step_answer, crate::specs::Calls::step_list))]
+fn step(field: u64, list: &mut [u64], n: usize, words: Words) -> Result<Entered, Refusal>
+    ensures store { list.new ≡ Calls.step_list field list.old n words.tag words.first words.second }
+    ensures answer { Answers.step_words result ≡ Calls.step_answer field list.old n words.tag words.first words.second }
+{
+    builder::step(prime_of(field)?, list, n, words)
+}
+
 // Step. Accepted: place, new n.
 pub fn ace_step(
     field: u64,
@@ -137,12 +156,24 @@ pub fn ace_step(
     ensures store { list.new ≡ Calls.step_list field list.old n tag first second }
     ensures answer { answer.new ≡ Calls.step_answer field list.old n tag first second }
 {
-    match field::numbered(field) {
-        Some(prime) => {
-            *answer = step_words(builder::step(prime, list, n, Words { tag, first, second }))
-        }
-        None => *answer = refused_words(Refusal::FieldNumber),
-    }
+    *answer = step_words(step(field, list, n, Words { tag, first, second }));
+}
+
+// Build, in a numbered field.
+#[tactic(auto, unfolding(crate::specs::Calls::build_answer, crate::specs::Calls::build_result, crate::specs::Calls::build_map))]
+fn build(
+    field: u64,
+    list: &[u64],
+    n: usize,
+    root: usize,
+    res: &mut [u64],
+    map: &mut [u64],
+) -> Result<BuiltDag, Refusal>
+    ensures res { res.new ≡ Calls.build_result field list.now n root res.old map.old }
+    ensures map { map.new ≡ Calls.build_map field list.now n root res.old map.old }
+    ensures answer { Answers.build_words result ≡ Calls.build_answer field list.now n root res.old map.old }
+{
+    builder::build(prime_of(field)?, list, n, root, res, map)
 }
 
 // Build. Accepted: count, root's place.
@@ -159,10 +190,22 @@ pub fn ace_build(
     ensures map { map.new ≡ Calls.build_map field list.now n root res.old map.old }
     ensures answer { answer.new ≡ Calls.build_answer field list.now n root res.old map.old }
 {
-    match field::numbered(field) {
-        Some(prime) => *answer = build_words(builder::build(prime, list, n, root, res, map)),
-        None => *answer = refused_words(Refusal::FieldNumber),
-    }
+    *answer = build_words(build(field, list, n, root, res, map));
+}
+
+// Compact, in a numbered field.
+#[tactic(auto, unfolding(crate::specs::Calls::compact_answer, crate::specs::Calls::compact_result))]
+fn compact(
+    field: u64,
+    list: &[u64],
+    n: usize,
+    root: usize,
+    res: &mut [u64],
+) -> Result<Kept, Refusal>
+    ensures res { res.new ≡ Calls.compact_result field list.now n root res.old }
+    ensures answer { Answers.compact_words result ≡ Calls.compact_answer field list.now n root res.old }
+{
+    compact::compact(prime_of(field)?, list, n, root, res)
 }
 
 // Compact. Accepted: count, root.
@@ -177,10 +220,24 @@ pub fn ace_compact(
     ensures res { res.new ≡ Calls.compact_result field list.now n root res.old }
     ensures answer { answer.new ≡ Calls.compact_answer field list.now n root res.old }
 {
-    match field::numbered(field) {
-        Some(prime) => *answer = compact_words(compact::compact(prime, list, n, root, res)),
-        None => *answer = refused_words(Refusal::FieldNumber),
-    }
+    *answer = compact_words(compact(field, list, n, root, res));
+}
+
+// Normalise, in a numbered field.
+#[tactic(auto, unfolding(crate::specs::Calls::normalize_answer, crate::specs::Calls::normalize_result, crate::specs::Calls::normalize_work))]
+fn normalize(
+    field: u64,
+    list: &[u64],
+    n: usize,
+    root: usize,
+    res: &mut [u64],
+    work: &mut [u64],
+) -> Result<NormalEnd, Refusal>
+    ensures res { res.new ≡ Calls.normalize_result field list.now n root res.old work.old }
+    ensures work { work.new ≡ Calls.normalize_work field list.now n root res.old work.old }
+    ensures answer { Answers.normalize_words result ≡ Calls.normalize_answer field list.now n root res.old work.old }
+{
+    normalize::normalize(prime_of(field)?, list, n, root, res, work)
 }
 
 // Normalise. Accepted: count, root, rounds kept.
@@ -197,12 +254,22 @@ pub fn ace_normalize(
     ensures work { work.new ≡ Calls.normalize_work field list.now n root res.old work.old }
     ensures answer { answer.new ≡ Calls.normalize_answer field list.now n root res.old work.old }
 {
-    match field::numbered(field) {
-        Some(prime) => *answer = normalize_words(normalize::normalize(
-            prime, list, n, root, res, work,
-        )),
-        None => *answer = refused_words(Refusal::FieldNumber),
-    }
+    *answer = normalize_words(normalize(field, list, n, root, res, work));
+}
+
+// Evaluate, in a numbered field.
+#[tactic(auto, unfolding(crate::specs::Calls::evaluate_answer))]
+fn evaluate(
+    field: u64,
+    list: &[u64],
+    n: usize,
+    root: usize,
+    assignment: &[u64],
+    m: usize,
+) -> Result<QuadFelt, Refusal>
+    ensures { Answers.evaluate_words result ≡ Calls.evaluate_answer field list.now n root assignment.now m }
+{
+    evaluate::evaluate(prime_of(field)?, list, n, root, assignment, m)
 }
 
 // Evaluate. Accepted: c0, c1.
@@ -217,22 +284,53 @@ pub fn ace_evaluate(
 )
     ensures answer { answer.new ≡ Calls.evaluate_answer field list.now n root assignment.now m }
 {
-    match field::numbered(field) {
-        Some(prime) => *answer = evaluate_words(evaluate::evaluate(
-            prime, list, n, root, assignment, m,
-        )),
-        None => *answer = refused_words(Refusal::FieldNumber),
-    }
+    *answer = evaluate_words(evaluate(field, list, n, root, assignment, m));
+}
+
+// Prepare, in a numbered field.
+#[tactic(auto, unfolding(crate::specs::Calls::prepare_answer))]
+fn prepare(field: u64, lengths: &[u64], entries: &[u64]) -> Result<Prepared, Refusal>
+    ensures { Answers.prepare_words result ≡ Calls.prepare_answer field lengths.now entries.now }
+{
+    columns::prepare(prime_of(field)?, lengths, entries)
 }
 
 // Prepare. Accepted: columns, then a form each.
 pub fn ace_prepare(field: u64, lengths: &[u64], entries: &[u64], answer: &mut [u64; 18])
     ensures answer { answer.new ≡ Calls.prepare_answer field lengths.now entries.now }
 {
-    match field::numbered(field) {
-        Some(prime) => *answer = prepare_words(columns::prepare(prime, lengths, entries)),
-        None => *answer = refused_forms(Refusal::FieldNumber),
-    }
+    *answer = prepare_words(prepare(field, lengths, entries));
+}
+
+// Lower, in a numbered field.
+#[tactic(auto, unfolding(crate::specs::Calls::lower_answer, crate::specs::Calls::lower_result, crate::specs::Calls::lower_work, crate::specs::Calls::lower_places))]
+fn lower(
+    field: u64,
+    list: &[u64],
+    n: usize,
+    lengths: &[u64],
+    entries: &[u64],
+    period: u64,
+    res: &mut [u64],
+    work: &mut [u64],
+    places: &mut [u64],
+) -> Result<usize, Refusal>
+    ensures res { res.new ≡ Calls.lower_result field list.now n lengths.now entries.now period res.old work.old places.old }
+    ensures work { work.new ≡ Calls.lower_work field list.now n lengths.now entries.now period res.old work.old places.old }
+    ensures places { places.new ≡ Calls.lower_places field list.now n lengths.now entries.now period res.old work.old places.old }
+    ensures answer { Answers.lower_words result ≡ Calls.lower_answer field list.now n lengths.now entries.now period res.old work.old places.old }
+{
+    lower::lower(
+        prime_of(field)?,
+        list,
+        n,
+        lengths,
+        entries,
+        period,
+        res,
+        work,
+        places,
+    )
 }
 
 // Lower. Accepted: count.
@@ -253,12 +351,7 @@ pub fn ace_lower(
     ensures places { places.new ≡ Calls.lower_places field list.now n lengths.now entries.now period res.old work.old places.old }
     ensures answer { answer.new ≡ Calls.lower_answer field list.now n lengths.now entries.now period res.old work.old places.old }
 {
-    match field::numbered(field) {
-        Some(prime) => *answer = lower_words(lower::lower(
-            prime, list, n, lengths, entries, period, res, work, places,
-        )),
-        None => *answer = refused_words(Refusal::FieldNumber),
-    }
+    *answer = lower_words(lower(field, list, n, lengths, entries, period, res, work, places));
 }
 
 // The interface's number.
