@@ -11,11 +11,10 @@ use Rattle.std.proofs.Math.ListN.{length}
 use Rattle.ring.specs.Identities.{sub_add_cancel}
 use Rattle.ring.specs.Residue.{residues_laws, sub, add}
 use Rattle.dag.specs.CaseLaws.{cond_elim, and_true}
-use Rattle.std.specs.List.{count_by, list_any, All}
-use Rattle.std.proofs.lemmas.Bool.{not-true, not-false}
+use Rattle.std.specs.List.{count_by, All}
 use Rattle.std.proofs.lemmas.List.{get_or_default}
 use Rattle.std.proofs.lemmas.List.Recursion.{is_count_by}
-use Rattle.columns.specs.CountLaws.{one_more, among_count}
+use Rattle.columns.specs.CountLaws.{one_more}
 use Rattle.columns.specs.Columns.{count, with_new, values_from, values, weight, heaviest, dominant, is_scaled, scalings, others, combination_cost, offset}
 use Rattle.columns.specs.Prepare.{all_below}
 
@@ -174,13 +173,13 @@ module _ (m d : ℕ) (big : 1 < m) where
 
 -- one more value
 module _ (vs : List ℕ) (v : ℕ) where
-  pub new_none : list_any (λ x. eqb x v) vs ≡ true → vs ≡ with_new vs v
+  pub new_none : (count v vs ≡ 0 → ⊥) → vs ≡ with_new vs v
   unfolding with_new
-  new_none e = rw (not-true (eqb (count v vs) 0) (sym (among_count v vs) ∙ e))
+  new_none h = rw (ne_eqb (count v vs) 0 h)
 
-  pub new_one : list_any (λ x. eqb x v) vs ≡ false → vs ++ (v ∷ []) ≡ with_new vs v
+  pub new_one : count v vs ≡ 0 → vs ++ (v ∷ []) ≡ with_new vs v
   unfolding with_new
-  new_one e = rw (not-false (eqb (count v vs) 0) (sym (among_count v vs) ∙ e))
+  new_one e = rw (eq-eqb (count v vs) 0 e)
 
 -- a column's cost in basis, where n classes are scaled
 module _ (m : ℕ) (c vs : List ℕ) (d n k : ℕ) (big : 1 < m) (low : all_below m c ≡ true) (ev : vs ≡ values c) (en : n ≡ length (scalings m d vs)) (ek : k ≡ others c d - 1) where

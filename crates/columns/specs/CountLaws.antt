@@ -1,13 +1,12 @@
 -- How often a value stands in a list, and a list's sum, in std's words.
-use Prim.Native.Nat.{ℕ, suc, ◌+◌}
-use Rattle.std.specs.Prelude.{Bool, true, false, cond, not, ◌||◌, List, [], ◌∷◌, ◌≡◌, refl, eqb, ltb, sum}
-use Rattle.std.specs.List.{count_by, list_any, list_all}
-use Rattle.std.proofs.Common.{sym, ap, arith}
-use Rattle.std.proofs.lemmas.Bool.{ne_eqb}
+use Prim.Native.Nat.{ℕ, suc, ◌+◌, ◌<◌, ◌≤◌}
+use Rattle.std.specs.Prelude.{cond, List, [], ◌∷◌, ◌≡◌, refl, eqb, ltb, sum, take, get_or, length}
+use Rattle.std.specs.List.{count_by, list_all}
+use Rattle.std.proofs.Common.{ap, arith}
 use Rattle.std.proofs.lemmas.List.Recursion.{is_count_by, is_sum_by}
-use Rattle.std.proofs.lemmas.List.Sums.{length-filter}
-use Rattle.std.proofs.lemmas.List.Filters.{length-filter_both}
-use Rattle.columns.specs.Columns.{count, others}
+use Rattle.std.proofs.lemmas.List.Sums.{sum_by_more, count_by-le-length}
+use Rattle.std.proofs.lemmas.List.{take_all}
+use Rattle.columns.specs.Columns.{count}
 use Rattle.columns.specs.Prepare.{total, all_below}
 
 pub one_more : (n : ℕ) → suc n ≡ 1 + n
@@ -17,25 +16,15 @@ pub count_is : (v : ℕ) (c : List ℕ) → count v c ≡ count_by (λ x. eqb x 
 unfolding count
 count_is v c = is_count_by (count v) (λ x. eqb x v) refl (λ x xs. ap (λ n. cond (eqb x v) n (count v xs)) (one_more (count v xs))) c
 
-pub others_is : (c : List ℕ) (d : ℕ) → others c d ≡ count_by (λ v. not (eqb v d)) c
-others_is c d =
-    omega (
-      arith,
-      count_is d c,
-      length-filter (λ v. eqb v d) c,
-      length-filter (λ v. not (eqb v d)) c,
-      length-filter_both (λ v. eqb v d) (λ v. not (eqb v d)) (λ v. refl) c,
-    )
+-- counted along a list
+pub count_more : (v : ℕ) (c : List ℕ) (i : ℕ) → i < length c → count v (take (i + 1) c) ≡ count v (take i c) + cond (eqb (get_or c i 0) v) 1 0
+count_more v c i h = rw (count_is v (take (i + 1) c), count_is v (take i c)) (sum_by_more (λ x. cond (eqb x v) 1 0) c i 0 h)
 
--- v stands in a list
-pub among_count : (v : ℕ) (c : List ℕ) → list_any (λ x. eqb x v) c ≡ not (eqb (count v c) 0)
-unfolding count
-among_count v [] = refl
-among_count v (x ∷ c) = go (eqb x v) (among_count v c)
-  where
-    go : (t : Bool) → list_any (λ x. eqb x v) c ≡ not (eqb (count v c) 0) → (t || list_any (λ x. eqb x v) c) ≡ not (eqb (cond t (suc (count v c)) (count v c)) 0)
-    go true e = ap not (sym (ne_eqb (suc (count v c)) 0 (λ z. omega arith)))
-    go false e = e
+pub count_le : (v : ℕ) (c : List ℕ) → count v c ≤ length c
+count_le v c = rw (count_is v c) (count_by-le-length (λ x. eqb x v) c)
+
+pub count_all : (v : ℕ) (c : List ℕ) (i : ℕ) → length c ≤ i → count v (take i c) ≡ count v c
+count_all v c i h = ap (count v) (take_all i c h)
 
 pub total_is : (ls : List ℕ) → total ls ≡ sum ls
 unfolding total

@@ -54,12 +54,24 @@ pub fn is_power(most: usize, n: u64) -> bool
     n == 1 << log_within(most, n)
 }
 
+// How often v stands in a list.
+#[tactic(auto, using(crate::specs::CountLaws::count_more, crate::specs::CountLaws::count_all), unfolding(crate::specs::Columns::count))]
+fn count(list: &[u64], v: u64) -> usize
+    ensures { result ≡ Spec.count v list.now }
+{
+    let mut n = 0;
+    for x in list {
+        n += usize::from(*x == v);
+    }
+    n
+}
+
 // How many entries are other than d.
-#[tactic(auto, using(crate::specs::CountLaws::others_is))]
+#[tactic(auto, using(crate::specs::CountLaws::count_le))]
 fn others(col: &[u64], d: u64) -> usize
     ensures { result ≡ Spec.others col.now d }
 {
-    col.iter().filter(|v| **v != d).count()
+    col.len() - count(col, d)
 }
 
 // L of a column of 2^L entries.
@@ -118,19 +130,11 @@ pub fn values<const N: usize>(col: &[u64]) -> ArrayVec<u64, N>
 {
     let mut values = ArrayVec::new();
     for v in col {
-        if !values.contains(v) {
+        if count(&values, *v) == 0 {
             values.push(*v);
         }
     }
     values
-}
-
-// How often v stands in a list.
-#[tactic(auto, using(crate::specs::CountLaws::count_is))]
-fn count(list: &[u64], v: u64) -> usize
-    ensures { result ≡ Spec.count v list.now }
-{
-    list.iter().filter(|x| **x == v).count()
 }
 
 // How often a value stands in a column; 0 weighs nothing.
