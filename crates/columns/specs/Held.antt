@@ -1,8 +1,13 @@
--- What a value of `Columns` holds.
+-- What values of `Layout` and `Columns` hold.
 use Rattle.std.specs.Prelude.{ℕ, List}
 use Rattle.field.specs.Field.{modulus_of}
 use Rattle.columns.specs.Prepare as Prepare
+use Rattle.columns.specs.declared.Layout.{Layout}
 use Rattle.columns.specs.declared.Columns.{Columns}
+
+-- the columns that stand there
+abbrev pub laid : Layout → List (List ℕ)
+laid l = Prepare.columns l.lengths.now l.entries.now
 
 -- its columns, and the modulus that their entries are below
 abbrev pub columns : Columns → List (List ℕ)

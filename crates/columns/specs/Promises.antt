@@ -4,7 +4,7 @@ use Rattle.columns.specs.Columns.{is_power, values, column, gain, is_among, savi
 use Rattle.columns.specs.Prepare.{total, columns, all_below, most_columns}
 use Rattle.std.specs.Prelude.{sum, map, filter}
 use Rattle.std.specs.List.{zip}
-use Rattle.dag.specs.Arrays.{up_to, padded}
+use Rattle.dag.specs.Arrays.{up_to}
 
 -- a column that was tested
 pub record Column (m : ℕ) (c : List ℕ) : Type 0 where
@@ -31,12 +31,17 @@ pub record Tested (m : ℕ) (ls es : List ℕ) : Type 0 where
   pub handed : Handed ls es
   pub low : (j : ℕ) → j < length ls → all_below m (column (columns ls es) j) ≡ true
 
--- what each column saves, and what it adds to its period's savings; 0 past the last
+-- what each column saves, and what it adds to its period's savings
 unfoldable pub gains : ℕ → List (List ℕ) → List ℕ
-gains m cs = padded 0 most_columns (up_to (λ j. gain m (column cs j)) (length cs))
+gains m cs = up_to (λ j. gain m (column cs j)) (length cs)
 
 unfoldable pub savings_each : ℕ → List (List ℕ) → List ℕ
-savings_each m cs = padded 0 most_columns (up_to (saving m cs) (length cs))
+savings_each m cs = up_to (saving m cs) (length cs)
+
+-- the columns save gs and add each, modulo m
+pub record Weighs (m : ℕ) (cs : List (List ℕ)) (gs each : List ℕ) : Type 0 where
+  pub gained : gs ≡ gains m cs
+  pub saved : each ≡ savings_each m cs
 
 -- what column j adds, where the columns save gs
 unfoldable pub counted : List (List ℕ) → List ℕ → ℕ → ℕ

@@ -1,22 +1,32 @@
 -- Savings and forms, from what is worked out for each column.
 use Prim.Native.Nat.{ℕ, zero, suc, ◌+◌, ◌*◌, ◌^◌, ◌≤◌, ◌<◌}
-use Rattle.std.specs.Prelude.{Bool, ◌&&◌, List, [], ◌∷◌, ◌≡◌, leb, ltb, eqb, get_or, length, sum, map, filter}
+use Rattle.std.specs.Prelude.{Bool, ◌&&◌, List, [], ◌∷◌, ◌≡◌, leb, ltb, eqb, get_or, length, sum, map, filter, drop, replicate, ◌++◌}
 use Rattle.std.specs.List.{zip}
 use Rattle.std.proofs.lemmas.List.Sums.{sum_by-cons}
 use Rattle.std.proofs.Math.Bool.{true, false, cond, and-false}
 use Rattle.std.proofs.Math.Path.{refl}
-use Rattle.std.proofs.Common.{sym, ◌∙◌, ap, arith}
+use Rattle.std.proofs.Common.{sym, ◌∙◌, ap, arith, add-one}
 use borrow.Author.Tests.{lt-ltb, le-ltb, lt-leb, le-leb}
 use Rattle.dag.specs.CaseLaws.{cond_elim}
 use Rattle.columns.specs.Columns.{column, gain, is_among, saving, savings, goes_over, is_sparse, form}
 use Rattle.columns.specs.Prepare.{columns, most_columns}
-use Rattle.dag.specs.Arrays.{up_to}
+use Rattle.std.proofs.lemmas.List.{drop-replicate}
+use Rattle.dag.specs.Arrays.{up_to, padded}
 use Rattle.columns.specs.Promises.{Handed, added, gains, savings_each, counted, Small, savings_of}
 use Rattle.columns.specs.ColumnLaws.{length_columns, column_length}
-use Rattle.dag.specs.ArrayLaws.{length_up_to, length_padded, get_or_filled}
+use Rattle.dag.specs.ArrayLaws.{length_up_to, get_or_up_to}
 use Rattle.columns.specs.CostLaws.{gain_small}
 use Rattle.columns.specs.PrepareLaws.{column_short}
 use Rattle.columns.specs.declared.Form.TheVariants.{Sparse, Dense, Basis}
+
+-- a list made place by place, and one laid over a blank array
+pub up_next : (f : ℕ → ℕ) (ws vs : List ℕ) (j v : ℕ) → ws ≡ up_to f j → vs ≡ ws ++ (v ∷ []) → v ≡ f j → vs ≡ up_to f (j + 1)
+unfolding up_to
+up_next f ws vs j v h e q = rw (e, h, q, add-one j) refl
+
+pub laid_over : (ws vs : List ℕ) (n : ℕ) → vs ≡ ws → n ≡ length ws → vs ++ drop n (replicate most_columns 0) ≡ padded 0 most_columns ws
+unfolding padded
+laid_over ws vs n e k = rw (e, k) (ap (λ l. ws ++ l) (drop-replicate {X = ℕ} (length ws) most_columns 0))
 
 -- the savings of period P, as a sum over the columns
 module _ (P : ℕ) where
@@ -50,22 +60,26 @@ module _ (P : ℕ) where
 module _ (m : ℕ) (ls es : List ℕ) (h : Handed ls es) where
   gain_at : (j : ℕ) → j < length ls → get_or (gains m (columns ls es)) j 0 ≡ gain m (column (columns ls es) j)
   unfolding gains
-  gain_at j k = get_or_filled 0 0 most_columns (λ j. gain m (column (columns ls es) j)) (length (columns ls es)) j (rw (length_columns ls es) k)
+  gain_at j k = get_or_up_to (λ j. gain m (column (columns ls es) j)) 0 (length (columns ls es)) j (rw (length_columns ls es) k)
 
   pub gained_at : (gs : List ℕ) (j : ℕ) → gs ≡ gains m (columns ls es) → j < length ls → get_or gs j 0 ≡ gain m (column (columns ls es) j)
   gained_at gs j e k = rw e (gain_at j k)
 
   saving_at : (j : ℕ) → j < length ls → get_or (savings_each m (columns ls es)) j 0 ≡ saving m (columns ls es) j
   unfolding savings_each
-  saving_at j k = get_or_filled 0 0 most_columns (saving m (columns ls es)) (length (columns ls es)) j (rw (length_columns ls es) k)
+  saving_at j k = get_or_up_to (saving m (columns ls es)) 0 (length (columns ls es)) j (rw (length_columns ls es) k)
 
   pub counted_is : (gs : List ℕ) (j : ℕ) → gs ≡ gains m (columns ls es) → j < length ls → counted (columns ls es) gs j ≡ saving m (columns ls es) j
   unfolding counted saving
   counted_is gs j e k = rw (e, gain_at j k)
 
-  pub length_each : length (savings_each m (columns ls es)) ≡ most_columns
+  pub length_gains : (gs : List ℕ) → gs ≡ gains m (columns ls es) → length gs ≡ length ls
+  unfolding gains
+  length_gains gs e = rw e (length_up_to (λ j. gain m (column (columns ls es) j)) (length (columns ls es)) ∙ length_columns ls es)
+
+  length_each : length (savings_each m (columns ls es)) ≡ length ls
   unfolding savings_each
-  length_each = length_padded 0 most_columns (up_to (saving m (columns ls es)) (length (columns ls es))) (rw (length_up_to (saving m (columns ls es)) (length (columns ls es)), length_columns ls es) h.few)
+  length_each = length_up_to (saving m (columns ls es)) (length (columns ls es)) ∙ length_columns ls es
 
   saving_small : (j : ℕ) → j < length ls → saving m (columns ls es) j ≤ 4096
   unfolding saving
@@ -77,7 +91,7 @@ module _ (m : ℕ) (ls es : List ℕ) (h : Handed ls es) where
   small_each each e =
       record {
         few = h.few;
-        room = rw (e, length_each) h.few;
+        room = rw (e, length_each) (omega arith);
         small = λ j k. rw (e, saving_at j k) (saving_small j k);
       }
 

@@ -252,6 +252,19 @@ fn lengths_check(lengths: &[u64]) -> Result<(), Refusal>
     Ok(())
 }
 
+// The savings of a period, where each column adds `each`.
+fn savings(lengths: &[u64], each: &[u64], period: u64) -> u64
+    requires { Promises.added lengths.now each.now period < 2 ^ 64 }
+    ensures { result ≡ Promises.added lengths.now each.now period }
+{
+    lengths
+        .iter()
+        .zip(each)
+        .filter(|(length, _)| **length == period)
+        .map(|(_, saving)| *saving)
+        .sum()
+}
+
 // Lengths that passed, and enough entries for them: one column after the other.
 #[derive(Clone, Copy)]
 pub struct Layout<'a> {
@@ -261,11 +274,13 @@ pub struct Layout<'a> {
 }
 
 impl<'a> Layout<'a> {
+    ghost use Rattle.columns.specs.Held as Held;
+
     // Column j.
     #[tactic(auto, using(crate::specs::ColumnLaws::places))]
     pub fn column(&self, j: usize) -> &'a [u64]
         requires { j < length self.now.lengths.now }
-        ensures { result.now ≡ Spec.column (Prepare.columns self.now.lengths.now self.now.entries.now) j }
+        ensures { result.now ≡ Spec.column (Held.laid self.now) j }
     {
         let a = total(&self.lengths[..j]);
         let e = a + self.lengths[j] as usize;
@@ -275,16 +290,62 @@ impl<'a> Layout<'a> {
     // Whether an earlier column equals column j.
     fn is_repeated(&self, j: usize) -> bool
         requires { j < length self.now.lengths.now }
-        ensures { result ≡ Spec.is_among (Prepare.columns self.now.lengths.now self.now.entries.now) j j }
+        ensures { result ≡ Spec.is_among (Held.laid self.now) j j }
     {
         let col = self.column(j);
         (0..j).any(|i| self.column(i) == col)
     }
 
+    // f at each column.
+    fn each<F: Fn(usize) -> u64>(&self, f: F) -> ArrayVec<u64, MOST_COLUMNS>
+        requires { (j : ℕ) → j < length self.now.lengths.now → F.pre f j }
+        ensures { (g : ℕ → ℕ) → ((j r : ℕ) → j < length self.now.lengths.now → F.post f j r → r ≡ g j) → result.items ≡ up_to g (length self.now.lengths.now) }
+    {
+        let mut words = ArrayVec::new();
+        for j in 0..self.lengths.len() {
+            words.push(f(j));
+        }
+        words
+    }
+
+    // What each column adds to its period's savings, where the columns save `gains`.
+    #[tactic(auto, using(crate::specs::SavingLaws::length_gains))]
+    pub fn savings_each(&self, gains: &[u64]) -> ArrayVec<u64, MOST_COLUMNS>
+        requires { (m : ℕ) × (gains.now ≡ Promises.gains m (Held.laid self.now)) }
+        ensures { (m : ℕ) → gains.now ≡ Promises.gains m (Held.laid self.now) → result.items ≡ Promises.savings_each m (Held.laid self.now) }
+    {
+        self.each(|j| if self.is_repeated(j) { 0 } else { gains[j] })
+    }
+
+    // Whether a period goes over to the basis, where each column adds `each`.
+    #[tactic(auto, using(crate::specs::SavingLaws::going_over))]
+    fn goes_over(&self, each: &[u64], period: u64) -> bool
+        requires { ((m : ℕ) × (each.now ≡ Promises.savings_each m (Held.laid self.now))) × (period ≤ 128) }
+        ensures { (m : ℕ) → each.now ≡ Promises.savings_each m (Held.laid self.now) → result ≡ Spec.goes_over m (Held.laid self.now) period }
+    {
+        2 <= period && 7 * period + 2 < savings(self.lengths, each, period)
+    }
+
+    // Column j's form, where the columns save `gains` and add `each`.
+    #[tactic(auto, using(crate::specs::SavingLaws::length_gains, crate::specs::SavingLaws::forms))]
+    pub fn form(&self, gains: &[u64], each: &[u64], j: usize) -> Form
+        requires { ((m : ℕ) × Promises.Weighs m (Held.laid self.now) gains.now each.now) × (j < length self.now.lengths.now) }
+        ensures { (m : ℕ) → Promises.Weighs m (Held.laid self.now) gains.now each.now → result ≡ Spec.form m (Held.laid self.now) j }
+    {
+        let col = self.column(j);
+        if self.goes_over(each, col.len() as u64) && 0 < gains[j] {
+            Form::Basis
+        } else if is_sparse(col) {
+            Form::Sparse
+        } else {
+            Form::Dense
+        }
+    }
+
     // The first column with an entry not below the prime.
     #[tactic(auto, using(crate::specs::PrepareLaws::at_each))]
     fn entries_check(&self, prime: Prime) -> Result<(), Refusal>
-        ensures { result ≡ Refusals.first_refused (Prepare.entries_check (modulus_of prime) (Prepare.columns self.now.lengths.now self.now.entries.now)) (length self.now.lengths.now) }
+        ensures { result ≡ Refusals.first_refused (Prepare.entries_check (modulus_of prime) (Held.laid self.now)) (length self.now.lengths.now) }
     {
         for j in 0..self.lengths.len() {
             if !all_below(prime, self.column(j)) {
@@ -330,7 +391,7 @@ impl<'a> Columns<'a> {
 
     // Where the columns stand.
     fn layout(&self) -> Layout<'a>
-        ensures { (result.lengths ≡ self.now.lengths) × (result.entries ≡ self.now.entries) }
+        ensures { (result.lengths.now ≡ self.now.lengths.now) × (result.entries.now ≡ self.now.entries.now) }
     {
         Layout {
             lengths: self.lengths,
@@ -350,27 +411,21 @@ impl<'a> Columns<'a> {
         }
     }
 
-    // f at each column, 0 past the last.
-    fn each<F: Fn(usize) -> u64>(&self, f: F) -> [u64; MOST_COLUMNS]
-        requires { (j : ℕ) → j < length self.now.lengths.now → F.pre f j }
-        ensures { (g : ℕ → ℕ) → ((j r : ℕ) → j < length self.now.lengths.now → F.post f j r → r ≡ g j) → result ≡ padded 0 16 (up_to g (length self.now.lengths.now)) }
+    // What each column saves in basis.
+    pub fn gains(&self) -> ArrayVec<u64, MOST_COLUMNS>
+        ensures { result.items ≡ Promises.gains (Held.modulus self.now) (Held.columns self.now) }
     {
-        let mut words = [0; 16];
-        for j in 0..self.lengths.len() {
-            words[j] = f(j);
-        }
-        words
+        self.layout().each(|j| self.column(j).gain() as u64)
     }
 }
 
-// Columns with what each saves in basis, and what it adds to its period's savings; 0 past the last.
-#[derive(Clone, Copy)]
+// Columns with what each saves in basis, and what it adds to its period's savings.
+#[derive(Drop)]
 pub struct Weighed<'a> {
     pub columns: Columns<'a>,
-    pub gains: [u64; MOST_COLUMNS],
-    pub savings: [u64; MOST_COLUMNS],
-    ghost gained: { gains ≡ Promises.gains (modulus_of columns.prime) (Prepare.columns columns.lengths.now columns.entries.now) },
-    ghost saved: { savings ≡ Promises.savings_each (modulus_of columns.prime) (Prepare.columns columns.lengths.now columns.entries.now) },
+    pub gains: ArrayVec<u64, MOST_COLUMNS>,
+    pub savings: ArrayVec<u64, MOST_COLUMNS>,
+    ghost weighs: { Promises.Weighs (modulus_of columns.prime) (Prepare.columns columns.lengths.now columns.entries.now) gains.items savings.items },
 }
 
 impl<'a> Weighed<'a> {
@@ -380,9 +435,8 @@ impl<'a> Weighed<'a> {
     pub fn new(columns: Columns<'a>) -> Weighed<'a>
         ensures { result.columns ≡ columns.entry }
     {
-        let layout = columns.layout();
-        let gains = columns.each(|j| columns.column(j).gain() as u64);
-        let savings = columns.each(|j| if layout.is_repeated(j) { 0 } else { gains[j] });
+        let gains = columns.gains();
+        let savings = columns.layout().savings_each(&gains);
         Weighed {
             columns,
             gains,
@@ -390,50 +444,23 @@ impl<'a> Weighed<'a> {
         }
     }
 
-    // Whether a period goes over to the basis.
-    #[tactic(auto, using(crate::specs::SavingLaws::going_over))]
-    fn goes_over(&self, period: u64) -> bool
-        requires { period ≤ 128 }
-        ensures { result ≡ Spec.goes_over (Held.modulus self.now.columns) (Held.columns self.now.columns) period }
-    {
-        2 <= period && 7 * period + 2 < savings(self.columns.lengths, &self.savings, period)
-    }
-
     // Column j's form.
-    #[tactic(auto, using(crate::specs::SavingLaws::forms))]
     pub fn form(&self, j: usize) -> Form
         requires { j < length self.now.columns.lengths.now }
         ensures { result ≡ Spec.form (Held.modulus self.now.columns) (Held.columns self.now.columns) j }
     {
-        let col = self.columns.column(j).entries;
-        if self.goes_over(col.len() as u64) && 0 < self.gains[j] {
-            Form::Basis
-        } else if is_sparse(col) {
-            Form::Sparse
-        } else {
-            Form::Dense
-        }
+        self.columns.layout().form(&self.gains, &self.savings, j)
     }
 
     // The columns' forms as numbers, 0 past the last.
     fn forms(&self) -> [u64; MOST_COLUMNS]
         ensures { result ≡ Prepare.forms (Held.modulus self.now.columns) (Held.columns self.now.columns) }
     {
-        self.columns.each(|j| self.form(j) as u64)
+        let numbers = self.columns.layout().each(|j| self.form(j) as u64);
+        let mut forms = [0; 16];
+        forms[..numbers.len()].copy_from_slice(&numbers);
+        forms
     }
-}
-
-// The savings of a period, where each column adds `each`.
-fn savings(lengths: &[u64], each: &[u64], period: u64) -> u64
-    requires { Promises.added lengths.now each.now period < 2 ^ 64 }
-    ensures { result ≡ Promises.added lengths.now each.now period }
-{
-    lengths
-        .iter()
-        .zip(each)
-        .filter(|(length, _)| **length == period)
-        .map(|(_, saving)| *saving)
-        .sum()
 }
 
 // Prepare: the tests, and each column's form.
