@@ -1,7 +1,7 @@
 use Rattle.std.proofs.Common.{ℕ, ◌≡◌, ◌<◌, length, ◌∙◌, ap, subst}
 use Rattle.field.specs.Fields.{field_of}
 use Rattle.columns.specs.Columns.{log_within}
-use Rattle.columns.specs.Prepare.{columns}
+use Rattle.columns.specs.Held.{columns}
 use Rattle.dag.specs.Nodes.{most_records}
 use Rattle.dag.specs.View.{interleaved}
 use Rattle.periodic.specs.Periodic.{build_periodic_nodes}
@@ -12,7 +12,8 @@ use Rattle.lower.proofs.lower_with.Goals as goal
 use Rattle.lower.proofs.lower_with.Goals.{After-build_periodic_nodes}
 
 -- what is run is the definition's
-same : (c : After-build_periodic_nodes) → let b = held c.load.new.self in (build_periodic_nodes (field_of b.prime) (columns c.args.columns.lengths.now c.args.columns.entries.now) c.log_within-log.result).run b.list ≡ lowered (field_of c.args.columns.prime) (interleaved c.args.dag.list.now) c.args.dag.n c.args.columns.lengths.now c.args.columns.entries.now c.args.period
+same : (c : After-build_periodic_nodes) → let b = held c.load.new.self in let a = c.args in let w = a.columns in
+    (build_periodic_nodes (field_of b.prime) (columns w) c.log_within-log.result).run b.list ≡ lowered (field_of w.prime) (interleaved a.dag.list.now) a.dag.n w.lengths.now w.entries.now a.period
 same c = lowered_is c.args.columns.prime _ _ (interleaved c.args.dag.list.now) c.args.dag.n _ _ c.args.period _ (c.load.ensures.prime_is ∙ c.new-builder.ensures.0) c.load.ensures.list_is (c.log_within-log.ensures.log ∙ ap (λ (k : ℕ). log_within k c.args.period) c.most_log.ensures)
 
 pub returns-in_err-nodes : goal.returns-in_err-nodes
