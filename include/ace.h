@@ -54,7 +54,7 @@
  * ACE_BLANK, and a work store is so throughout.
  *
  * The calls allocate nothing and keep nothing: they may run side by side on stores of their own.
- * Of a C library they need memcpy, memmove and memset alone; a box without one has to give these three.
+ * Of a C library they need memcpy and memset alone; a box without one has to give these two.
  * The archive is for x86-64 Linux.
  */
 

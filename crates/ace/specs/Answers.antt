@@ -3,38 +3,29 @@ use Rattle.std.specs.Prelude.{ℕ, List, [], ◌∷◌, get_or, replicate, Resul
 use Rattle.field.specs.declared.QuadFelt.{QuadFelt}
 use Rattle.dag.specs.Refusals.{number, place}
 use Rattle.dag.specs.declared.Refusal.{Refusal}
-use Rattle.dag.specs.declared.Roots.{Roots}
+use Rattle.dag.specs.Roots.{roots_of}
+use Rattle.dag.specs.declared.RootedDag.{RootedDag}
 use Rattle.builder.specs.declared.Entered.{Entered}
-use Rattle.builder.specs.declared.BuiltDag.{BuiltDag}
-use Rattle.compact.specs.declared.Kept.{Kept}
 use Rattle.normalize.specs.declared.NormalEnd.{NormalEnd}
 use Rattle.columns.specs.declared.Prepared.{Prepared}
 
 abbrev pub refused_words : Refusal → List ℕ
 refused_words r = number r ∷ place r ∷ 0 ∷ 0 ∷ []
 
--- the first root's place, 0 where there is none
-abbrev pub first_root : Roots → ℕ
-first_root roots = get_or roots.places 0 0
-
--- a count, the root and rounds
-abbrev pub list_words : ℕ → Roots → ℕ → List ℕ
-list_words count roots rounds = 0 ∷ count ∷ first_root roots ∷ rounds ∷ []
+-- a list's count, its first root, 0 where there is none, and rounds
+abbrev pub accepted_words : RootedDag → ℕ → List ℕ
+accepted_words d rounds = 0 ∷ d.count ∷ get_or (roots_of d.roots) 0 0 ∷ rounds ∷ []
 
 abbrev pub step_words : Result Entered Refusal → List ℕ
 step_words (Ok e) = 0 ∷ e.place ∷ e.count ∷ 0 ∷ []
 step_words (Err r) = refused_words r
 
-abbrev pub build_words : Result BuiltDag Refusal → List ℕ
-build_words (Ok b) = list_words b.count b.roots 0
-build_words (Err r) = refused_words r
-
-abbrev pub compact_words : Result Kept Refusal → List ℕ
-compact_words (Ok k) = list_words k.count k.roots 0
-compact_words (Err r) = refused_words r
+abbrev pub list_words : Result RootedDag Refusal → List ℕ
+list_words (Ok d) = accepted_words d 0
+list_words (Err r) = refused_words r
 
 abbrev pub normalize_words : Result NormalEnd Refusal → List ℕ
-normalize_words (Ok e) = list_words e.count e.roots e.rounds
+normalize_words (Ok e) = accepted_words e.dag e.rounds
 normalize_words (Err r) = refused_words r
 
 abbrev pub evaluate_words : Result QuadFelt Refusal → List ℕ

@@ -12,7 +12,7 @@ use Rattle.normalize.specs.Calls as Normalising
 use Rattle.evaluate.specs.Calls as Evaluation
 use Rattle.columns.specs.Prepare as Prepare
 use Rattle.lower.specs.Lower as Lowering
-use Rattle.ace.specs.Answers.{refused_words, refused_forms, step_words, build_words, compact_words, normalize_words, evaluate_words, prepare_words, lower_words}
+use Rattle.ace.specs.Answers.{refused_words, refused_forms, step_words, list_words, normalize_words, evaluate_words, prepare_words, lower_words}
 
 -- the words of a call of unknown field, and Prepare's
 abbrev pub unknown_words : List ℕ
@@ -31,7 +31,7 @@ step_list number list n t a b = in_field number list (λ prime. Builder.step_sto
 -- Build
 unfoldable pub build_answer : ℕ → List ℕ → ℕ → ℕ → List ℕ → List ℕ → List ℕ
 build_answer number list n root result map =
-    in_field number unknown_words (λ prime. build_words (Builder.build_answer (field_of prime) (interleaved list) n root (interleaved result).room (length map)))
+    in_field number unknown_words (λ prime. list_words (Builder.build_answer (field_of prime) (interleaved list) n root (interleaved result).room (length map)))
 
 unfoldable pub build_result : ℕ → List ℕ → ℕ → ℕ → List ℕ → List ℕ → List ℕ
 build_result number list n root result map = in_field number result (λ prime. Builder.build_result (field_of prime) (interleaved list) n root result (length map))
@@ -42,7 +42,7 @@ build_map number list n root result map = in_field number map (λ prime. Builder
 -- Compact
 unfoldable pub compact_answer : ℕ → List ℕ → ℕ → ℕ → List ℕ → List ℕ
 compact_answer number list n root result =
-    in_field number unknown_words (λ prime. compact_words (Compaction.compact_answer (field_of prime) (interleaved list) n root (interleaved result).room))
+    in_field number unknown_words (λ prime. list_words (Compaction.compact_answer (field_of prime) (interleaved list) n root (interleaved result).room))
 
 unfoldable pub compact_result : ℕ → List ℕ → ℕ → ℕ → List ℕ → List ℕ
 compact_result number list n root result = in_field number result (λ prime. Compaction.compact_result (field_of prime) (interleaved list) n root result)

@@ -9,10 +9,9 @@ ghost use Rattle.dag.specs.declared.Refusal.TheVariants as Refusal';
 ghost use Rattle.ace.specs.Answers as Answers;
 ghost use Rattle.ace.specs.Calls as Calls;
 
-use builder::{BuiltDag, Entered};
+use builder::Entered;
 use columns::Prepared;
-use compact::Kept;
-use dag::{Refusal, Roots, Words};
+use dag::{Refusal, RootedDag, Words};
 use field::{Prime, QuadFelt};
 use normalize::NormalEnd;
 
@@ -26,11 +25,11 @@ fn refused_words(r: Refusal) -> [u64; 4]
     [r.number(), r.place() as u64, 0, 0]
 }
 
-// The words of a list's count, root and rounds.
-fn list_words(count: usize, roots: Roots, rounds: usize) -> [u64; 4]
-    ensures { result ≡ Answers.list_words count roots rounds }
+// The words of an accepted list's count, root and rounds.
+fn accepted_words(list: &RootedDag, rounds: usize) -> [u64; 4]
+    ensures { result ≡ Answers.accepted_words list.now rounds }
 {
-    [0, count as u64, roots.first(), rounds as u64]
+    [0, list.count as u64, list.roots.first(), rounds as u64]
 }
 
 // The words of Step's answer.
@@ -43,22 +42,12 @@ fn step_words(answer: Result<Entered, Refusal>) -> [u64; 4]
     }
 }
 
-// The words of Build's answer.
-fn build_words(answer: Result<BuiltDag, Refusal>) -> [u64; 4]
-    ensures { result ≡ Answers.build_words answer }
+// The words of Build's and Compact's answers.
+fn list_words(answer: Result<RootedDag, Refusal>) -> [u64; 4]
+    ensures { result ≡ Answers.list_words answer }
 {
     match answer {
-        Ok(BuiltDag { count, roots }) => list_words(count, roots, 0),
-        Err(r) => refused_words(r),
-    }
-}
-
-// The words of Compact's answer.
-fn compact_words(answer: Result<Kept, Refusal>) -> [u64; 4]
-    ensures { result ≡ Answers.compact_words answer }
-{
-    match answer {
-        Ok(Kept { count, roots }) => list_words(count, roots, 0),
+        Ok(list) => accepted_words(&list, 0),
         Err(r) => refused_words(r),
     }
 }
@@ -68,10 +57,7 @@ fn normalize_words(answer: Result<NormalEnd, Refusal>) -> [u64; 4]
     ensures { result ≡ Answers.normalize_words answer }
 {
     match answer {
-        Ok(end) => {
-            let roots = end.roots;
-            list_words(end.count, roots, end.rounds)
-        }
+        Ok(end) => accepted_words(&end.dag, end.rounds),
         Err(r) => refused_words(r),
     }
 }
@@ -168,10 +154,10 @@ fn build(
     root: usize,
     res: &mut [u64],
     map: &mut [u64],
-) -> Result<BuiltDag, Refusal>
+) -> Result<RootedDag, Refusal>
     ensures res { res.new ≡ Calls.build_result field list.now n root res.old map.old }
     ensures map { map.new ≡ Calls.build_map field list.now n root res.old map.old }
-    ensures answer { Answers.build_words result ≡ Calls.build_answer field list.now n root res.old map.old }
+    ensures answer { Answers.list_words result ≡ Calls.build_answer field list.now n root res.old map.old }
 {
     builder::build(prime_of(field)?, list, n, root, res, map)
 }
@@ -190,7 +176,7 @@ pub fn ace_build(
     ensures map { map.new ≡ Calls.build_map field list.now n root res.old map.old }
     ensures answer { answer.new ≡ Calls.build_answer field list.now n root res.old map.old }
 {
-    *answer = build_words(build(field, list, n, root, res, map));
+    *answer = list_words(build(field, list, n, root, res, map));
 }
 
 // Compact, in a numbered field.
@@ -201,9 +187,9 @@ fn compact(
     n: usize,
     root: usize,
     res: &mut [u64],
-) -> Result<Kept, Refusal>
+) -> Result<RootedDag, Refusal>
     ensures res { res.new ≡ Calls.compact_result field list.now n root res.old }
-    ensures answer { Answers.compact_words result ≡ Calls.compact_answer field list.now n root res.old }
+    ensures answer { Answers.list_words result ≡ Calls.compact_answer field list.now n root res.old }
 {
     compact::compact(prime_of(field)?, list, n, root, res)
 }
@@ -220,7 +206,7 @@ pub fn ace_compact(
     ensures res { res.new ≡ Calls.compact_result field list.now n root res.old }
     ensures answer { answer.new ≡ Calls.compact_answer field list.now n root res.old }
 {
-    *answer = compact_words(compact(field, list, n, root, res));
+    *answer = list_words(compact(field, list, n, root, res));
 }
 
 // Normalise, in a numbered field.

@@ -22,7 +22,7 @@ use Rattle.builder.specs.OutcomeLaws.{list_fine}
 use Rattle.builder.specs.Calls.{build_stores, build_check, build_answer, build_result, build_map}
 use Rattle.builder.specs.HoldLaws.{count_is, place_read, filled_map}
 use Rattle.builder.specs.Promises.{read, Holds, Ready, Finished}
-use Rattle.builder.specs.declared.BuiltDag.{BuiltDag}
+use Rattle.dag.specs.declared.RootedDag.{RootedDag}
 
 module _ (field : Field) where
   pub ready : (s : View) (n root result_room map_words : ℕ) → build_check field s n root result_room map_words ≡ Ok tt → Ready n (roots_from (root ∷ [])) result_room map_words
@@ -58,7 +58,7 @@ module _ (field : Field) where
             ∙ (get_or-append (take n places) (replicate (length places - n) blank) 0 i (rw (length-take-le n places (omega arith)) k)
             ∙ (get_or-take n places i 0 k ∙ place_read field (replay field.elements (nodes s n) n) n after places count h i k))
 
-  pub record Called (s : View) (n root : ℕ) (result map : List ℕ) (a : Result BuiltDag Refusal) (after places : List ℕ) : Type 0 where
+  pub record Called (s : View) (n root : ℕ) (result map : List ℕ) (a : Result RootedDag Refusal) (after places : List ℕ) : Type 0 where
     pub answer : a ≡ build_answer field s n root (interleaved result).room (length map)
     pub list_is : after ≡ build_result field s n root result (length map)
     pub places_are : places ≡ build_map field s n root (interleaved result).room map
@@ -68,7 +68,7 @@ module _ (field : Field) where
     unfolding build_answer build_result build_map
     build_refused r e = record { answer = rw e; list_is = rw e; places_are = rw e }
 
-    pub build_done : (a : BuiltDag) (after places : List ℕ) → build_check field s n root (interleaved result).room (length map) ≡ Ok tt
+    pub build_done : (a : RootedDag) (after places : List ℕ) → build_check field s n root (interleaved result).room (length map) ≡ Ok tt
         → Finished (replay field.elements (nodes s n) n) (roots_from (root ∷ [])) result map a after places → Called s n root result map (Ok a) after places
     unfolding build_answer build_result build_map
     build_done a after places e h =

@@ -11,7 +11,7 @@ use Rattle.dag.specs.Roots.{roots_from}
 use Rattle.dag.specs.declared.Refusal.{Refusal}
 use Rattle.builder.specs.Steps.{Built, step, replay, place_of}
 use Rattle.builder.specs.declared.Entered.{Entered}
-use Rattle.builder.specs.declared.BuiltDag.{BuiltDag}
+use Rattle.dag.specs.declared.RootedDag.{RootedDag}
 
 -- a store of n records has room for one more
 unfoldable pub has_room : View → ℕ → Bool
@@ -54,7 +54,7 @@ module _ (field : Field) where
   build_check s n root result_room map_words = list_check field.bounds s n root then build_stores n result_room map_words
 
   -- the count, and the place that the root's request got
-  unfoldable pub build_answer : View → ℕ → ℕ → ℕ → ℕ → Result BuiltDag Refusal
+  unfoldable pub build_answer : View → ℕ → ℕ → ℕ → ℕ → Result RootedDag Refusal
   build_answer s n root result_room map_words =
       let r = replay field.elements (nodes s n) n in
       unless_refused (build_check s n root result_room map_words) Err (Ok (record { count = length r.list; roots = roots_from (place_of r root ∷ []) }))

@@ -25,7 +25,7 @@ use Rattle.builder.specs.declared.Outcome.TheVariants.{Place, Node}
 use Rattle.builder.specs.declared.AssociativeOp.{AssociativeOp}
 use Rattle.builder.specs.declared.DagBuilder.{DagBuilder}
 use Rattle.builder.specs.declared.Entered.{Entered}
-use Rattle.builder.specs.declared.BuiltDag.{BuiltDag}
+use Rattle.dag.specs.declared.RootedDag.{RootedDag}
 
 -- the operation that a name stands for
 abbrev pub operation : AssociativeOp → ℕ → ℕ → NodeKind
@@ -96,7 +96,7 @@ pub record Ready (n : ℕ) (roots : Roots) (result_room map_words : ℕ) : Type 
   pub inside : Inside n roots
 
 -- the answer and the stores of a replay r
-pub record Finished (r : Replay) (roots : Roots) (result map : List ℕ) (a : BuiltDag) (after places : List ℕ) : Type 0 where
+pub record Finished (r : Replay) (roots : Roots) (result map : List ℕ) (a : RootedDag) (after places : List ℕ) : Type 0 where
   pub answer : a ≡ record { count = length r.list; roots = roots_from (Lists.map (place_of r) (roots_of roots)) }
   pub list_is : after ≡ stored result r.list
   pub places_are : places ≡ filled (length map) r.map

@@ -13,7 +13,7 @@ ghost use Rattle.builder.specs.Steps as Steps;
 ghost use Rattle.builder.specs.Promises as Promises;
 ghost use Rattle.builder.specs.Calls as Calls;
 
-use dag::{Dag, NodeKind, Refusal, Roots, Words};
+use dag::{Dag, NodeKind, Refusal, RootedDag, Roots, Words};
 use field::{Prime, QuadFelt};
 
 // The links of a short list's index.
@@ -42,13 +42,6 @@ pub enum Outcome {
 pub struct Entered {
     pub place: usize,
     pub count: usize,
-}
-
-// A list that is built: its count and its roots.
-#[derive(Clone, Copy)]
-pub struct BuiltDag {
-    pub count: usize,
-    pub roots: Roots,
 }
 
 // The operations whose operands may be swapped.
@@ -412,27 +405,27 @@ fn build_check<'a>(
 // Build past its tests, with an index of so many links.
 fn build_with<const LINKS: usize>(
     dag: Dag,
-    roots: Roots,
+    roots: &Roots,
     res: &mut [u64],
     map: &mut [u64],
-) -> BuiltDag
-    requires { Promises.Ready dag.n roots (interleaved res.old).room (length map.old) × (2 ≤ LINKS) × (LINKS ≤ 8192) × (dag.n ≤ LINKS / 2) }
-    ensures { Promises.Finished (Promises.replay_of dag.entry) roots res.old map.old result res.new map.new }
+) -> RootedDag
+    requires { Promises.Ready dag.n roots.now (interleaved res.old).room (length map.old) × (2 ≤ LINKS) × (LINKS ≤ 8192) × (dag.n ≤ LINKS / 2) }
+    ensures { Promises.Finished (Promises.replay_of dag.entry) roots.now res.old map.old result res.new map.new }
 {
     let mut links = [0u64; LINKS];
     let count = replay(dag, res, map, &mut links);
     dag::blank_records(res, count);
     dag::blank_from(map, dag.n);
-    BuiltDag {
+    RootedDag {
         count,
         roots: roots.renamed(map),
     }
 }
 
 // Build past its tests, with links for the list's length.
-fn build_sized(dag: Dag, roots: Roots, res: &mut [u64], map: &mut [u64]) -> BuiltDag
-    requires { Promises.Ready dag.n roots (interleaved res.old).room (length map.old) }
-    ensures { Promises.Finished (Promises.replay_of dag.entry) roots res.old map.old result res.new map.new }
+fn build_sized(dag: Dag, roots: &Roots, res: &mut [u64], map: &mut [u64]) -> RootedDag
+    requires { Promises.Ready dag.n roots.now (interleaved res.old).room (length map.old) }
+    ensures { Promises.Finished (Promises.replay_of dag.entry) roots.now res.old map.old result res.new map.new }
 {
     if dag.n <= dag::FEW_RECORDS {
         build_with::<FEW_LINKS>(dag, roots, res, map)
@@ -449,11 +442,11 @@ pub fn build(
     root: usize,
     res: &mut [u64],
     map: &mut [u64],
-) -> Result<BuiltDag, Refusal>
+) -> Result<RootedDag, Refusal>
     ensures answer { result ≡ Calls.build_answer (field_of prime) (interleaved list.now) n root (interleaved res.old).room (length map.old) }
     ensures res { res.new ≡ Calls.build_result (field_of prime) (interleaved list.now) n root res.old (length map.old) }
     ensures map { map.new ≡ Calls.build_map (field_of prime) (interleaved list.now) n root (interleaved res.old).room map.old }
 {
     let dag = build_check(prime, list, n, root, dag::room(res), map.len())?;
-    Ok(build_sized(dag, Roots::one(root), res, map))
+    Ok(build_sized(dag, &Roots::one(root), res, map))
 }

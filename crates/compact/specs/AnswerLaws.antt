@@ -23,12 +23,12 @@ use Rattle.dag.specs.WordLaws.{nodes_stored, stored_pass}
 use Rattle.compact.specs.Calls.{compacted, kept_of, compact_check, compact_result}
 use Rattle.compact.specs.CallLaws.{tests}
 use Rattle.compact.specs.Promises.{AllBelow}
-use Rattle.compact.specs.declared.Kept.{Kept}
+use Rattle.dag.specs.declared.RootedDag.{RootedDag}
 
 module _ (field : Field) where
   module _ (s : View) (n at-root : ℕ) (result : List ℕ) (e : compact_check field s n at-root (interleaved result).room ≡ Ok tt) where
     -- the answer and the result store
-    abbrev kept : Kept
+    abbrev kept : RootedDag
     kept = kept_of (compacted s n (at-root ∷ []))
 
     abbrev new_root : ℕ

@@ -26,9 +26,9 @@ use Rattle.dag.specs.Store.{written, blanked_behind}
 use Rattle.dag.specs.WordLaws.{length_written, written_stored}
 use Rattle.compact.specs.Promises.{most_marks, Unmarked, Markable, Numbered, Writing}
 use Rattle.compact.specs.Calls.{compacted, kept_of, compact_stores, compact_check, compact_answer, compact_result}
-use Rattle.compact.specs.declared.Kept.{Kept}
+use Rattle.dag.specs.declared.RootedDag.{RootedDag}
 
-abbrev pub kept_of_lem : ℕ → Roots → Kept
+abbrev pub kept_of_lem : ℕ → Roots → RootedDag
 kept_of_lem count roots = record { count = count; roots = roots }
 
 module _ (s : View) (n : ℕ) (roots : Roots) (k : ℕ) (g : Markable s n roots k) (m : List Bool) (e : m ≡ sweep (nodes s n) n (marked (replicate k false) (roots_of roots))) where
@@ -110,7 +110,7 @@ module _ (field : Field) where
         pub may_compact : Inside n roots × (length (compacted s n (roots_of roots)).list ≤ (interleaved result).room)
         may_compact = (rw q (inside_one n root (rooted field.bounds s n root tests.0).inside), rw roots_are room)
 
-        module _ (k : Kept) (f : k ≡ kept_of (compacted s n (roots_of roots))) where
+        module _ (k : RootedDag) (f : k ≡ kept_of (compacted s n (roots_of roots))) where
           pub answer_done : Ok k ≡ compact_answer field s n root (interleaved result).room
           unfolding compact_answer
           answer_done = rw (e, f, roots_are)

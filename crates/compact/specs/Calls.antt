@@ -9,14 +9,14 @@ use Rattle.dag.specs.Roots.{roots_from}
 use Rattle.dag.specs.Check.{room_check, list_check}
 use Rattle.dag.specs.declared.Refusal.{Refusal}
 use Rattle.compact.specs.Compact.{compact, Rooted}
-use Rattle.compact.specs.declared.Kept.{Kept}
+use Rattle.dag.specs.declared.RootedDag.{RootedDag}
 
 -- the list that a store holds, compacted to what its roots reach
 unfoldable pub compacted : View → ℕ → List ℕ → Rooted
 compacted s n roots = compact (nodes s n) roots
 
 -- the count of its records, and its roots' places
-unfoldable pub kept_of : Rooted → Kept
+unfoldable pub kept_of : Rooted → RootedDag
 kept_of r = record { count = length r.list; roots = roots_from r.roots }
 
 -- the test of the result store
@@ -29,7 +29,7 @@ module _ (field : Field) where
   compact_check s n root result_room = list_check field.bounds s n root then compact_stores n result_room
 
   -- count and root
-  unfoldable pub compact_answer : View → ℕ → ℕ → ℕ → Result Kept Refusal
+  unfoldable pub compact_answer : View → ℕ → ℕ → ℕ → Result RootedDag Refusal
   compact_answer s n root result_room =
       unless_refused (compact_check s n root result_room) Err (Ok (kept_of (compacted s n (root ∷ []))))
 

@@ -5,7 +5,6 @@ use Rattle.ring.specs.Ring.{Ops}
 use Rattle.field.specs.declared.QuadFelt.{QuadFelt}
 use Rattle.dag.specs.Nodes.{operands, rename}
 use Rattle.dag.specs.Roots.{roots_of, Inside}
-use Rattle.dag.specs.RootLaws.{root_is, length_roots}
 use Rattle.dag.specs.WellFormed.{Fine}
 use Rattle.dag.specs.declared.NodeKind.{NodeKind}
 use Rattle.dag.specs.declared.NodeKind.TheVariants.{Input, Constant, Add, Sub, Mul, Neg}
@@ -46,10 +45,7 @@ below_at n (i ∷ is) h (suc j) k = below_at n is (λ m p. h m (there p)) j (ome
 
 -- roots of a list of n records are below n
 pub inside_below : (n : ℕ) (r : Roots) → Inside n r → AllBelow n (roots_of r)
-inside_below n r h =
-    below_each n (roots_of r) λ j k.
-    let q : j < r.count = rw (length_roots n r h) at k in
-    rw (root_is n r h j q) (h.below j q)
+inside_below n r h = below_each n (roots_of r) h.below
 
 -- a record's operands come before it
 pub operands_below : (Low : QuadFelt → Type 0) (n : ℕ) (x : NodeKind) → Fine Low n x → AllBelow n (operands x)
@@ -123,25 +119,3 @@ operands_renamed m (Add a b) = refl
 operands_renamed m (Sub a b) = refl
 operands_renamed m (Mul a b) = refl
 operands_renamed m (Neg a) = refl
-
--- a record's operands, by its kind
-pub two_operands : (x : NodeKind) (a b : ℕ) → (x ≡ Add a b) ⊎ ((x ≡ Sub a b) ⊎ (x ≡ Mul a b)) → operands x ≡ a ∷ b ∷ []
-unfolding operands
-two_operands x a b (inl e) = rw e
-two_operands x a b (inr (inl e)) = rw e
-two_operands x a b (inr (inr e)) = rw e
-
-pub one_operand : {x : NodeKind} {a : ℕ} → x ≡ Neg a → operands x ≡ a ∷ []
-unfolding operands
-one_operand e = rw e
-
-pub no_operands : (x : NodeKind) → ((k : ℕ) × (x ≡ Input k)) ⊎ ((q : QuadFelt) × (x ≡ Constant q)) → operands x ≡ []
-unfolding operands
-no_operands x (inl w) = rw w.1
-no_operands x (inr w) = rw w.1
-
-pub first_below : {n a : ℕ} {is : List ℕ} (ps : List ℕ) → ps ≡ a ∷ is → AllBelow n ps → a < n
-first_below {a = a} ps e h = h a (rw e here)
-
-pub second_below : {n a b : ℕ} {is : List ℕ} (ps : List ℕ) → ps ≡ a ∷ b ∷ is → AllBelow n ps → b < n
-second_below {b = b} ps e h = h b (rw e (there here))

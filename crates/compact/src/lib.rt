@@ -13,54 +13,32 @@ ghost use Rattle.dag.specs.Store.{written};
 ghost use Rattle.compact.specs.Promises.{most_marks, reached, Unmarked, Markable, Numbered, Writing, AllBelow};
 ghost use Rattle.compact.specs.Calls as Calls;
 
-use dag::{Dag, FEW_RECORDS, MOST_RECORDS, NodeKind, Refusal, Roots};
+use dag::{Dag, FEW_RECORDS, MOST_RECORDS, Refusal, RootedDag, Roots};
 use field::Prime;
 
 // The most marks: one for each record of a round's list.
 pub const MOST_MARKS: usize = 8192;
 
-// How many records are kept, and the roots' new places.
-#[derive(Clone, Copy)]
-pub struct Kept {
-    pub count: usize,
-    pub roots: Roots,
-}
-
-// Marks the operands of the record x.
-fn mark_operands(reachable: &mut [bool], x: NodeKind)
-    requires { AllBelow (length reachable.old) (Nodes.operands x) }
-    ensures { reachable.new ≡ Reach.marked reachable.old (Nodes.operands x) }
+// Marks some places.
+#[tactic(auto, using(crate::specs::LoopLaws::marked_turn), unfolding(crate::specs::Reach::marked))]
+fn mark(reachable: &mut [bool], places: &[usize])
+    requires { AllBelow (length reachable.old) places.now }
+    ensures { reachable.new ≡ Reach.marked reachable.old places.now }
 {
-    match x {
-        NodeKind::Add(a, b) | NodeKind::Sub(a, b) | NodeKind::Mul(a, b) => {
-            reachable[a] = true;
-            reachable[b] = true;
-        }
-        NodeKind::Neg(a) => reachable[a] = true,
-        NodeKind::Input(_) | NodeKind::Constant(_) => {}
-    }
-}
-
-// Marks the roots.
-#[tactic(auto, using(crate::specs::LoopLaws::marked_turn), unfolding(crate::specs::Reach::marked, dag::specs::Roots::roots_of))]
-fn mark_roots(reachable: &mut [bool], roots: Roots)
-    requires { Inside (length reachable.old) roots }
-    ensures { reachable.new ≡ Reach.marked reachable.old (roots_of roots) }
-{
-    for j in 0..roots.count {
-        reachable[roots.at(j)] = true;
+    for place in places {
+        reachable[*place] = true;
     }
 }
 
 // Marks what the roots reach: the roots, then from the last place down the operands of each marked record.
-fn mark_reachable(list: &[u64], n: usize, roots: Roots, reachable: &mut [bool])
-    requires { Markable (interleaved list.now) n roots (length reachable.old) }
-    ensures { reachable.new ≡ Reach.sweep (Nodes.nodes (interleaved list.now) n) n (Reach.marked reachable.old (roots_of roots)) }
+fn mark_reachable(list: &[u64], n: usize, roots: &Roots, reachable: &mut [bool])
+    requires { Markable (interleaved list.now) n roots.now (length reachable.old) }
+    ensures { reachable.new ≡ Reach.sweep (Nodes.nodes (interleaved list.now) n) n (Reach.marked reachable.old (roots_of roots.now)) }
 {
-    mark_roots(reachable, roots);
+    mark(reachable, &roots.places);
     for i in (0..n).rev() {
         if reachable[i] {
-            mark_operands(reachable, dag::node_at(list, i));
+            mark(reachable, &dag::node_at(list, i).operands());
         }
     }
 }
@@ -97,12 +75,12 @@ fn write_marked(list: &[u64], n: usize, reachable: &[bool], remap: &[u64], res: 
 pub fn number_reachable(
     list: &[u64],
     n: usize,
-    roots: Roots,
+    roots: &Roots,
     reachable: &mut [bool],
     remap: &mut [u64],
 ) -> usize
-    requires { Markable (interleaved list.now) n roots most_marks × Unmarked reachable.old × (n ≤ length remap.old) }
-    ensures { (result ≡ length (Calls.compacted (interleaved list.now) n (roots_of roots)).list) × Numbered (interleaved list.now) n roots reachable.new remap.new }
+    requires { Markable (interleaved list.now) n roots.now most_marks × Unmarked reachable.old × (n ≤ length remap.old) }
+    ensures { (result ≡ length (Calls.compacted (interleaved list.now) n (roots_of roots.now)).list) × Numbered (interleaved list.now) n roots.now reachable.new remap.new }
 {
     mark_reachable(list, n, roots, reachable);
     number_marked(reachable, n, remap)
@@ -112,13 +90,13 @@ pub fn number_reachable(
 pub fn write_numbered(
     list: &[u64],
     n: usize,
-    roots: Roots,
+    roots: &Roots,
     reachable: &[bool],
     remap: &[u64],
     res: &mut [u64],
 ) -> Roots
-    requires { Numbered (interleaved list.now) n roots reachable.now remap.now × (length (Calls.compacted (interleaved list.now) n (roots_of roots)).list ≤ (interleaved res.old).room) }
-    ensures { (result ≡ (Calls.kept_of (Calls.compacted (interleaved list.now) n (roots_of roots))).roots) × (res.new ≡ written res.old (Calls.compacted (interleaved list.now) n (roots_of roots)).list) }
+    requires { Numbered (interleaved list.now) n roots.now reachable.now remap.now × (length (Calls.compacted (interleaved list.now) n (roots_of roots.now)).list ≤ (interleaved res.old).room) }
+    ensures { (result ≡ (Calls.kept_of (Calls.compacted (interleaved list.now) n (roots_of roots.now))).roots) × (res.new ≡ written res.old (Calls.compacted (interleaved list.now) n (roots_of roots.now)).list) }
 {
     write_marked(list, n, reachable, remap, res);
     roots.renamed(remap)
@@ -126,26 +104,26 @@ pub fn write_numbered(
 
 // Writes what the roots reach, renamed, to the start of the result store; at most so many records.
 #[tactic(auto, unfolding(crate::specs::Calls::kept_of))]
-fn compact_within<const RECORDS: usize>(dag: Dag, roots: Roots, res: &mut [u64]) -> Kept
-    requires { Inside dag.n roots × (dag.n ≤ RECORDS) × (RECORDS ≤ Nodes.most_records) × (length (reached dag roots).list ≤ (interleaved res.old).room) }
-    ensures value { result ≡ Calls.kept_of (reached dag.entry roots) }
-    ensures res_after { res.new ≡ written res.old (reached dag.entry roots).list }
+fn compact_within<const RECORDS: usize>(dag: Dag, roots: &Roots, res: &mut [u64]) -> RootedDag
+    requires { Inside dag.n roots.now × (dag.n ≤ RECORDS) × (RECORDS ≤ Nodes.most_records) × (length (reached dag roots.now).list ≤ (interleaved res.old).room) }
+    ensures value { result ≡ Calls.kept_of (reached dag.entry roots.now) }
+    ensures res_after { res.new ≡ written res.old (reached dag.entry roots.now).list }
 {
     let mut reachable = [false; MOST_MARKS];
     let mut remap = [0u64; RECORDS];
     let count = number_reachable(dag.list, dag.n, roots, &mut reachable, &mut remap);
-    Kept {
+    RootedDag {
         count,
         roots: write_numbered(dag.list, dag.n, roots, &reachable, &remap, res),
     }
 }
 
 // The same, with room for the new places by the list's length.
-fn compact_sized(dag: Dag, roots: Roots, res: &mut [u64]) -> Kept
-    requires inside { Inside dag.n roots }
-    requires roots_len_bound { length (reached dag roots).list ≤ (interleaved res.old).room }
-    ensures value { result ≡ Calls.kept_of (reached dag.entry roots) }
-    ensures res_after { res.new ≡ written res.old (reached dag.entry roots).list }
+fn compact_sized(dag: Dag, roots: &Roots, res: &mut [u64]) -> RootedDag
+    requires inside { Inside dag.n roots.now }
+    requires roots_len_bound { length (reached dag roots.now).list ≤ (interleaved res.old).room }
+    ensures value { result ≡ Calls.kept_of (reached dag.entry roots.now) }
+    ensures res_after { res.new ≡ written res.old (reached dag.entry roots.now).list }
 {
     if dag.n <= FEW_RECORDS {
         compact_within::<FEW_RECORDS>(dag, roots, res)
@@ -178,12 +156,12 @@ pub fn compact(
     n: usize,
     root: usize,
     res: &mut [u64],
-) -> Result<Kept, Refusal>
+) -> Result<RootedDag, Refusal>
     ensures answer { result ≡ Calls.compact_answer (field_of prime) (interleaved list.now) n root (interleaved res.old).room }
     ensures store { res.new ≡ Calls.compact_result (field_of prime) (interleaved list.now) n root res.old }
 {
     let dag = compact_check(prime, list, n, root, dag::room(res))?;
-    let kept = compact_sized(dag, Roots::one(root), res);
+    let kept = compact_sized(dag, &Roots::one(root), res);
     dag::blank_records(res, kept.count);
     Ok(kept)
 }

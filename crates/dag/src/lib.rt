@@ -14,6 +14,7 @@ ghost use Rattle.dag.specs.Lookup as Lookup;
 ghost use Rattle.dag.specs.WellFormed as Well;
 ghost use Rattle.dag.specs.Roots.{roots_of, roots_from, Inside};
 
+use arrayvec::ArrayVec;
 use field::{Prime, QuadFelt, felt};
 
 // The word behind the last one filled.
@@ -53,11 +54,17 @@ pub struct Words {
     pub second: u64,
 }
 
-// A list's roots: the first `count` of these places.
-#[derive(Clone, Copy)]
+// A list's roots, in their order.
+#[derive(Drop)]
 pub struct Roots {
-    pub places: [u64; MOST_ROOTS],
+    pub places: ArrayVec<usize, MOST_ROOTS>,
+}
+
+// A list's count and its roots.
+#[derive(Drop)]
+pub struct RootedDag {
     pub count: usize,
+    pub roots: Roots,
 }
 
 // Why a call says no, with the record, entry or column at fault where there is one.
@@ -172,16 +179,11 @@ fn formed(prime: Prime, w: Words) -> bool
 }
 
 // Whether the operands of a record with these words, of a known tag, come before place i.
-#[tactic(auto, unfolding(crate::specs::Nodes::decode, crate::specs::Check::earlier))]
 fn earlier(w: Words, i: usize) -> bool
     requires { w.tag ≤ 5 }
     ensures { result ≡ Check.earlier w.tag w.first w.second i }
 {
-    match NodeKind::from(w) {
-        NodeKind::Input(_) | NodeKind::Constant(_) => true,
-        NodeKind::Neg(a) => a < i,
-        NodeKind::Add(a, b) | NodeKind::Sub(a, b) | NodeKind::Mul(a, b) => a < i && b < i,
-    }
+    NodeKind::from(w).operands().iter().all(|a| *a < i)
 }
 
 // The tests of one record at place i: 3, 4, 5.
@@ -341,6 +343,23 @@ pub fn mapped(map: &[u64], i: usize) -> usize
 }
 
 impl NodeKind {
+    // The record's operands, in their order.
+    #[tactic(auto, unfolding(crate::specs::Nodes::operands))]
+    pub fn operands(self) -> ArrayVec<usize, 2>
+        ensures { result.items ≡ Nodes.operands self }
+    {
+        let mut operands = ArrayVec::new();
+        match self {
+            NodeKind::Input(_) | NodeKind::Constant(_) => {}
+            NodeKind::Add(a, b) | NodeKind::Sub(a, b) | NodeKind::Mul(a, b) => {
+                operands.push(a);
+                operands.push(b);
+            }
+            NodeKind::Neg(a) => operands.push(a),
+        }
+        operands
+    }
+
     // The record with the new places of its operands.
     #[tactic(auto, unfolding(crate::specs::WellFormed::Fine, crate::specs::Nodes::rename))]
     pub fn renamed(self, map: &[u64]) -> NodeKind
@@ -358,54 +377,35 @@ impl NodeKind {
 }
 
 impl Roots {
-    // No roots.
-    #[tactic(auto, unfolding(crate::specs::Roots::roots_from, crate::specs::Arrays::padded))]
-    pub fn none() -> Roots
-        ensures { result ≡ roots_from [] }
-    {
-        Roots {
-            places: [0; MOST_ROOTS],
-            count: 0,
-        }
-    }
-
     // A list's one root.
-    #[tactic(auto, unfolding(crate::specs::Roots::roots_from, crate::specs::Arrays::padded))]
+    #[tactic(auto, unfolding(crate::specs::Roots::roots_from))]
     pub fn one(root: usize) -> Roots
         ensures { result ≡ roots_from (root ∷ []) }
     {
-        Roots {
-            places: [root as u64, 0, 0, 0, 0, 0, 0, 0],
-            count: 1,
-        }
-    }
-
-    // Root j.
-    pub fn at(self, j: usize) -> usize
-        requires { (j < self.count) × ((n : ℕ) × Inside n self) }
-        ensures { result ≡ get_or self.places j 0 }
-    {
-        self.places[j] as usize
+        let mut places = ArrayVec::new();
+        places.push(root);
+        Roots { places }
     }
 
     // The first root, 0 where there is none.
-    pub fn first(self) -> u64
-        ensures { result ≡ get_or self.places 0 0 }
+    #[tactic(auto, unfolding(crate::specs::Roots::roots_of))]
+    pub fn first(&self) -> u64
+        ensures { result ≡ get_or (roots_of self.now) 0 0 }
     {
-        self.places[0]
+        self.places.first().map_or(0, |root| *root as u64)
     }
 
     // The roots' new places.
-    pub fn renamed(self, map: &[u64]) -> Roots
-        requires { Inside (length map.now) self }
-        ensures { result ≡ roots_from (Lists.map (λ i. get_or map.now i 0) (roots_of self)) }
+    #[tactic(auto, unfolding(crate::specs::Roots::roots_of, crate::specs::Roots::roots_from))]
+    pub fn renamed(&self, map: &[u64]) -> Roots
+        requires { Inside (length map.now) self.now }
+        ensures { result ≡ roots_from (Lists.map (λ i. get_or map.now i 0) (roots_of self.now)) }
     {
-        let mut renamed = Roots::none();
-        for j in 0..self.count {
-            renamed.places[j] = map[self.at(j)];
+        let mut places = ArrayVec::new();
+        for root in self.places.as_slice() {
+            places.push(mapped(map, *root));
         }
-        renamed.count = self.count;
-        renamed
+        Roots { places }
     }
 }
 

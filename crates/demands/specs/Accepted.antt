@@ -12,7 +12,7 @@ use Rattle.normalize.specs.Calls.{normalize_check, normalize_answer}
 use Rattle.evaluate.specs.Calls.{evaluate_check, evaluate_answer}
 use Rattle.columns.specs.Prepare.{columns, prepare_check, answer, prepare}
 use Rattle.lower.specs.Lower.{whole_check, lower_answer}
-use Rattle.ace.specs.Answers.{step_words, build_words, compact_words, normalize_words, evaluate_words, prepare_words, lower_words}
+use Rattle.ace.specs.Answers.{step_words, list_words, normalize_words, evaluate_words, prepare_words, lower_words}
 
 -- an answer's first word
 abbrev pub outcome : List ℕ → ℕ
@@ -25,13 +25,13 @@ module _ (field : Field) where
     step_accepts t a b = zero_accepts (λ w. outcome (step_words w)) Err _ (λ r. refl) refl (step_whole_check field s n t a b)
 
     module _ (root result_room : ℕ) where
-      pub build_accepts : (map_words : ℕ) → (outcome (build_words (build_answer field s n root result_room map_words)) ≡ 0) ↔ (build_check field s n root result_room map_words ≡ Ok tt)
+      pub build_accepts : (map_words : ℕ) → (outcome (list_words (build_answer field s n root result_room map_words)) ≡ 0) ↔ (build_check field s n root result_room map_words ≡ Ok tt)
       unfolding build_answer
-      build_accepts map_words = zero_accepts (λ w. outcome (build_words w)) Err _ (λ r. refl) refl (build_check field s n root result_room map_words)
+      build_accepts map_words = zero_accepts (λ w. outcome (list_words w)) Err _ (λ r. refl) refl (build_check field s n root result_room map_words)
 
-      pub compact_accepts : (outcome (compact_words (compact_answer field s n root result_room)) ≡ 0) ↔ (compact_check field s n root result_room ≡ Ok tt)
+      pub compact_accepts : (outcome (list_words (compact_answer field s n root result_room)) ≡ 0) ↔ (compact_check field s n root result_room ≡ Ok tt)
       unfolding compact_answer
-      compact_accepts = zero_accepts (λ w. outcome (compact_words w)) Err _ (λ r. refl) refl (compact_check field s n root result_room)
+      compact_accepts = zero_accepts (λ w. outcome (list_words w)) Err _ (λ r. refl) refl (compact_check field s n root result_room)
 
       pub normalize_accepts : (work_room : ℕ) → (outcome (normalize_words (normalize_answer field s n root result_room work_room)) ≡ 0) ↔ (normalize_check field s n root result_room work_room ≡ Ok tt)
       unfolding normalize_answer

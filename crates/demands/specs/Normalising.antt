@@ -37,7 +37,7 @@ use Rattle.demands.specs.Repeated.{Repeated, rooted_of, normalize_repeats}
 
 -- an answer of a count, one root and rounds kept
 abbrev pub Done : ℕ → ℕ → ℕ → Result NormalEnd Refusal
-Done count root rounds = Ok (record { count = count; roots = roots_from (root ∷ []); rounds = rounds })
+Done count root rounds = Ok (record { dag = record { count = count; roots = roots_from (root ∷ []) }; rounds = rounds })
 
 -- a list of one
 one : (l : List ℕ) → length l ≡ 1 → l ≡ get_or l 0 0 ∷ []
@@ -74,10 +74,10 @@ module _ (field : Field) where
       go : (c : Checked) (a : Normal) → unless_refused c Err (Ok (answer_of a)) ≡ Done count root' rounds
           → (c ≡ Ok tt) × (length a.list ≡ count) × (get_or a.roots 0 0 ≡ root') × (a.rounds ≡ rounds)
       go (Ok u) a e =
-          let f : answer_of a ≡ record { count = count; roots = roots_from (root' ∷ []); rounds = rounds } = cc in (
+          let f : answer_of a ≡ record { dag = record { count = count; roots = roots_from (root' ∷ []) }; rounds = rounds } = cc in (
             refl,
-            ap (λ d. d.count) f,
-            ap (λ l. get_or l 0 0) (sym (roots_from_lem a.roots) ∙ (ap (λ d. roots_of d.roots) f ∙ roots_from_lem (root' ∷ []))),
+            ap (λ d. d.dag.count) f,
+            ap (λ l. get_or l 0 0) (sym (roots_from_lem a.roots) ∙ (ap (λ d. roots_of d.dag.roots) f ∙ roots_from_lem (root' ∷ []))),
             ap (λ d. d.rounds) f,
           )
       go (Err r) a e = let z : ◌≡◌ {A = ℕ} 0 1 = cc in absurd (omega arith)
@@ -112,7 +112,7 @@ module _ (field : Field) where
     -- it answers count, root and rounds kept
     pub answer_done : normalize_answer field s n root (interleaved result).room work_room ≡ Done count root' (rounds_of s n root)
     unfolding normalize_answer
-    answer_done = rw accepted (ap (λ rs. Ok (record { count = count; roots = roots_from rs; rounds = rounds_of s n root })) (one (normalized field s n (root ∷ [])).roots one_root))
+    answer_done = rw accepted (ap (λ rs. Ok (record { dag = record { count = count; roots = roots_from rs }; rounds = rounds_of s n root })) (one (normalized field s n (root ∷ [])).roots one_root))
 
     -- exactly those that the rounds give: as many as are kept before one isn't, and the list that this one started from
     pub answer_exact : Repeated field.elements (nodes s n) (root ∷ []) (rounds_of s n root) (rooted_of (normalized field s n (root ∷ [])))
@@ -200,7 +200,7 @@ module _ (field : Field) where
         -- it answers the same count and root, and 0 rounds kept
         pub answer_again : normalize_answer field t count root' (interleaved again).room work_again ≡ Done count root' 0
         unfolding normalize_answer
-        answer_again = rw (again_accepted, again_list) (ap (λ rs. Ok (record { count = count; roots = roots_from rs; rounds = 0 })) (one (normalized field s n (root ∷ [])).roots one_root))
+        answer_again = rw (again_accepted, again_list) (ap (λ rs. Ok (record { dag = record { count = count; roots = roots_from rs }; rounds = 0 })) (one (normalized field s n (root ∷ [])).roots one_root))
 
         -- and writes the same list, blanks behind it
         pub answer_again_words : normalize_result field t count root' again work_again ≡ stored again list

@@ -11,8 +11,7 @@ use Rattle.field.specs.declared.Prime.{Prime}
 use Rattle.dag.specs.View.{interleaved}
 use Rattle.dag.specs.Nodes.{nodes}
 use Rattle.dag.specs.Store.{Alike}
-use Rattle.dag.specs.Arrays.{padded}
-use Rattle.dag.specs.Roots.{roots_from}
+use Rattle.dag.specs.Roots.{roots_of, roots_from}
 use Rattle.meaning.specs.Values.{value}
 use Rattle.builder.specs.Calls.{step_whole_check, build_check}
 use Rattle.builder.specs.Calls as Builder
@@ -23,7 +22,7 @@ use Rattle.normalize.specs.Calls.{normalize_check, normalize_answer, normalize_r
 use Rattle.columns.specs.Prepare.{prepare_check, prepare}
 use Rattle.lower.specs.Lower.{whole_check}
 use Rattle.lower.specs.Lower as Lowering
-use Rattle.ace.specs.Answers.{step_words, build_words, compact_words, normalize_words, evaluate_words, prepare_words, lower_words}
+use Rattle.ace.specs.Answers.{step_words, list_words, normalize_words, evaluate_words, prepare_words, lower_words}
 use Rattle.ace.specs.Calls as Calls
 use Rattle.demands.specs.Accepted.{outcome, step_accepts, build_accepts, compact_accepts, normalize_accepts, evaluate_accepts, prepare_accepts, lower_accepts}
 use Rattle.demands.specs.Normalising.{Done, count_of, root_of, rounds_of, answer_done}
@@ -83,14 +82,14 @@ module _ (number : ℕ) (prime : Prime) (known : numbered number ≡ Some prime)
 
   module _ (list : List ℕ) (n root : ℕ) (result : List ℕ) where
     pub build_known : (map : List ℕ)
-        → (Calls.build_answer number list n root result map ≡ build_words (Builder.build_answer (field_of prime) (interleaved list) n root (interleaved result).room (length map)))
+        → (Calls.build_answer number list n root result map ≡ list_words (Builder.build_answer (field_of prime) (interleaved list) n root (interleaved result).room (length map)))
         × (Calls.build_result number list n root result map ≡ Builder.build_result (field_of prime) (interleaved list) n root result (length map))
         × (Calls.build_map number list n root result map ≡ Builder.build_map (field_of prime) (interleaved list) n root (interleaved result).room map)
     unfolding Calls.build_answer Calls.build_result Calls.build_map
     build_known map = (by_known number _ _ known, by_known number _ _ known, by_known number _ _ known)
 
     pub compact_known :
-        (Calls.compact_answer number list n root result ≡ compact_words (Compaction.compact_answer (field_of prime) (interleaved list) n root (interleaved result).room))
+        (Calls.compact_answer number list n root result ≡ list_words (Compaction.compact_answer (field_of prime) (interleaved list) n root (interleaved result).room))
         × (Calls.compact_result number list n root result ≡ Compaction.compact_result (field_of prime) (interleaved list) n root result)
     unfolding Calls.compact_answer Calls.compact_result
     compact_known = (by_known number _ _ known, by_known number _ _ known)
@@ -182,7 +181,7 @@ unfolding Calls.prepare_answer
 prepare_number number lengths entries = accepted_in number Calls.unknown_forms refl _ _ (λ prime. prepare_accepts (field_of prime) lengths entries)
 
 words_done : (count root rounds : ℕ) → normalize_words (Done count root rounds) ≡ 0 ∷ count ∷ root ∷ rounds ∷ []
-unfolding roots_from padded
+unfolding roots_of roots_from
 words_done count root rounds = refl
 
 -- In one field: where Normalise and Evaluate both accept a list, Evaluate says the same of the list that came back.

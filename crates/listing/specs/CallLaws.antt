@@ -9,10 +9,9 @@ use Rattle.dag.specs.View.{View, interleaved, Agree}
 use Rattle.dag.specs.ViewLaws.{words_room, same_room, alike, alike_nodes, alike_list}
 use Rattle.dag.specs.Nodes.{record_words, nodes}
 use Rattle.dag.specs.NodeLaws.{length_nodes}
-use Rattle.dag.specs.Arrays.{padded}
 use Rattle.dag.specs.PassLaws.{enough_room}
 use Rattle.dag.specs.Store.{stored}
-use Rattle.dag.specs.Roots.{roots_from}
+use Rattle.dag.specs.Roots.{roots_of, roots_from}
 use Rattle.dag.specs.RootLaws.{roots_from_lem}
 use Rattle.dag.specs.declared.Refusal.{Refusal}
 use Rattle.builder.specs.OutcomeLaws.{list_fine}
@@ -50,21 +49,21 @@ module _ (s : List ℕ) (n root : ℕ) (result : List ℕ) (work_room : ℕ) whe
     ok : Passed goldilocks s n (roots_from (root ∷ [])) (interleaved result).room work_room
     ok = passed goldilocks s n root (interleaved result).room work_room good
 
-    fewer : end.count ≤ n
+    fewer : end.dag.count ≤ n
     unfolding end normalized
     fewer = let m = never_more goldilocks.elements (nodes (interleaved s) n) (root ∷ []) in omega (arith, length_nodes (interleaved s) n)
 
     -- the answered list fits the store that holds it
-    may_list : (after : List ℕ) → length after ≡ length result → end.count ≤ (interleaved after).room
+    may_list : (after : List ℕ) → length after ≡ length result → end.dag.count ≤ (interleaved after).room
     may_list after g = let c = fewer in let q = ok.result_room_lem in rw (same_room after result g) (omega arith)
 
-    one_root : (normalized goldilocks (interleaved s) n (root ∷ [])).roots ≡ get_or end.roots.places 0 0 ∷ []
-    unfolding end normalized roots_from padded
+    one_root : (normalized goldilocks (interleaved s) n (root ∷ [])).roots ≡ get_or (roots_of end.dag.roots) 0 0 ∷ []
+    unfolding end normalized roots_of roots_from
     one_root =
         let low : AllBelow n (root ∷ []) = rw (roots_from_lem (root ∷ [])) at (inside_below n (roots_from (root ∷ [])) ok.rooted.inside) in
         let many = as_many_roots goldilocks.elements (element_laws goldilocks) (nodes (interleaved s) n) (list_fine goldilocks (interleaved s) n ok.sound) (root ∷ []) (rw (length_nodes (interleaved s) n) low) in
         let new = single (normalized goldilocks (interleaved s) n (root ∷ [])).roots many in
-        new ∙ ap (λ k. k ∷ []) (sym (ap (λ rs. get_or (roots_from rs).places 0 0) new))
+        new ∙ ap (λ k. k ∷ []) (sym (ap (λ rs. get_or (roots_of (roots_from rs)) 0 0) new))
 
     words_listed : (after : List ℕ) → after ≡ normalize_result goldilocks (interleaved s) n root result work_room
         → answer_text (interleaved after) end ≡ words_listing (interleaved s) n root (interleaved result).room work_room
@@ -72,7 +71,7 @@ module _ (s : List ℕ) (n root : ℕ) (result : List ℕ) (work_room : ℕ) whe
     words_listed after g =
         let l = (normalized goldilocks (interleaved s) n (root ∷ [])).list in
         let held : after ≡ stored result l = g ∙ rw good in
-        let list_is : nodes (interleaved after) end.count ≡ l = ap (λ t. nodes (interleaved t) end.count) held ∙ nodes_stored result l in
+        let list_is : nodes (interleaved after) end.dag.count ≡ l = ap (λ t. nodes (interleaved t) end.dag.count) held ∙ nodes_stored result l in
         ap listed (λ i. record { list = list_is i; roots = sym one_root i; rounds = end.rounds }) ∙ rw good
 
   -- what it tells

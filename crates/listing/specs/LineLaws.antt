@@ -5,6 +5,7 @@ use Rattle.std.proofs.Math.Decide.{dec_le}
 use Rattle.dag.specs.View.{View}
 use Rattle.dag.specs.Nodes.{nodes, at, first, second, record_at}
 use Rattle.dag.specs.NodeLaws.{length_nodes, at_nodes}
+use Rattle.dag.specs.Roots.{roots_of}
 use Rattle.dag.specs.Refusals.{number, place}
 use Rattle.dag.specs.declared.NodeKind.{NodeKind}
 use Rattle.dag.specs.declared.Refusal.{Refusal}
@@ -78,9 +79,9 @@ pub lines_more : (list : View) (n i : ℕ) {t u v : Text} {x : NodeKind} → Wro
 unfolding record_lines
 lines_more list n i before h e w = rw (add-one i) (and_then before (wrote_as (ap (record_line i) (e ∙ sym (at_nodes list n i h))) w))
 
-pub answer_is : (s : View) (e : NormalEnd) → first_line e.count (get_or e.roots.places 0 0 ∷ []) e.rounds ++ record_lines (nodes s e.count) e.count ≡ answer_text s e
+pub answer_is : (s : View) (e : NormalEnd) → first_line e.dag.count (get_or (roots_of e.dag.roots) 0 0 ∷ []) e.rounds ++ record_lines (nodes s e.dag.count) e.dag.count ≡ answer_text s e
 unfolding answer_text listed
-answer_is s e = rw (length_nodes s e.count)
+answer_is s e = rw (length_nodes s e.dag.count)
 
-pub length_answer : (s : View) (e : NormalEnd) → length (answer_text s e) ≡ length (first_line e.count (get_or e.roots.places 0 0 ∷ []) e.rounds) + length (record_lines (nodes s e.count) e.count)
+pub length_answer : (s : View) (e : NormalEnd) → length (answer_text s e) ≡ length (first_line e.dag.count (get_or (roots_of e.dag.roots) 0 0 ∷ []) e.rounds) + length (record_lines (nodes s e.dag.count) e.dag.count)
 length_answer s e = sym (ap length (answer_is s e)) ∙ simp length-append

@@ -2,6 +2,7 @@
 use Rattle.std.specs.Prelude.{ℕ, ◌≤◌, List, [], ◌∷◌, ◌++◌, ◌≡◌, Result, Ok, Err, get_or, length, take}
 use Rattle.dag.specs.View.{View, interleaved}
 use Rattle.dag.specs.Nodes.{nodes}
+use Rattle.dag.specs.Roots.{roots_of}
 use Rattle.text.specs.Text.{decimal, ended, space}
 use Rattle.text.specs.Promises.{Laid}
 use Rattle.dag.specs.declared.Refusal.{Refusal}
@@ -14,11 +15,11 @@ named word n end = ended word space ++ ended (decimal n) end
 
 -- the listing of the list that a store holds, with one root
 unfoldable pub answer_text : View → NormalEnd → List ℕ
-answer_text s e = listed (record { list = nodes s e.count; roots = get_or e.roots.places 0 0 ∷ []; rounds = e.rounds })
+answer_text s e = listed (record { list = nodes s e.dag.count; roots = get_or (roots_of e.dag.roots) 0 0 ∷ []; rounds = e.rounds })
 
 -- what an answer says of a text: it is the listing of the store's list, or the line of the refusal
 abbrev pub Tells : List ℕ → List ℕ → Result NormalEnd Refusal → Type 0
-Tells text after (Ok e) = (e.count ≤ (interleaved after).room) × (answer_text (interleaved after) e ≡ text)
+Tells text after (Ok e) = (e.dag.count ≤ (interleaved after).room) × (answer_text (interleaved after) e ≡ text)
 Tells text after (Err r) = refused_line r ≡ text
 
 -- the first n bytes of a buffer are an input's: all of them, or as many as the buffer holds

@@ -69,13 +69,13 @@ fn put_first(text: &mut Text, count: usize, root: u64, rounds: usize)
 
 // Writes the listing of an answer: a first line, then a line a record. Answers its length.
 #[tactic(auto, using(crate::specs::LineLaws::length_answer))]
-fn write_listing(list: &[u64], end: NormalEnd, out: &mut [u8]) -> usize
-    requires { (end.count ≤ (interleaved list.now).room) × (length (Promises.answer_text (interleaved list.now) end) ≤ length out.old) }
-    ensures { Laid out.old (Promises.answer_text (interleaved list.now) end) out.new result }
+fn write_listing(list: &[u64], end: &NormalEnd, out: &mut [u8]) -> usize
+    requires { (end.now.dag.count ≤ (interleaved list.now).room) × (length (Promises.answer_text (interleaved list.now) end.now) ≤ length out.old) }
+    ensures { Laid out.old (Promises.answer_text (interleaved list.now) end.now) out.new result }
 {
     let mut text = Text::new(out);
-    put_first(&mut text, end.count, end.roots.first(), end.rounds);
-    put_records(&mut text, list, end.count);
+    put_first(&mut text, end.dag.count, end.dag.roots.first(), end.rounds);
+    put_records(&mut text, list, end.dag.count);
     text.finish()
 }
 
@@ -115,7 +115,7 @@ fn list_file(file: &[u8], out: &mut [u8]) -> usize
 {
     let mut list = [0u64; FILED_WORDS];
     match normal(file, &mut list) {
-        Ok(end) => write_listing(&list, end, out),
+        Ok(end) => write_listing(&list, &end, out),
         Err(r) => write_refused(r, out),
     }
 }

@@ -9,7 +9,7 @@ use Rattle.dag.specs.Nodes.{most_records, nodes, blank}
 use Rattle.dag.specs.NodeLaws.{length_nodes}
 use Rattle.dag.specs.Refusals.{Checked, unless_refused}
 use Rattle.dag.specs.Roots.{most_roots, roots_of, roots_from}
-use Rattle.dag.specs.RootLaws.{roots_from_lem, length_roots, inside_from}
+use Rattle.dag.specs.RootLaws.{roots_from_lem, roots_exact, inside_from}
 use Rattle.dag.specs.Check.{room_check, list_check}
 use Rattle.dag.specs.CheckLaws.{then_good}
 use Rattle.dag.specs.PassLaws.{room_enough, rooted}
@@ -18,7 +18,7 @@ use Rattle.dag.specs.declared.NodeKind.{NodeKind}
 use Rattle.dag.specs.declared.Dag.{Dag}
 use Rattle.dag.specs.declared.Roots.{Roots}
 use Rattle.dag.specs.declared.Refusal.{Refusal}
-use Rattle.compact.specs.declared.Kept.{Kept}
+use Rattle.dag.specs.declared.RootedDag.{RootedDag}
 use Rattle.builder.specs.OutcomeLaws.{list_fine}
 use Rattle.compact.specs.OperandLaws.{one_below, below_at, inside_below}
 use Rattle.compact.specs.Promises.{AllBelow}
@@ -32,8 +32,7 @@ use Rattle.normalize.specs.declared.NormalEnd.{NormalEnd}
 
 -- places below n, as roots
 well_rooted : (n : ℕ) (is : List ℕ) → AllBelow n is → 0 < length is → length is ≤ most_roots → WellRooted n (roots_from is)
-unfolding roots_from
-well_rooted n is low some few = record { inside = inside_from n is few (below_at n is low); some = some; exact = ap roots_from (roots_from_lem is) }
+well_rooted n is low some few = record { inside = inside_from n is few (below_at n is low); some = rw (roots_from_lem is) some }
 
 -- a list that passed its tests, with its roots, is ready for the rounds
 pub dag_ready : (dag : Dag) {roots : Roots} {k : ℕ} → WellRooted dag.n roots → 2 * dag.n ≤ k → Ready (field_of dag.prime) dag.list.now dag.n roots k
@@ -89,7 +88,7 @@ module _ (field : Field) where
     running_ready k few room = let a = h.lost in record { sound = h.sound; few = omega arith; rooted = h.rooted; room = omega arith }
 
     -- a round that is kept
-    module _ {after : List ℕ} {q : Kept} (o : Once field result count rs after (Some q)) where
+    module _ {after : List ℕ} {q : RootedDag} (o : Once field result count rs after (Some q)) where
       kept : is_kept field.elements (nodes (interleaved result) count) (roots_of rs) ≡ true
       kept = sym o.kept_is
 
@@ -104,7 +103,7 @@ module _ (field : Field) where
           let a = h.rooted in
           let l = rounded field.elements (nodes (interleaved result) count) (roots_of rs) in
           let low = rounded_inside field.elements (element_laws field) (nodes (interleaved result) count) (list_fine field (interleaved result) count h.sound) (roots_of rs) (rw (length_nodes (interleaved result) count) (inside_below count rs a.inside)) in
-          let many : length l.roots ≡ rs.count = rounded_many field.elements (nodes (interleaved result) count) (roots_of rs) ∙ length_roots count rs a.inside in
+          let many : length l.roots ≡ length (roots_of rs) = rounded_many field.elements (nodes (interleaved result) count) (roots_of rs) in
           rw (o.left.roots_are, new_count) (well_rooted (length l.list) l.roots low (omega (arith, many, a.some)) (omega (arith, many, a.inside.few)))
 
       pub running_on : Running field s n roots after q.count q.roots (k + 1)
@@ -125,14 +124,14 @@ module _ (field : Field) where
           }
 
     -- the rounds end
-    pub ended : {after : List ℕ} → Once field result count rs after None → Ended field s n roots after (record { count = count; roots = rs; rounds = k })
+    pub ended : {after : List ℕ} → Once field result count rs after None → Ended field s n roots after (record { dag = record { count = count; roots = rs }; rounds = k })
     ended {after} o =
         let z = h.rounds ∙ given_back field.elements count (nodes (interleaved result) count) (roots_of rs) k (sym o.kept_is) in
         record {
           sound = rw o.left h.sound;
           few = let a = h.lost in omega arith;
           list_is = ap (λ t. nodes (interleaved t) count) o.left ∙ sym (ap (λ m. m.list) z);
-          roots_are = sym h.rooted.exact ∙ sym (ap (λ m. roots_from m.roots) z);
+          roots_are = sym (roots_exact rs) ∙ sym (ap (λ m. roots_from m.roots) z);
           rounds_are = sym (ap (λ m. m.rounds) z);
         }
 
@@ -166,16 +165,16 @@ module _ (field : Field) where
     copied_normalized = ap (λ l. normalize field.elements l (roots_of roots)) (ap₂ (λ w k. nodes (interleaved w) k) is_written (sym (length_nodes (interleaved s) n)) ∙ nodes_written d (nodes (interleaved s) n))
 
     pub finished : {result work mid : List ℕ} {r : NormalEnd} → Ended field t n roots mid r → length mid ≡ length result
-        → (last : List ℕ) {after blanked : List ℕ} → after ≡ blanked_behind mid r.count → length last ≡ length work → blanked ≡ replicate (length last - 0) blank
+        → (last : List ℕ) {after blanked : List ℕ} → after ≡ blanked_behind mid r.dag.count → length last ≡ length work → blanked ≡ replicate (length last - 0) blank
         → Finished field s n roots result work r after blanked
     finished {result} {work} {mid} {r} o k last ea ew eb =
         let g = copied_normalized in
         let list_is = o.list_is ∙ ap (λ a. a.list) g in
-        let c : r.count ≡ length (normalized field (interleaved s) n (roots_of roots)).list = sym (length_nodes (interleaved mid) r.count) ∙ ap length list_is in
+        let c : r.dag.count ≡ length (normalized field (interleaved s) n (roots_of roots)).list = sym (length_nodes (interleaved mid) r.dag.count) ∙ ap length list_is in
         let rs = o.roots_are ∙ ap (λ a. roots_from a.roots) g in
         record {
-          answer = λ i. record { count = c i; roots = rs i; rounds = (o.rounds_are ∙ ap (λ a. a.rounds) g) i };
-          list_is = ea ∙ (blanked_stored field.bounds mid result r.count o.sound k ∙ ap (stored result) list_is);
+          answer = λ i. record { dag = record { count = c i; roots = rs i }; rounds = (o.rounds_are ∙ ap (λ a. a.rounds) g) i };
+          list_is = ea ∙ (blanked_stored field.bounds mid result r.dag.count o.sound k ∙ ap (stored result) list_is);
           work_is = eb ∙ rw (sub-zero (length last), ew);
         }
 

@@ -17,7 +17,7 @@ normalize_stores n result_room work_room = room_check n result_room then room_ch
 
 -- count, roots and rounds kept
 abbrev pub answer_of : Normal → NormalEnd
-answer_of a = record { count = length a.list; roots = roots_from a.roots; rounds = a.rounds }
+answer_of a = record { dag = record { count = length a.list; roots = roots_from a.roots }; rounds = a.rounds }
 
 module _ (field : Field) where
   -- the tests: the list check, then the result and work stores

@@ -16,14 +16,13 @@ use Rattle.plan.specs.Promises.{PlanFine}
 use Rattle.plan.specs.declared.Rewrite.{Rewrite}
 use Rattle.normalize.specs.Rounds.{round, fired, rounded, is_kept, rounds_from}
 use Rattle.normalize.specs.Calls.{answer_of, normalized}
-use Rattle.compact.specs.declared.Kept.{Kept}
+use Rattle.dag.specs.declared.RootedDag.{RootedDag}
 use Rattle.normalize.specs.declared.NormalEnd.{NormalEnd}
 
--- at least one root, all of a list of n records, and 0 past the last
+-- at least one root, all of a list of n records
 pub record WellRooted (n : ℕ) (roots : Roots) : Type 0 where
   pub inside : Inside n roots
-  pub some : 0 < roots.count
-  pub exact : roots_from (roots_of roots) ≡ roots
+  pub some : 0 < length (roots_of roots)
 
 -- the list's index, with room for two records more
 pub record Linked (work : List ℕ) (count : ℕ) (links : List ℕ) : Type 0 where
@@ -80,13 +79,13 @@ module _ (field : Field) where
     pub room : 2 * n ≤ work_room
 
   -- what a round that is kept leaves of a store that was s
-  pub record Shortened (s : List ℕ) (n : ℕ) (roots : Roots) (after : List ℕ) (k : Kept) : Type 0 where
+  pub record Shortened (s : List ℕ) (n : ℕ) (roots : Roots) (after : List ℕ) (k : RootedDag) : Type 0 where
     pub sound : Sound field.bounds (interleaved after) k.count
     pub list_is : nodes (interleaved after) k.count ≡ (rounded field.elements (nodes (interleaved s) n) (roots_of roots)).list
     pub roots_are : k.roots ≡ roots_from (rounded field.elements (nodes (interleaved s) n) (roots_of roots)).roots
 
   -- what a round says and leaves
-  pub record Once (s : List ℕ) (n : ℕ) (roots : Roots) (after : List ℕ) (r : Option Kept) : Type 0 where
+  pub record Once (s : List ℕ) (n : ℕ) (roots : Roots) (after : List ℕ) (r : Option RootedDag) : Type 0 where
     pub kept_is : is_some r ≡ is_kept field.elements (nodes (interleaved s) n) (roots_of roots)
     pub left : MatchOption r (after ≡ s) (Shortened s n roots after)
 
@@ -99,10 +98,10 @@ module _ (field : Field) where
 
   -- the store after the rounds
   pub record Ended (s : List ℕ) (n : ℕ) (roots : Roots) (after : List ℕ) (e : NormalEnd) : Type 0 where
-    pub sound : Sound field.bounds (interleaved after) e.count
-    pub few : e.count ≤ n
-    pub list_is : nodes (interleaved after) e.count ≡ (normalized field (interleaved s) n (roots_of roots)).list
-    pub roots_are : e.roots ≡ roots_from (normalized field (interleaved s) n (roots_of roots)).roots
+    pub sound : Sound field.bounds (interleaved after) e.dag.count
+    pub few : e.dag.count ≤ n
+    pub list_is : nodes (interleaved after) e.dag.count ≡ (normalized field (interleaved s) n (roots_of roots)).list
+    pub roots_are : e.dag.roots ≡ roots_from (normalized field (interleaved s) n (roots_of roots)).roots
     pub rounds_are : e.rounds ≡ (normalized field (interleaved s) n (roots_of roots)).rounds
 
   -- what is known once Normalise's tests have passed

@@ -15,8 +15,7 @@ ghost use Rattle.normalize.specs.Promises as Promises;
 ghost use Rattle.normalize.specs.Calls as Calls;
 
 use builder::DagBuilder;
-use compact::Kept;
-use dag::{Dag, FEW_RECORDS, MOST_RECORDS, NodeKind, Refusal, Roots};
+use dag::{Dag, FEW_RECORDS, MOST_RECORDS, NodeKind, Refusal, RootedDag, Roots};
 use field::Prime;
 use plan::{Rewrite, Round};
 
@@ -90,12 +89,12 @@ fn normalize_once(
     prime: Prime,
     res: &mut [u64],
     n: usize,
-    roots: Roots,
+    roots: &Roots,
     work: &mut [u64],
     scratch: &mut [u64],
-) -> Option<Kept>
-    requires { Promises.Ready (field_of prime) res.old n roots (interleaved work.old).room × (8 * n ≤ length scratch.old) }
-    ensures { Promises.Once (field_of prime) res.old n roots res.new result }
+) -> Option<RootedDag>
+    requires { Promises.Ready (field_of prime) res.old n roots.now (interleaved work.old).room × (8 * n ≤ length scratch.old) }
+    ensures { Promises.Once (field_of prime) res.old n roots.now res.new result }
 {
     let (fan, rest) = scratch.split_at_mut(n);
     let (map, rest) = rest.split_at_mut(n);
@@ -113,21 +112,20 @@ fn normalize_once(
     let count = round(prime, read, work, links, map)?;
     let new_roots = roots.renamed(map);
     let mut reachable = [false; compact::MOST_MARKS];
-    let size = compact::number_reachable(work, count, new_roots, &mut reachable, own);
+    let size = compact::number_reachable(work, count, &new_roots, &mut reachable, own);
     if n <= size {
         return None;
     }
-    Some(Kept {
+    Some(RootedDag {
         count: size,
-        roots: compact::write_numbered(work, count, new_roots, &reachable, own, res),
+        roots: compact::write_numbered(work, count, &new_roots, &reachable, own, res),
     })
 }
 
-// The list after the rounds: its count, its roots and how many rounds were kept.
-#[derive(Clone, Copy)]
+// The list after the rounds, and how many rounds were kept.
+#[derive(Drop)]
 pub struct NormalEnd {
-    pub count: usize,
-    pub roots: Roots,
+    pub dag: RootedDag,
     pub rounds: usize,
 }
 
@@ -144,13 +142,18 @@ fn normalize_within<const SCRATCH_WORDS: usize>(
 {
     let mut scratch = [0u64; SCRATCH_WORDS];
     let mut end = NormalEnd {
-        count: n,
-        roots,
+        dag: RootedDag { count: n, roots },
         rounds: 0,
     };
-    while let Some(kept) = normalize_once(prime, res, end.count, end.roots, work, &mut scratch) {
-        end.count = kept.count;
-        end.roots = kept.roots;
+    while let Some(kept) = normalize_once(
+        prime,
+        res,
+        end.dag.count,
+        &end.dag.roots,
+        work,
+        &mut scratch,
+    ) {
+        end.dag = kept;
         end.rounds += 1;
     }
     end
@@ -206,7 +209,7 @@ fn normalize_ready(dag: Dag, roots: Roots, res: &mut [u64], work: &mut [u64]) ->
 {
     dag::copy_records(dag.list, dag.n, res);
     let end = normalize_sized(dag.prime, dag.n, roots, res, work);
-    dag::blank_records(res, end.count);
+    dag::blank_records(res, end.dag.count);
     dag::blank_from(work, 0);
     end
 }

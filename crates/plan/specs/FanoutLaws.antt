@@ -1,7 +1,7 @@
 -- The fanout counted in a store, mention by mention.
 use Rattle.std.specs.Prelude.{ℕ, zero, suc, ◌+◌, ◌*◌, ◌<◌, ◌≤◌, Bool, true, false, cond, List, [], ◌∷◌, ◌++◌, ◌≡◌, refl, eqb, length, get_or, set, take}
 use Rattle.std.proofs.Common.{sym, ◌∙◌, add-one, arith, eqb-true, length-set, get_or-set_same, get_or-set_other, take-suc}
-use Rattle.std.proofs.Math.Path.{ap, fun_ext}
+use Rattle.std.proofs.Math.Path.{fun_ext}
 use Rattle.std.proofs.lemmas.Bool.{eqb-false}
 use Rattle.field.specs.Fields.{Within}
 use Rattle.dag.specs.View.{View}
@@ -55,18 +55,18 @@ unfolding mentioned
 mentioned_snoc f [] i = refl
 mentioned_snoc f (k ∷ is) i = mentioned_snoc (set f k (get_or f k 0 + 1)) is i
 
--- with j roots mentioned there is room for one more
-pub root_fits : (f₀ f : List ℕ) (j : ℕ) → Countable most_roots f₀ → ((i : ℕ) → get_or f i 0 ≤ get_or f₀ i 0 + j) → j < most_roots → (i : ℕ) → get_or f i 0 < most_mentions
-root_fits f₀ f j room few h i = let a = few i in let b = room i in omega arith
+-- with j places mentioned there is room for one more
+pub mention_fits : (k : ℕ) (f₀ f : List ℕ) (j : ℕ) → Countable k f₀ → ((i : ℕ) → get_or f i 0 ≤ get_or f₀ i 0 + j) → j < k → (i : ℕ) → get_or f i 0 < most_mentions
+mention_fits k f₀ f j few room h i = let a = few i in let b = room i in omega arith
 
--- one root more is mentioned
-module _ (f₀ f after is : List ℕ) (j v : ℕ) (e : after ≡ mentioned f (v ∷ [])) where
-  pub mentioned_turn : j < length is → f ≡ mentioned f₀ (take j is) → v ≡ get_or is j 0 → after ≡ mentioned f₀ (take (j + 1) is)
-  mentioned_turn h g q = rw (e, g, q, add-one j, take-suc is j 0 h) (sym (mentioned_snoc f₀ (take j is) (get_or is j 0)))
-
-  pub few_turn : v < length f → ((i : ℕ) → get_or f i 0 ≤ get_or f₀ i 0 + j) → (i : ℕ) → get_or after i 0 ≤ get_or f₀ i 0 + (j + 1)
+-- one place more is mentioned
+module _ (f₀ f is : List ℕ) (j v : ℕ) where
+  pub mentioned_turn : j < length is → f ≡ mentioned f₀ (take j is) → v ≡ get_or is j 0 → set f v (get_or f v 0 + 1) ≡ mentioned f₀ (take (j + 1) is)
   unfolding mentioned
-  few_turn h few i = rw e (let a = bump_by_one f v h i in let b = few i in omega arith)
+  mentioned_turn h g q = rw (g, q, add-one j, take-suc is j 0 h) (sym (mentioned_snoc f₀ (take j is) (get_or is j 0)))
+
+  pub few_turn : v < length f → ((i : ℕ) → get_or f i 0 ≤ get_or f₀ i 0 + j) → (i : ℕ) → get_or (set f v (get_or f v 0 + 1)) i 0 ≤ get_or f₀ i 0 + (j + 1)
+  few_turn h few i = let a = bump_by_one f v h i in let b = few i in omega arith
 
 one : (t : Bool) → cond t 1 0 + 0 ≤ 2
 one true = omega arith
@@ -92,16 +92,6 @@ unfolding mentions
 mentions_few l j zero = omega arith
 mentions_few l j (suc n) = let a = mentions_few l j n in let b = operands_few j (at l n) in omega arith
 
--- two mentions, one after the other
-module _ (f after : List ℕ) (a b : ℕ) (ha : a < length f) (hb : b < length f) (e : after ≡ mentioned f (a ∷ [])) where
-  pub second_fits : Countable 2 f → (b < length after) × (get_or after b 0 < most_mentions)
-  unfolding mentioned
-  second_fits few = (rw (e, length_mentioned f (a ∷ [])) hb, rw e (let k = bump_by_one f a ha b in let m = few b in omega arith))
-
-  pub both_mentioned : (last : List ℕ) → last ≡ mentioned after (b ∷ []) → last ≡ mentioned f (a ∷ b ∷ [])
-  unfolding mentioned
-  both_mentioned last h = h ∙ ap (λ g. mentioned g (b ∷ [])) e
-
 -- the mentions of the first i records, counted
 abbrev pub Counted : List NodeKind → ℕ → List ℕ → Type 0
 Counted l i f = (j : ℕ) → get_or f j 0 ≡ mentions l j i
@@ -111,11 +101,11 @@ unfolding mentions
 counted_none l f h j = h j
 
 module _ (s : View) (n : ℕ) (roots : Roots) (f₀ : List ℕ) (c : Counting s n roots f₀) (i : ℕ) (f : List ℕ) (e : length f ≡ length f₀) (h : Counted (nodes s n) i f) where
-  pub counted_few : i ≤ n → Countable most_roots f
-  counted_few k j = let a = mentions_few (nodes s n) j i in let b = h j in let d = c.few in omega arith
+  pub counted_few : i ≤ n → (k : ℕ) → k ≤ most_roots → Countable k f
+  counted_few q k g j = let a = mentions_few (nodes s n) j i in let b = h j in let d = c.few in omega arith
 
-  pub counted_countable : i < n → Countable 2 f
-  counted_countable k j = let a = mentions_few (nodes s n) j i in let b = h j in let d = c.few in omega arith
+  pub counted_countable : i < n → (k : ℕ) → k ≤ 2 → Countable k f
+  counted_countable q k g j = let a = mentions_few (nodes s n) j i in let b = h j in let d = c.few in omega arith
 
   module _ (k : i < n) (x : NodeKind) (ex : x ≡ at (nodes s n) i) where
     pub operands_inside : AllBelow (length f) (operands x)

@@ -5,7 +5,7 @@ ghost use Rattle.std.specs.Prelude.{◌≡◌, ◌≤◌, [], ◌∷◌, ◌<◌
 ghost use Rattle.dag.specs.View.{interleaved};
 ghost use Rattle.dag.specs.Nodes as Nodes;
 ghost use Rattle.dag.specs.Lookup as Lookup;
-ghost use Rattle.dag.specs.Roots.{most_roots, roots_of, Inside};
+ghost use Rattle.dag.specs.Roots.{roots_of};
 ghost use Rattle.dag.specs.WellFormed.{Any, Fine};
 ghost use Rattle.builder.specs.Promises.{read, operation};
 ghost use Rattle.compact.specs.Promises.{AllBelow};
@@ -30,50 +30,26 @@ pub enum Rewrite {
     },
 }
 
-// Counts one mention of place i.
-#[tactic(auto, unfolding(crate::specs::Promises::mentioned))]
-fn mention(fan: &mut [u64], i: usize)
-    requires { (i < length fan.old) × (get_or fan.old i 0 < Promises.most_mentions) }
-    ensures { fan.new ≡ Promises.mentioned fan.old (i ∷ []) }
+// Counts one mention of each of these places.
+#[tactic(auto, using(crate::specs::FanoutLaws::mention_fits), unfolding(crate::specs::Promises::mentioned))]
+fn mention(fan: &mut [u64], places: &[usize])
+    requires { AllBelow (length fan.old) places.now × Promises.Countable (length places.now) fan.old }
+    ensures { fan.new ≡ Promises.mentioned fan.old places.now }
 {
-    fan[i] += 1;
-}
-
-// Counts the mentions that a record makes.
-fn mention_operands(fan: &mut [u64], x: NodeKind)
-    requires { AllBelow (length fan.old) (Nodes.operands x) × Promises.Countable 2 fan.old }
-    ensures { fan.new ≡ Promises.mentioned fan.old (Nodes.operands x) }
-{
-    match x {
-        NodeKind::Add(a, b) | NodeKind::Sub(a, b) | NodeKind::Mul(a, b) => {
-            mention(fan, a);
-            mention(fan, b);
-        }
-        NodeKind::Neg(a) => mention(fan, a),
-        NodeKind::Input(_) | NodeKind::Constant(_) => {}
-    }
-}
-
-// Counts one mention of each root.
-#[tactic(auto, using(crate::specs::FanoutLaws::mentioned_turn, crate::specs::FanoutLaws::few_turn), unfolding(crate::specs::Promises::mentioned, dag::specs::Roots::roots_of))]
-fn mention_roots(fan: &mut [u64], roots: Roots)
-    requires { Inside (length fan.old) roots × Promises.Countable most_roots fan.old }
-    ensures { fan.new ≡ Promises.mentioned fan.old (roots_of roots) }
-{
-    for j in 0..roots.count {
-        mention(fan, roots.at(j));
+    for place in places {
+        fan[*place] += 1;
     }
 }
 
 // The fanout of each place: each mention as an operand, and one for each root.
-pub fn fanout(list: &[u64], n: usize, roots: Roots, fan: &mut [u64])
-    requires { Promises.Counting (interleaved list.now) n roots fan.old }
-    ensures { read fan.new ≡ Plans.fanout (Nodes.nodes (interleaved list.now) n) (roots_of roots) }
+pub fn fanout(list: &[u64], n: usize, roots: &Roots, fan: &mut [u64])
+    requires { Promises.Counting (interleaved list.now) n roots.now fan.old }
+    ensures { read fan.new ≡ Plans.fanout (Nodes.nodes (interleaved list.now) n) (roots_of roots.now) }
 {
     for i in 0..n {
-        mention_operands(fan, dag::node_at(list, i));
+        mention(fan, &dag::node_at(list, i).operands());
     }
-    mention_roots(fan, roots);
+    mention(fan, &roots.places);
 }
 
 // The operands of a record, if it is the operation's.

@@ -5,9 +5,9 @@ use Rattle.normalize.proofs.normalize_within.Given as goal
 
 abbrev pub invariant-loop-kept : goal.invariant-loop-kept
 invariant-loop-kept g l = record {
-  running : Running (field_of l.fn.prime) l.initial.res l.fn.n l.fn.roots l.res l.end.count l.end.roots l.end.rounds;
+  running : Running (field_of l.fn.prime) l.initial.res l.fn.n l.fn.roots l.res l.end.dag.count l.end.dag.roots l.end.rounds;
   words : length l.scratch ≡ length l.initial.scratch;
 }
 
 abbrev pub decreases-loop-kept : goal.decreases-loop-kept
-decreases-loop-kept g l = l.end.count
+decreases-loop-kept g l = l.end.dag.count
