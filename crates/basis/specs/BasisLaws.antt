@@ -1,59 +1,34 @@
 -- The classes of a column in basis, by the tests that the code makes.
-use Rattle.std.specs.Prelude.{ℕ, zero, suc, [], ◌+◌, ◌-◌, ◌<◌, ◌≤◌, Bool, List, ◌≡◌, refl, get_or, length, take, replicate, Result, Ok, Err, IfOk, ◌⊎◌}
+use Rattle.std.specs.Prelude.{ℕ, ◌+◌, ◌-◌, ◌<◌, ◌≤◌, Bool, List, ◌≡◌, refl, get_or, length, take, Result, Ok, Err, IfOk, ◌⊎◌}
 use Rattle.std.proofs.Math.Bool.{true, false, not, cond, ◌&&◌}
-use Rattle.std.proofs.Common.{inl, inr, sym, ◌∙◌, ap, ap₂, arith, eq-eqb, ne_eqb, take_at, get_or-take}
-use Rattle.std.proofs.Math.ListN.{get_or-append}
-use Rattle.std.proofs.Math.Seq.{take-length}
+use Rattle.std.proofs.Common.{inl, inr, sym, ◌∙◌, ap, arith, eq-eqb, ne_eqb, get_or-take, le_trans}
+use Rattle.std.proofs.lemmas.List.{length-take-le}
 use Rattle.std.proofs.Math.Path.{subst}
 use Rattle.std.proofs.Math.Dec.{eqb}
-use Rattle.field.specs.Fields.{Field, modulus, coordinate_laws}
+use Rattle.ring.specs.Ring.{Ops}
 use Rattle.ring.specs.Power.{low_pow}
+use Rattle.field.specs.Fields.{Field, field_of, modulus, coordinate_laws}
+use Rattle.field.specs.declared.Prime.{Prime}
+use Rattle.field.specs.declared.QuadFelt.{QuadFelt}
+use Rattle.dag.specs.ArrayLaws.{length_up_to, get_or_up_to}
+use Rattle.dag.specs.declared.Refusal.{Refusal}
 use Rattle.columns.specs.Columns.{log_length, offset, values}
 use Rattle.columns.specs.Prepare.{all_below}
-use Rattle.columns.specs.Promises.{Column}
-use Rattle.field.specs.Field.{modulus_of}
-use Rattle.dag.specs.Arrays.{up_to, padded}
 use Rattle.columns.specs.ClassLaws.{below_at, below_values}
-use Rattle.dag.specs.ArrayLaws.{length_up_to, get_or_up_to, get_or_filled}
 use Rattle.coefficients.specs.Terms.{root}
 use Rattle.coefficients.specs.Arrays.{roots}
-use Rattle.periodic.specs.Builder.{done, ◌>>=◌, add}
-use Rattle.periodic.specs.Periodic.{backwards, factor, element, class_turn, coefficient, is_added, is_subtracted, add_class, sub_class, term_turn}
+use Rattle.periodic.specs.Builder.{Builder, done, ◌>>=◌, turns, add}
+use Rattle.periodic.specs.Periodic.{backwards, chain, factor, element, class_turn, coefficient, is_added, is_subtracted, add_class, sub_class, term_turn, all_terms}
 use Rattle.periodic.specs.Promises.{AllInside}
-use Rattle.periodic.specs.SameLaws.{Same, same_is}
-use Rattle.periodic.specs.Runs.{State, held, Entering}
-use Rattle.periodic.specs.RunLaws.{all_later, enter_like}
-use Rattle.periodic.specs.declared.PeriodicBuilder.{PeriodicBuilder}
+use Rattle.periodic.specs.SameLaws.{Same, same_is, chain_front}
+use Rattle.periodic.specs.Runs.{State, Entering}
+use Rattle.periodic.specs.RunLaws.{enter_like}
 use Rattle.basis.specs.Promises as Said
-use Rattle.basis.specs.Promises.{Later, Roots, Factors, Products, Class, Offset}
+use Rattle.basis.specs.Promises.{Later, Roots, Class}
+use Rattle.basis.specs.Within.{Within}
 use Rattle.basis.specs.declared.LagrangeBasis.{LagrangeBasis}
-use Rattle.dag.specs.declared.Refusal.{Refusal}
-use Rattle.field.specs.Fields.{field_of}
-use Rattle.field.specs.declared.Prime.{Prime}
-use Rattle.periodic.specs.Builder.{Builder, turns}
-use Rattle.periodic.specs.Periodic.{all_terms}
-use Rattle.coefficients.specs.TermLaws.{up_to_entries}
-use Rattle.dag.specs.ArrayLaws.{length_padded}
-use mathlib.Core.List.{◌++◌, ◌∷◌, reverse}
-use Rattle.std.proofs.lemmas.List.{drop_at, drop-replicate, get_or-reverse, length-reverse, length-take-le}
-use Rattle.std.proofs.Math.ListN.{drop}
 
 -- a list of places from its end
-up_to_below : (f g : ℕ → ℕ) (n : ℕ) → ((i : ℕ) → i < n → f i ≡ g i) → up_to f n ≡ up_to g n
-unfolding up_to
-up_to_below f g zero h = refl
-up_to_below f g (suc n) h = ap₂ (λ l x. l ++ (x ∷ [])) (up_to_below f g n (λ i j. h i (omega arith))) (h n (omega arith))
-
-backwards_reverse : (ps : List ℕ) → reverse ps ≡ backwards ps
-unfolding backwards
-backwards_reverse ps = sym (up_to_below (λ i. get_or ps (length ps - (i + 1)) 0) (λ i. get_or (reverse ps) i 0) (length ps) at ∙ all)
-  where
-    at : (i : ℕ) → i < length ps → get_or ps (length ps - (i + 1)) 0 ≡ get_or (reverse ps) i 0
-    at i h = let j : length ps - (i + 1) ≡ length ps - 1 - i = omega arith in ap (λ k. get_or ps k 0) j ∙ sym (get_or-reverse ps i 0 h)
-
-    all : up_to (λ i. get_or (reverse ps) i 0) (length ps) ≡ reverse ps
-    all = ap (up_to (λ i. get_or (reverse ps) i 0)) (sym (length-reverse ps)) ∙ (up_to_entries (reverse ps) (length (reverse ps)) (omega arith) ∙ take-length (reverse ps))
-
 pub backwards_inside : (n : ℕ) (ps : List ℕ) → AllInside n ps → AllInside n (backwards ps)
 unfolding backwards
 backwards_inside n ps a =
@@ -67,41 +42,23 @@ pub length_backwards : (ps : List ℕ) → length (backwards ps) ≡ length ps
 unfolding backwards
 length_backwards ps = length_up_to (λ i. get_or ps (length ps - (i + 1)) 0) (length ps)
 
--- copied to the front of a blank array, and reversed there
-pub backwards_filled : (ps front turned : List ℕ) → front ≡ ps → turned ≡ reverse (take (length ps) (front ++ drop (length ps) (replicate 128 0)))
-    → turned ++ drop (length ps) (front ++ drop (length ps) (replicate 128 0)) ≡ padded 0 128 (backwards ps)
-unfolding padded
-backwards_filled ps front turned e h =
-    ap₂ (λ l r. l ++ r)
-    (h ∙ (ap (λ l. reverse (take (length ps) (l ++ drop (length ps) (replicate 128 0)))) e ∙ (ap reverse (take_at ps (drop (length ps) (replicate 128 0)) (length ps) refl) ∙ backwards_reverse ps)))
-    (ap (λ l. drop (length ps) (l ++ drop (length ps) (replicate 128 0))) e ∙ (drop_at ps (drop (length ps) (replicate 128 0)) (length ps) refl ∙ drop-replicate {X = ℕ} (length ps) 128 0))
-    ∙ ap (λ n. backwards ps ++ replicate {A = ℕ} (128 - n) 0) (sym (length_backwards ps))
-
--- the first places of a list from its end
-module _ (ps turned : List ℕ) (k : ℕ) (e : turned ≡ padded 0 128 (backwards ps)) (short : length ps ≤ 128) (h : k ≤ length ps) where
-  pub turned_long : length (take k turned) ≡ k
-  turned_long = length-take-le k turned (omega (arith, ap length e, length_padded 0 128 (backwards ps) (omega (arith, length_backwards ps)), short))
-
-  pub turned_at : (i : ℕ) → i < k → get_or (take k turned) i 0 ≡ get_or (backwards ps) i 0
-  unfolding padded
-  turned_at i j = get_or-take k turned i 0 j ∙ rw e (get_or-append (backwards ps) (replicate (128 - length (backwards ps)) 0) 0 i (omega (arith, length_backwards ps)))
-
-  pub turned_inside : (n : ℕ) → AllInside n ps → AllInside n (take k turned)
-  turned_inside n a = record { at = λ i j. let l : i < k = omega (arith, turned_long) in rw (turned_at i l) ((backwards_inside n ps a).at i (omega (arith, length_backwards ps))) }
-
 -- the first of these places
 pub front_inside : (n k : ℕ) (ps : List ℕ) → k ≤ length ps → AllInside n ps → AllInside n (take k ps)
 front_inside n k ps h a = record { at = λ i j. let l : i < k = omega (arith, length-take-le k ps h) in rw (get_or-take k ps i 0 l) (a.at i (omega arith)) }
 
+-- a chain over the first k of these places
+pub chain_taken : (F : Ops QuadFelt) (first : ℕ) (fs gs : List ℕ) (l k : ℕ) → gs ≡ fs → l ≡ k → k ≤ length fs → Same (chain F first (take l gs) (length (take l gs))) (chain F first fs k)
+chain_taken F first fs gs l k e q h = rw (e, q) (chain_front F first fs (take k fs) k (λ i j. get_or-take k fs i 0 j) (length-take-le k fs h))
+
 module _ (field : Field) where
   -- the table of roots
-  pub roots_of_lem : (c rs : List ℕ) → length c ≤ 128 → rs ≡ roots field c → Roots field c rs
+  pub roots_of_lem : (c rs : List ℕ) → rs ≡ roots field c → Roots field c rs
   unfolding roots root
-  roots_of_lem c rs short e =
+  roots_of_lem c rs e =
       record {
-        at = λ k h. rw e (get_or_filled 0 0 128 (root field c) (length c) k h);
-        low = λ k h. rw (e, get_or_filled 0 0 128 (root field c) (length c) k h) (low_pow (coordinate_laws field) (field.generator (log_length c)) k);
-        many = omega (arith, ap length e, length_padded 0 128 (up_to (root field c) (length c)) (omega (arith, length_up_to (root field c) (length c))));
+        at = λ k h. rw e (get_or_up_to (root field c) 0 (length c) k h);
+        low = λ k h. rw (e, get_or_up_to (root field c) 0 (length c) k h) (low_pow (coordinate_laws field) (field.generator (log_length c)) k);
+        many = omega (arith, ap length e, length_up_to (root field c) (length c));
       }
 
   -- the factor of row k
@@ -146,8 +103,9 @@ module _ (field : Field) where
         unfolding term_turn is_subtracted
         sub_taken n e = same_is (rw (ne_eqb v (offset (modulus field) c) (λ q. n (q ∙ sym ed)), minus_one ∙ e) refl)
 
-  pub offset_of : (c vs : List ℕ) (d : ℕ) → all_below (modulus field) c ≡ true → vs ≡ values c → d ≡ offset (modulus field) c → d < modulus field → Offset field c vs d
-  offset_of c vs d low e o h = record { are = e; low = rw e (below_values (modulus field) c low); offset_is = o; offset_low = h }
+  -- a value of a column's, with the offset
+  pub class_of : (c vs : List ℕ) (d k : ℕ) → all_below (modulus field) c ≡ true → vs ≡ values c → d ≡ offset (modulus field) c → d < modulus field → k < length vs → Class field c d (get_or vs k 0)
+  class_of c vs d k low e o l h = record { offset_is = o; offset_low = l; value_low = rw e (below_at (modulus field) (values c) k (below_values (modulus field) c low) (rw e at h)) }
 
 -- a row tested
 module _ (c prefix suffix : List ℕ) (v j acc : ℕ) where
@@ -170,38 +128,10 @@ unfolding all_terms
 terms_entered c prefix suffix minus start vs e v d = enter_like e (same_is (rw v refl)) d
 
 -- what is entered keeps the prime and the records, and its place is inside
-pub kept : (b a : PeriodicBuilder) (m : Field → Builder ℕ) (r : Result ℕ Refusal) → Entering (held b) m (held a) r → Later b a × IfOk r (λ place. place < a.count)
-kept b a m (Ok place) d = (record { prime_is = d.told.ran.prime_is; longer = d.told.ran.longer }, d.told.inside)
-kept b a m (Err r) d = (record { prime_is = d.told.prime_is; longer = d.told.longer }, tt)
+pub kept : (b c : State) (m : Field → Builder ℕ) (r : Result ℕ Refusal) → Entering b m c r → Later b c × IfOk r (λ place. place < c.count)
+kept b c m (Ok place) d = (record { prime_is = d.told.ran.prime_is; longer = d.told.ran.longer }, d.told.inside)
+kept b c m (Err r) d = (record { prime_is = d.told.prime_is; longer = d.told.longer }, tt)
 
--- over more records, under the same prime
-module _ {p q : Prime} (e : p ≡ q) where
-  pub products_later : {n k : ℕ} {b : LagrangeBasis} → n ≤ k → Products (field_of q) n b → Products (field_of p) k b
-  products_later h d =
-      rw e
-      (record {
-        rows = d.rows;
-        prefix_long = d.prefix_long;
-        suffix_long = d.suffix_long;
-        prefix_inside = all_later h d.prefix_inside;
-        suffix_inside = all_later h d.suffix_inside;
-      })
-
-  pub roots_later : {c rs : List ℕ} → Roots (field_of q) c rs → Roots (field_of p) c rs
-  roots_later d = rw e d
-
-  pub class_later : {c : List ℕ} {d v : ℕ} → Class (field_of q) c d v → Class (field_of p) c d v
-  class_later d = rw e d
-
-  pub offset_later : {c vs : List ℕ} {d : ℕ} → Offset (field_of q) c vs d → Offset (field_of p) c vs d
-  offset_later d = rw e d
-
-  pub column_later : {c : List ℕ} → Column (modulus_of q) c → Column (modulus_of p) c
-  column_later d = rw e d
-
--- what a turn asks, over a later builder
-pub turn_asked : {b q : PeriodicBuilder} {basis : LagrangeBasis} {vs : List ℕ} {d k : ℕ} → Later b q → Products (field_of b.prime) b.count basis → Offset (field_of b.prime) basis.col.now vs d → k < length vs
-    → Products (field_of q.prime) q.count basis × Class (field_of q.prime) basis.col.now d (get_or vs k 0)
-turn_asked {b} {basis = basis} {vs = vs} {d = d} {k = k} h ps os i =
-    let class : Class (field_of b.prime) basis.col.now d (get_or vs k 0) = record { offset_is = os.offset_is; offset_low = os.offset_low; value_low = below_at (modulus_of b.prime) _ _ os.low i } in
-    (products_later h.prime_is h.longer ps, class_later h.prime_is class)
+-- within a later builder
+pub within_later : {basis : LagrangeBasis} {b c : State} → c.prime ≡ b.prime → b.count ≤ c.count → Within basis b → Within basis c
+within_later e h d = record { same = e ∙ d.same; longer = le_trans d.longer h }

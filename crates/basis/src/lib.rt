@@ -4,8 +4,6 @@
 ghost use Rattle.std.specs.Prelude.{◌≡◌, ℕ, ◌+◌, ◌-◌, ◌<◌, ◌≤◌, true, false, eqb, get_or, length};
 ghost use Rattle.field.specs.Fields.{field_of};
 ghost use Rattle.field.specs.Field.{modulus_of};
-ghost use Rattle.dag.specs.Arrays.{padded};
-ghost use Rattle.columns.specs.Promises as ColumnPromises;
 ghost use Rattle.periodic.specs.Builder.{Builder, turns};
 ghost use Rattle.periodic.specs.Periodic as Periodic;
 ghost use Rattle.periodic.specs.Promises.{AllInside};
@@ -13,7 +11,7 @@ ghost use Rattle.periodic.specs.Runs as Runs;
 ghost use Rattle.basis.specs.Promises as Promises;
 
 use arrayvec::ArrayVec;
-use columns::MOST_ENTRIES;
+use columns::{Column, MOST_ENTRIES};
 use dag::Refusal;
 use field::{Prime, felt};
 use periodic::PeriodicBuilder;
@@ -34,9 +32,9 @@ fn all_terms<F: Fn(&mut PeriodicBuilder, u64, usize) -> Result<usize, Refusal>>(
     term: F,
 ) -> Result<usize, Refusal>
     requires inside { start < builder.old.count }
-    requires callable { Promises.Callable builder.old values.now (F.pre term) }
-    requires kept { Promises.Keeps builder.old values.now (F.post term) }
-    ensures { (m : ℕ → ℕ → Builder ℕ) → Promises.Computes builder.old values.now (F.post term) m → Runs.Entering (Runs.held builder.old) (λ field. turns (λ k s. m (get_or values.now k 0) s) (length values.now) start) (Runs.held builder.new) result }
+    requires callable { Promises.Callable (Runs.held builder.old) values.now (F.pre term) }
+    requires kept { Promises.Keeps (Runs.held builder.old) values.now (F.post term) }
+    ensures { (m : ℕ → ℕ → Builder ℕ) → Promises.Computes (Runs.held builder.old) values.now (F.post term) m → Runs.Entering (Runs.held builder.old) (λ field. turns (λ k s. m (get_or values.now k 0) s) (length values.now) start) (Runs.held builder.new) result }
 {
     let mut sum = start;
     for v in values {
@@ -45,22 +43,28 @@ fn all_terms<F: Fn(&mut PeriodicBuilder, u64, usize) -> Result<usize, Refusal>>(
     Ok(sum)
 }
 
-// The Lagrange basis of a column's rows: its entries, their roots, and the places of the products before and behind each row.
+// The Lagrange basis of a column's rows: its roots, and the places of the products before and behind each row, among so many records.
 #[derive(Clone, Copy)]
 struct LagrangeBasis<'a> {
-    col: &'a [u64],
+    col: Column<'a>,
     roots: &'a [u64],
     prefix: &'a [usize],
     suffix: &'a [usize],
+    count: usize,
+    ghost rooted: { Promises.Roots (field_of col.prime) col.entries.now roots.now },
+    ghost before: { Promises.Places count col.entries.now prefix.now },
+    ghost behind: { Promises.Places count col.entries.now suffix.now },
 }
 
 impl LagrangeBasis<'_> {
+    ghost use Rattle.basis.specs.Within.{Within};
+
     // Element j of the basis.
     fn element(&self, builder: &mut PeriodicBuilder, j: usize) -> Result<usize, Refusal>
-        requires { Promises.Products (field_of builder.old.prime) builder.old.count self.now × (j < length self.now.col.now) }
-        ensures { Runs.Entering (Runs.held builder.old) (λ field. Periodic.element field self.now.col.now self.now.prefix.now self.now.suffix.now j) (Runs.held builder.new) result }
+        requires { Within self.now (Runs.held builder.old) × (j < length self.now.col.entries.now) }
+        ensures { Runs.Entering (Runs.held builder.old) (λ field. Periodic.element field self.now.col.entries.now self.now.prefix.now self.now.suffix.now j) (Runs.held builder.new) result }
     {
-        let product = builder.mul(self.prefix[j], self.suffix[self.col.len() - 1 - j])?;
+        let product = builder.mul(self.prefix[j], self.suffix[self.col.entries.len() - 1 - j])?;
         let root = builder.constant(self.roots[j])?;
         builder.mul(root, product)
     }
@@ -73,10 +77,10 @@ impl LagrangeBasis<'_> {
         j: usize,
         acc: usize,
     ) -> Result<usize, Refusal>
-        requires { Promises.Products (field_of builder.old.prime) builder.old.count self.now × (j < length self.now.col.now) × (acc < builder.old.count) }
-        ensures { Runs.Entering (Runs.held builder.old) (λ field. Periodic.class_turn field self.now.col.now self.now.prefix.now self.now.suffix.now v j acc) (Runs.held builder.new) result }
+        requires { Within self.now (Runs.held builder.old) × (j < length self.now.col.entries.now) × (acc < builder.old.count) }
+        ensures { Runs.Entering (Runs.held builder.old) (λ field. Periodic.class_turn field self.now.col.entries.now self.now.prefix.now self.now.suffix.now v j acc) (Runs.held builder.new) result }
     {
-        if self.col[j] != v {
+        if self.col.entries[j] != v {
             return Ok(acc);
         }
         let element = self.element(builder, j)?;
@@ -85,11 +89,11 @@ impl LagrangeBasis<'_> {
 
     // The sum of the elements whose entry is v.
     fn class_sum(&self, builder: &mut PeriodicBuilder, v: u64) -> Result<usize, Refusal>
-        requires { Promises.Products (field_of builder.old.prime) builder.old.count self.now }
-        ensures { Runs.Entering (Runs.held builder.old) (λ field. Periodic.class_sum field self.now.col.now self.now.prefix.now self.now.suffix.now v) (Runs.held builder.new) result }
+        requires { Within self.now (Runs.held builder.old) }
+        ensures { Runs.Entering (Runs.held builder.old) (λ field. Periodic.class_sum field self.now.col.entries.now self.now.prefix.now self.now.suffix.now v) (Runs.held builder.new) result }
     {
         let mut acc = builder.constant(0)?;
-        for j in 0..self.col.len() {
+        for j in 0..self.col.entries.len() {
             acc = self.class_turn(builder, v, j, acc)?;
         }
         Ok(acc)
@@ -103,10 +107,10 @@ impl LagrangeBasis<'_> {
         v: u64,
         sum: usize,
     ) -> Result<usize, Refusal>
-        requires { Promises.Products (field_of builder.old.prime) builder.old.count self.now × (sum < builder.old.count) × Promises.Class (field_of builder.old.prime) self.now.col.now d v }
-        ensures { Runs.Entering (Runs.held builder.old) (λ field. Periodic.term_turn field self.now.col.now false self.now.prefix.now self.now.suffix.now v sum) (Runs.held builder.new) result }
+        requires { Within self.now (Runs.held builder.old) × (sum < builder.old.count) × Promises.Class (field_of self.now.col.prime) self.now.col.entries.now d v }
+        ensures { Runs.Entering (Runs.held builder.old) (λ field. Periodic.term_turn field self.now.col.entries.now false self.now.prefix.now self.now.suffix.now v sum) (Runs.held builder.new) result }
     {
-        let prime = builder.prime;
+        let prime = self.col.prime;
         let is_minus = is_minus(prime, v, d);
         if v == d || is_minus {
             return Ok(sum);
@@ -125,10 +129,10 @@ impl LagrangeBasis<'_> {
         v: u64,
         sum: usize,
     ) -> Result<usize, Refusal>
-        requires { Promises.Products (field_of builder.old.prime) builder.old.count self.now × (sum < builder.old.count) × Promises.Class (field_of builder.old.prime) self.now.col.now d v }
-        ensures { Runs.Entering (Runs.held builder.old) (λ field. Periodic.term_turn field self.now.col.now true self.now.prefix.now self.now.suffix.now v sum) (Runs.held builder.new) result }
+        requires { Within self.now (Runs.held builder.old) × (sum < builder.old.count) × Promises.Class (field_of self.now.col.prime) self.now.col.entries.now d v }
+        ensures { Runs.Entering (Runs.held builder.old) (λ field. Periodic.term_turn field self.now.col.entries.now true self.now.prefix.now self.now.suffix.now v sum) (Runs.held builder.new) result }
     {
-        let is_minus = is_minus(builder.prime, v, d);
+        let is_minus = is_minus(self.col.prime, v, d);
         if v == d || !is_minus {
             return Ok(sum);
         }
@@ -138,11 +142,12 @@ impl LagrangeBasis<'_> {
 
     // The offset and the classes of the column.
     fn basis_sum(&self, builder: &mut PeriodicBuilder) -> Result<usize, Refusal>
-        requires { Promises.Products (field_of builder.old.prime) builder.old.count self.now × ColumnPromises.Column (modulus_of builder.old.prime) self.now.col.now }
-        ensures { Runs.Entering (Runs.held builder.old) (λ field. Periodic.basis_sum field self.now.col.now self.now.prefix.now self.now.suffix.now) (Runs.held builder.new) result }
+        requires { Within self.now (Runs.held builder.old) }
+        ensures { Runs.Entering (Runs.held builder.old) (λ field. Periodic.basis_sum field self.now.col.entries.now self.now.prefix.now self.now.suffix.now) (Runs.held builder.new) result }
     {
-        let values = columns::values::<MOST_ENTRIES>(self.col);
-        let d = columns::offset(builder.prime, self.col, &values);
+        let col = self.col;
+        let values = columns::values::<MOST_ENTRIES>(col.entries);
+        let d = columns::offset(col.prime, col.entries, &values);
         let start = builder.constant(d)?;
         let sum = all_terms(builder, &values, start, |builder, v, sum| {
             self.add_turn(builder, d, v, sum)
@@ -162,32 +167,33 @@ fn basis_factor(builder: &mut PeriodicBuilder, point: usize, root: u64) -> Resul
     builder.sub(point, root)
 }
 
-// point − w^k for each row k.
+// point − w^k for each of these roots.
 fn basis_factors(
     builder: &mut PeriodicBuilder,
     point: usize,
     roots: &[u64],
-    col: &[u64],
+    col: Column,
 ) -> Result<ArrayVec<usize, MOST_ENTRIES>, Refusal>
-    requires { (point < builder.old.count) × Promises.Roots (field_of builder.old.prime) col.now roots.now × (length col.now ≤ 128) }
-    ensures { Runs.Listing (Runs.held builder.old) (λ field. Periodic.factors field col.now point) (Runs.held builder.new) (length col.now) result }
+    requires { (point < builder.old.count) × (col.prime ≡ builder.old.prime) × Promises.Roots (field_of col.prime) col.entries.now roots.now }
+    ensures { let c = col.entry in Runs.Listing (Runs.held builder.old) (λ field. Periodic.factors field c.entries.now point) (Runs.held builder.new) (length c.entries.now) result }
 {
     let mut factors = ArrayVec::new();
-    for k in 0..col.len() {
+    for k in 0..col.entries.len() {
         let factor = basis_factor(builder, point, roots[k])?;
         factors.push(factor);
     }
     Ok(factors)
 }
 
-// A list of places from its end, 0 past the last.
-fn backwards(places: &[usize]) -> [usize; MOST_ENTRIES]
+// A list of places from its end.
+fn backwards(places: &[usize]) -> ArrayVec<usize, MOST_ENTRIES>
     requires { length places.now ≤ 128 }
-    ensures { result ≡ padded 0 128 (Periodic.backwards places.now) }
+    ensures { result.items ≡ Periodic.backwards places.now }
 {
-    let mut turned = [0usize; MOST_ENTRIES];
-    turned[..places.len()].copy_from_slice(places);
-    turned[..places.len()].reverse();
+    let mut turned = ArrayVec::new();
+    for place in places.iter().rev() {
+        turned.push(*place);
+    }
     turned
 }
 
@@ -197,19 +203,23 @@ fn basis_back(
     roots: &[u64],
     factors: &[usize],
     prefix: &[usize],
-    col: &[u64],
+    col: Column,
 ) -> Result<usize, Refusal>
-    requires { Promises.Factors (field_of builder.old.prime) builder.old.count col.now roots.now factors.now × (length prefix.now ≡ length col.now) × AllInside builder.old.count prefix.now × ColumnPromises.Column (modulus_of builder.old.prime) col.now }
-    ensures { Runs.Entering (Runs.held builder.old) (λ field. Periodic.basis_back field col.now factors.now prefix.now) (Runs.held builder.new) result }
+    requires prime { col.prime ≡ builder.old.prime }
+    requires roots { Promises.Roots (field_of col.prime) col.entries.now roots.now }
+    requires factors { Promises.Places builder.old.count col.entries.now factors.now }
+    requires prefix { Promises.Places builder.old.count col.entries.now prefix.now }
+    ensures { let c = col.entry in Runs.Entering (Runs.held builder.old) (λ field. Periodic.basis_back field c.entries.now factors.now prefix.now) (Runs.held builder.new) result }
 {
     let one = builder.constant(1)?;
     let turned = backwards(factors);
-    let suffix = builder.chain::<MOST_ENTRIES>(one, &turned[..col.len() - 1])?;
+    let suffix = builder.chain::<MOST_ENTRIES>(one, &turned[..factors.len() - 1])?;
     let basis = LagrangeBasis {
         col,
         roots,
         prefix,
         suffix: &suffix,
+        count: builder.count,
     };
     basis.basis_sum(builder)
 }
@@ -219,24 +229,24 @@ fn basis_front(
     builder: &mut PeriodicBuilder,
     point: usize,
     roots: &[u64],
-    col: &[u64],
+    col: Column,
 ) -> Result<usize, Refusal>
-    requires { (point < builder.old.count) × ColumnPromises.Column (modulus_of builder.old.prime) col.now × Promises.Roots (field_of builder.old.prime) col.now roots.now }
-    ensures { Runs.Entering (Runs.held builder.old) (λ field. Periodic.basis_front field col.now point) (Runs.held builder.new) result }
+    requires { (point < builder.old.count) × (col.prime ≡ builder.old.prime) × Promises.Roots (field_of col.prime) col.entries.now roots.now }
+    ensures { let c = col.entry in Runs.Entering (Runs.held builder.old) (λ field. Periodic.basis_front field c.entries.now point) (Runs.held builder.new) result }
 {
-    let scale = coefficients::size_inverse(builder.prime, col);
+    let scale = coefficients::size_inverse(col);
     let factors = basis_factors(builder, point, roots, col)?;
     let start = builder.constant(scale)?;
-    let prefix = builder.chain::<MOST_ENTRIES>(start, &factors[..col.len() - 1])?;
+    let prefix = builder.chain::<MOST_ENTRIES>(start, &factors[..factors.len() - 1])?;
     basis_back(builder, roots, &factors, &prefix, col)
 }
 
 // The value of a column in basis whose point is ZK squared k times.
-pub fn basis_value(builder: &mut PeriodicBuilder, col: &[u64], k: usize) -> Result<usize, Refusal>
-    requires { ColumnPromises.Column (modulus_of builder.old.prime) col.now }
-    ensures { Runs.Entering (Runs.held builder.old) (λ field. Periodic.basis_value field col.now k) (Runs.held builder.new) result }
+pub fn basis_value(builder: &mut PeriodicBuilder, col: Column, k: usize) -> Result<usize, Refusal>
+    requires { col.prime ≡ builder.old.prime }
+    ensures { let c = col.entry in Runs.Entering (Runs.held builder.old) (λ field. Periodic.basis_value field c.entries.now k) (Runs.held builder.new) result }
 {
-    let roots = coefficients::roots(builder.prime, col);
+    let roots = coefficients::roots(col);
     let z = builder.z_power(k)?;
     basis_front(builder, z, &roots, col)
 }

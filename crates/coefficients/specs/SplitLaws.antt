@@ -7,7 +7,7 @@ use Rattle.std.proofs.Math.Nat.{two-pow-succ}
 use native.Mathlib.Omega.{arith}
 use Rattle.std.proofs.lemmas.Bool.{eqb-false}
 use Rattle.std.proofs.Math.ListN.{get_or, length}
-use Rattle.std.proofs.lemmas.List.{length-replicate}
+use Rattle.std.proofs.lemmas.List.{length-replicate, get_or_past}
 use Rattle.field.specs.Fields.{Field, modulus, coordinate_laws}
 use Rattle.ring.specs.Ring.{Ops, Laws}
 use Rattle.ring.specs.Identities.{mul_one, left_comm}
@@ -18,7 +18,7 @@ use Rattle.columns.specs.Columns.{log_length}
 use Rattle.columns.specs.Promises.{Column}
 use Rattle.columns.specs.LogLaws.{log_le, power_is}
 use Rattle.dag.specs.Arrays.{up_to, padded}
-use Rattle.dag.specs.ArrayLaws.{fill_next, get_or_filled, length_up_to, length_padded}
+use Rattle.dag.specs.ArrayLaws.{fill_next, get_or_up_to, get_or_filled, length_up_to, length_padded}
 use Rattle.columns.specs.ClassLaws.{below_at}
 use Rattle.coefficients.specs.Terms.{root, root_inverse, size_inverse, dense}
 use Rattle.coefficients.specs.Arrays.{powers, copied}
@@ -138,8 +138,8 @@ module _ {o : Ops ℕ} (L : Laws o) where
 pub rows_fit : (s n : ℕ) → 0 < s → 2 * s * n ≤ 128 → 2 * n ≤ 128
 rows_fit s n pos h = omega (arith, le-mul_of_pos_right n pos)
 
-pub row_fits : (s n j : ℕ) → 2 * s * n ≤ 128 → j < 2 * n → j * s + s ≤ 128
-row_fits s n j h l = omega (arith, mul-le-mul_right s l)
+pub row_fits : (s n j m : ℕ) → 2 * s * n ≤ m → j < 2 * n → j * s + s ≤ m
+row_fits s n j m h l = omega (arith, mul-le-mul_right s l)
 
 round_below : (n j : ℕ) → j < 2 * n → round n j < n
 unfolding round
@@ -164,6 +164,13 @@ module _ (field : Field) where
       at zero i = omega (arith, field.large)
       at (suc n) zero = omega (arith, field.large)
       at (suc n) (suc i) = at n i
+
+  low_up_to : (f : ℕ → ℕ) (n : ℕ) → ((i : ℕ) → i < n → f i < modulus field) → LowTable field (up_to f n)
+  low_up_to f n low = record { at = λ i. go i (le_or_lt n i) }
+    where
+      go : (i : ℕ) → (n ≤ i) ⊎ (i < n) → get_or (up_to f n) i 0 < modulus field
+      go i (inl h) = rw (get_or_past (up_to f n) i 0 (rw (length_up_to f n) h)) (omega (arith, field.large))
+      go i (inr h) = rw (get_or_up_to f 0 n i h) (low i h)
 
   -- a table filled from the front
   pub low_filled : (f : ℕ → ℕ) (n : ℕ) → n ≤ 128 → ((i : ℕ) → i < n → f i < modulus field) → LowTable field (padded 0 128 (up_to f n))
@@ -264,14 +271,18 @@ module _ (field : Field) where
         whole = ap (λ k. k * n) halves ∙ d.whole
 
         filled : (i : ℕ) → i < 2 * (s / 2) * n → get_or (powers field.coordinates (root_inverse field c) (length c)) i 0 ≡ pow field.coordinates (root_inverse field c) i
-        filled i l = get_or_filled 0 0 128 (pow field.coordinates (root_inverse field c)) (length c) i (rw whole at l)
+        filled i l = get_or_up_to (pow field.coordinates (root_inverse field c)) 0 (length c) i (rw whole at l)
 
-    pub reached_fits : (s n : ℕ) (t : List ℕ) → Reached field c s n t → 2 * (s / 2) * n ≤ 128
-    reached_fits s n t d = let most : 2 * (s / 2) ≤ s = omega arith in omega (arith, mul-le-mul_right n most, d.whole, col.short)
+    pub reached_fits : (s n v : ℕ) (t f : List ℕ) → f ≡ powers field.coordinates v (length c) → Reached field c s n t → (2 * (s / 2) * n ≤ length f) × (length f ≤ 128)
+    unfolding powers
+    reached_fits s n v t f e d =
+        let most : 2 * (s / 2) ≤ s = omega arith in
+        let long : length f ≡ length c = ap length e ∙ length_up_to (pow field.coordinates v) (length c) in
+        (omega (arith, mul-le-mul_right n most, d.whole), omega (arith, col.short))
 
     pub low_powers : (f : List ℕ) (v : ℕ) → f ≡ powers field.coordinates v (length c) → LowTable field f
     unfolding powers
-    low_powers f v e = rw e (low_filled (pow field.coordinates v) (length c) col.short (λ i _. low_pow (coordinate_laws field) v i))
+    low_powers f v e = rw e (low_up_to (pow field.coordinates v) (length c) (λ i _. low_pow (coordinate_laws field) v i))
 
     pub reached_end : (s n : ℕ) (t : List ℕ) → s ≤ 1 → Reached field c s n t → Reached field c 1 (length c) t
     reached_end s n t h d =

@@ -6,67 +6,71 @@ ghost use Rattle.field.specs.Fields.{field_of};
 ghost use Rattle.field.specs.Field.{felt, modulus_of};
 ghost use Rattle.ring.specs.Power.{pow};
 ghost use Rattle.columns.specs.Columns as Columns;
-ghost use Rattle.columns.specs.Promises as ColumnPromises;
 ghost use Rattle.coefficients.specs.Terms as Terms;
 ghost use Rattle.coefficients.specs.Arrays as Arrays;
 ghost use Rattle.coefficients.specs.Split as Split;
 
 use arrayvec::ArrayVec;
-use columns::MOST_ENTRIES;
+use columns::{Column, MOST_ENTRIES};
 use field::{Prime, felt};
 
 // So many terms a sparse column has at most.
 pub const MOST_TERMS: usize = 11;
 
+// So many twiddles a term has at most.
+pub const MOST_TWIDDLES: usize = 7;
+
 // w^k, where w generates the subgroup of the column's rows.
-fn root(prime: Prime, col: &[u64], k: usize) -> u64
-    ensures { (result ≡ Terms.root (field_of prime) col.now k) × (result < modulus_of prime) }
+fn root(col: Column, k: usize) -> u64
+    ensures { let c = col.entry in (result ≡ Terms.root (field_of c.prime) c.entries.now k) × (result < modulus_of c.prime) }
 {
     felt::pow(
-        prime,
-        felt::two_adic_generator(prime, columns::log_length(col)),
+        col.prime,
+        felt::two_adic_generator(col.prime, columns::log_length(col.entries)),
         k as u64,
     )
 }
 
 // The inverse of w.
-fn root_inverse(prime: Prime, col: &[u64]) -> u64
-    requires { 0 < length col.now }
-    ensures { (result ≡ Terms.root_inverse (field_of prime) col.now) × (result < modulus_of prime) }
+fn root_inverse(col: Column) -> u64
+    ensures { let c = col.entry in (result ≡ Terms.root_inverse (field_of c.prime) c.entries.now) × (result < modulus_of c.prime) }
 {
-    root(prime, col, col.len() - 1)
+    root(col, col.entries.len() - 1)
 }
 
 // The inverse of the number of rows.
-pub fn size_inverse(prime: Prime, col: &[u64]) -> u64
-    ensures { (result ≡ Terms.size_inverse (field_of prime) col.now) × (result < modulus_of prime) }
+pub fn size_inverse(col: Column) -> u64
+    ensures { let c = col.entry in (result ≡ Terms.size_inverse (field_of c.prime) c.entries.now) × (result < modulus_of c.prime) }
 {
-    felt::pow(prime, felt::half(prime), columns::log_length(col) as u64)
+    felt::pow(
+        col.prime,
+        felt::half(col.prime),
+        columns::log_length(col.entries) as u64,
+    )
 }
 
-// base^0, base^1, .., base^(n − 1), then 0.
-fn powers(prime: Prime, base: u64, n: usize) -> [u64; MOST_ENTRIES]
+// base^0, base^1, .., base^(n − 1).
+fn powers(prime: Prime, base: u64, n: usize) -> ArrayVec<u64, MOST_ENTRIES>
     requires { (base < modulus_of prime) × (n ≤ 128) }
-    ensures { result ≡ Arrays.powers (felt prime) base n }
+    ensures { result.items ≡ Arrays.powers (felt prime) base n }
 {
-    let mut row = [0u64; MOST_ENTRIES];
+    let mut powers = ArrayVec::new();
     let mut power: u64 = 1;
-    for i in 0..n {
-        row[i] = power;
+    for _ in 0..n {
+        powers.push(power);
         power = felt::mul(prime, base, power);
     }
-    row
+    powers
 }
 
-// w^k for each row k, then 0.
-pub fn roots(prime: Prime, col: &[u64]) -> [u64; MOST_ENTRIES]
-    requires { length col.now ≤ 128 }
-    ensures { result ≡ Arrays.roots (field_of prime) col.now }
+// w^k for each row k.
+pub fn roots(col: Column) -> ArrayVec<u64, MOST_ENTRIES>
+    ensures { let c = col.entry in result.items ≡ Arrays.roots (field_of c.prime) c.entries.now }
 {
     powers(
-        prime,
-        felt::two_adic_generator(prime, columns::log_length(col)),
-        col.len(),
+        col.prime,
+        felt::two_adic_generator(col.prime, columns::log_length(col.entries)),
+        col.entries.len(),
     )
 }
 
@@ -109,11 +113,11 @@ fn join_row(
 fn halved(
     prime: Prime,
     from: &[u64; MOST_ENTRIES],
-    factors: &[u64; MOST_ENTRIES],
+    factors: &[u64],
     s: usize,
     n: usize,
 ) -> [u64; MOST_ENTRIES]
-    requires { Split.LowTable (field_of prime) from.now × Split.LowTable (field_of prime) factors.now × (0 < s) × (2 * s * n ≤ 128) }
+    requires { Split.LowTable (field_of prime) from.now × Split.LowTable (field_of prime) factors.now × (0 < s) × (2 * s * n ≤ length factors.now) × (length factors.now ≤ 128) }
     ensures { Split.Halved (felt prime) from.now factors.now s n result × Split.LowTable (field_of prime) result }
 {
     let mut to = [0u64; MOST_ENTRIES];
@@ -125,33 +129,31 @@ fn halved(
 }
 
 // The sum of the entries at the powers of w^(−j), for each row j.
-fn sums(prime: Prime, col: &[u64]) -> [u64; MOST_ENTRIES]
-    requires { ColumnPromises.Column (modulus_of prime) col.now }
-    ensures { Split.Reached (field_of prime) col.now 1 (length col.now) result }
+fn sums(col: Column) -> [u64; MOST_ENTRIES]
+    ensures { let c = col.entry in Split.Reached (field_of c.prime) c.entries.now 1 (length c.entries.now) result }
 {
-    let factors = powers(prime, root_inverse(prime, col), col.len());
-    let mut table = copied(col);
-    let mut s = col.len();
+    let factors = powers(col.prime, root_inverse(col), col.entries.len());
+    let mut table = copied(col.entries);
+    let mut s = col.entries.len();
     let mut n = 1;
     // A while: s falls by half.
     while 1 < s {
         s /= 2;
-        table = halved(prime, &table, &factors, s, n);
+        table = halved(col.prime, &table, &factors, s, n);
         n *= 2;
     }
     table
 }
 
-// The dense coefficients, 0 past the last.
-pub fn dense(prime: Prime, col: &[u64]) -> [u64; MOST_ENTRIES]
-    requires { ColumnPromises.Column (modulus_of prime) col.now }
-    ensures { result ≡ Arrays.coefficients (field_of prime) col.now }
+// The dense coefficients.
+pub fn dense(col: Column) -> ArrayVec<u64, MOST_ENTRIES>
+    ensures { let c = col.entry in result.items ≡ Arrays.coefficients (field_of c.prime) c.entries.now }
 {
-    let scale = size_inverse(prime, col);
-    let sums = sums(prime, col);
-    let mut coefficients = [0u64; MOST_ENTRIES];
-    for j in 0..col.len() {
-        coefficients[j] = felt::mul(prime, sums[j], scale);
+    let scale = size_inverse(col);
+    let sums = sums(col);
+    let mut coefficients = ArrayVec::new();
+    for j in 0..col.entries.len() {
+        coefficients.push(felt::mul(col.prime, sums[j], scale));
     }
     coefficients
 }
@@ -170,43 +172,56 @@ pub fn support<const N: usize>(col: &[u64]) -> ArrayVec<u64, N>
     places
 }
 
-// The powers base, base^2, base^4, .. below base^(2^log), then 0.
-fn squares(prime: Prime, base: u64, log: usize) -> [u64; 7]
+// The powers base, base^2, base^4, .. below base^(2^log).
+fn squares(prime: Prime, base: u64, log: usize) -> ArrayVec<u64, MOST_TWIDDLES>
     requires { (base < modulus_of prime) × (log ≤ 7) }
-    ensures { result ≡ Arrays.squares (felt prime) base log }
+    ensures { result.items ≡ Arrays.squares (felt prime) base log }
 {
-    let mut row = [0u64; 7];
+    let mut squares = ArrayVec::new();
     let mut power = base;
-    for i in 0..log {
-        row[i] = power;
+    for _ in 0..log {
+        squares.push(power);
         power = felt::mul(prime, power, power);
     }
-    row
+    squares
 }
 
-// The twiddles of a sparse column's terms, at these places.
-pub fn sparse_twiddles(prime: Prime, col: &[u64], places: &[u64]) -> [[u64; 7]; MOST_TERMS]
-    requires { ColumnPromises.Column (modulus_of prime) col.now × Arrays.Places col.now places.now }
-    ensures { result ≡ Arrays.sparse_twiddles (field_of prime) col.now }
-{
-    let step = root_inverse(prime, col);
-    let log = columns::log_length(col);
-    let mut rows = [[0u64; 7]; MOST_TERMS];
-    for (k, place) in places.iter().enumerate() {
-        rows[k] = squares(prime, felt::pow(prime, step, *place), log);
-    }
-    rows
+// A column with the inverses of w and of the number of its rows, from which its sparse terms are worked out.
+#[derive(Clone, Copy)]
+pub struct SparseTerms<'a> {
+    pub col: Column<'a>,
+    step: u64,
+    scale: u64,
+    ghost stepped: { (step ≡ Terms.root_inverse (field_of col.prime) col.entries.now) × (step < modulus_of col.prime) },
+    ghost scaled: { (scale ≡ Terms.size_inverse (field_of col.prime) col.entries.now) × (scale < modulus_of col.prime) },
 }
 
-// The scaled values of a sparse column's terms, at these places.
-pub fn sparse_values(prime: Prime, col: &[u64], places: &[u64]) -> [u64; MOST_TERMS]
-    requires { ColumnPromises.Column (modulus_of prime) col.now × Arrays.Places col.now places.now }
-    ensures { result ≡ Arrays.sparse_values (field_of prime) col.now }
-{
-    let scale = size_inverse(prime, col);
-    let mut values = [0u64; MOST_TERMS];
-    for (k, place) in places.iter().enumerate() {
-        values[k] = felt::mul(prime, col[*place as usize], scale);
+impl<'a> SparseTerms<'a> {
+    // The terms of a column.
+    pub fn new(col: Column<'a>) -> SparseTerms<'a>
+        ensures { result.col ≡ col.entry }
+    {
+        SparseTerms {
+            col,
+            step: root_inverse(col),
+            scale: size_inverse(col),
+        }
     }
-    values
+
+    // The twiddles of the term of entry j.
+    pub fn twiddles(&self, j: usize) -> ArrayVec<u64, MOST_TWIDDLES>
+        ensures { let c = self.now.col in result.items ≡ Arrays.twiddles (field_of c.prime) c.entries.now j }
+    {
+        let prime = self.col.prime;
+        let base = felt::pow(prime, self.step, j as u64);
+        squares(prime, base, columns::log_length(self.col.entries))
+    }
+
+    // The scaled value of the term of entry j.
+    pub fn value(&self, j: usize) -> u64
+        requires { j < length self.now.col.entries.now }
+        ensures { let c = self.now.col in (result ≡ Terms.scaled_value (field_of c.prime) c.entries.now j) × (result < modulus_of c.prime) }
+    {
+        felt::mul(self.col.prime, self.col.entries[j], self.scale)
+    }
 }

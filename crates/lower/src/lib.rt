@@ -3,19 +3,17 @@
 
 ghost use Rattle.std.specs.Prelude.{◌≡◌, ◌+◌, ◌-◌, ◌<◌, ◌≤◌, length, take, replicate, IfOk};
 ghost use Rattle.field.specs.Fields.{field_of};
-ghost use Rattle.field.specs.Field.{modulus_of};
 ghost use Rattle.dag.specs.View.{interleaved};
 ghost use Rattle.dag.specs.Nodes.{blank, filled};
 ghost use Rattle.dag.specs.Refusals as Refusals;
 ghost use Rattle.columns.specs.Held as Held;
-ghost use Rattle.columns.specs.Promises as ColumnPromises;
 ghost use Rattle.periodic.specs.Periodic as Periodic;
 ghost use Rattle.periodic.specs.Runs as Runs;
 ghost use Rattle.lower.specs.Lower as Lower;
 ghost use Rattle.lower.specs.Promises as Promises;
 
 use arrayvec::ArrayVec;
-use columns::{Columns, Form, MOST_COLUMNS, Weighed};
+use columns::{Column, Columns, Form, MOST_COLUMNS, Weighed};
 use dag::{Dag, Refusal};
 use field::{Prime, felt};
 use periodic::PeriodicBuilder;
@@ -23,12 +21,12 @@ use periodic::PeriodicBuilder;
 // The value of a column in this form, whose point is ZK squared k times.
 fn column_value(
     builder: &mut PeriodicBuilder,
-    col: &[u64],
+    col: Column,
     form: Form,
     k: usize,
 ) -> Result<usize, Refusal>
-    requires { ColumnPromises.Column (modulus_of builder.old.prime) col.now × Promises.Formed col.now form }
-    ensures { Runs.Entering (Runs.held builder.old) (λ field. Periodic.column_value field col.now form k) (Runs.held builder.new) result }
+    requires { (col.prime ≡ builder.old.prime) × Promises.Formed col.entries.now form }
+    ensures { let c = col.entry in Runs.Entering (Runs.held builder.old) (λ field. Periodic.column_value field c.entries.now form k) (Runs.held builder.new) result }
 {
     match form {
         Form::Sparse => builder.sparse_value(col, k),
@@ -47,8 +45,8 @@ fn column_node(
     requires { let c = weighed.now.columns in (builder.old.prime ≡ c.prime) × Promises.Covered c.lengths.now c.entries.now log × (j < length c.lengths.now) }
     ensures { let c = weighed.now.columns in Runs.Entering (Runs.held builder.old) (λ field. Periodic.column_node field (Held.columns c) log j) (Runs.held builder.new) result }
 {
-    let col = weighed.columns.column(j).entries;
-    let k = log - columns::log_length(col);
+    let col = weighed.columns.column(j);
+    let k = log - columns::log_length(col.entries);
     column_value(builder, col, weighed.form(j), k)
 }
 

@@ -10,15 +10,16 @@ ghost use Rattle.dag.specs.Store.{Sound};
 ghost use Rattle.dag.specs.WellFormed.{Fine};
 ghost use Rattle.index.specs.Index.{NodeIndex};
 ghost use Rattle.columns.specs.Prepare.{all_below};
-ghost use Rattle.columns.specs.Promises as ColumnPromises;
+ghost use Rattle.columns.specs.Columns.{log_length};
+ghost use Rattle.coefficients.specs.Terms.{twiddle, scaled_value};
 ghost use Rattle.periodic.specs.Builder as Builder;
 ghost use Rattle.periodic.specs.Periodic as Periodic;
 ghost use Rattle.periodic.specs.Promises as Promises;
 
 use arrayvec::ArrayVec;
 use builder::Outcome;
-use coefficients::MOST_TERMS;
-use columns::MOST_ENTRIES;
+use coefficients::{MOST_TERMS, SparseTerms};
+use columns::{Column, MOST_ENTRIES};
 use dag::{NodeKind, Refusal};
 use field::{Prime, QuadFelt};
 
@@ -205,79 +206,73 @@ impl PeriodicBuilder {
     }
 
     // The product of 1 + twiddle · power over the powers of the column's point.
-    fn sparse_factor(&mut self, zpow: &[usize], row: [u64; 7], log: usize) -> Result<usize, Refusal>
-        requires { Promises.AllInside self.old.count zpow.now × Promises.Row (field_of self.old.prime) row log × (log ≤ length zpow.now) }
-        ensures { Runs.Entering (Runs.held self.old) (λ field. Periodic.sparse_factor field.elements zpow.now (λ i. get_or row i 0) log) (Runs.held self.new) result }
+    fn sparse_factor(&mut self, zpow: &[usize], twiddles: &[u64]) -> Result<usize, Refusal>
+        requires { Promises.AllInside self.old.count zpow.now × (all_below (modulus_of self.old.prime) twiddles.now ≡ true) × (length twiddles.now ≤ length zpow.now) }
+        ensures { Runs.Entering (Runs.held self.old) (λ field. Periodic.sparse_factor field.elements zpow.now (λ i. get_or twiddles.now i 0) (length twiddles.now)) (Runs.held self.new) result }
     {
         let mut factor = self.constant(1)?;
-        for i in 0..log {
-            factor = self.sparse_turn(row[i], zpow[i], factor)?;
+        for i in 0..twiddles.len() {
+            factor = self.sparse_turn(twiddles[i], zpow[i], factor)?;
         }
         Ok(factor)
     }
 
-    // A sparse term.
+    // The sparse term of entry j.
     fn sparse_term(
         &mut self,
         zpow: &[usize],
-        row: [u64; 7],
-        log: usize,
-        value: u64,
+        terms: &SparseTerms,
+        j: usize,
     ) -> Result<usize, Refusal>
-        requires { Promises.AllInside self.old.count zpow.now × Promises.Row (field_of self.old.prime) row log × (log ≤ length zpow.now) × (value < modulus_of self.old.prime) }
-        ensures { Runs.Entering (Runs.held self.old) (λ field. Periodic.sparse_term field.elements zpow.now (λ i. get_or row i 0) log value) (Runs.held self.new) result }
+        requires { Promises.AllInside self.old.count zpow.now × Promises.Spans self.old.prime terms.now.col.prime zpow.now terms.now.col.entries.now × (j < length terms.now.col.entries.now) }
+        ensures { let c = terms.now.col.entries.now in Runs.Entering (Runs.held self.old) (λ field. Periodic.sparse_term field.elements zpow.now (twiddle field c j) (log_length c) (scaled_value field c j)) (Runs.held self.new) result }
     {
-        let factor = self.sparse_factor(zpow, row, log)?;
-        let scaled = self.constant(value)?;
+        let twiddles = terms.twiddles(j);
+        let factor = self.sparse_factor(zpow, &twiddles)?;
+        let scaled = self.constant(terms.value(j))?;
         self.mul(scaled, factor)
     }
 
-    // The sum of t sparse terms.
+    // The sum of the sparse terms of the entries at these places.
     fn sparse_sum(
         &mut self,
         zpow: &[usize],
-        rows: [[u64; 7]; MOST_TERMS],
-        log: usize,
-        values: [u64; MOST_TERMS],
-        t: usize,
+        terms: &SparseTerms,
+        places: &[u64],
     ) -> Result<usize, Refusal>
-        requires { Promises.AllInside self.old.count zpow.now × Promises.Rows (field_of self.old.prime) rows log values t × (log ≤ length zpow.now) }
-        ensures { Runs.Entering (Runs.held self.old) (λ field. Periodic.sparse_sum field.elements zpow.now (λ k i. get_or (get_or rows k []) i 0) log (λ k. get_or values k 0) t) (Runs.held self.new) result }
+        requires { Promises.AllInside self.old.count zpow.now × Promises.Spans self.old.prime terms.now.col.prime zpow.now terms.now.col.entries.now × Promises.AllInside (length terms.now.col.entries.now) places.now }
+        ensures { let c = terms.now.col.entries.now in Runs.Entering (Runs.held self.old) (λ field. Periodic.sparse_sum field.elements zpow.now (λ k. twiddle field c (get_or places.now k 0)) (log_length c) (λ k. scaled_value field c (get_or places.now k 0)) (length places.now)) (Runs.held self.new) result }
     {
-        if t == 0 {
+        if places.is_empty() {
             return self.constant(0);
         }
-        let mut sum = self.sparse_term(zpow, rows[0], log, values[0])?;
-        for k in 1..t {
-            let term = self.sparse_term(zpow, rows[k], log, values[k])?;
+        let mut sum = self.sparse_term(zpow, terms, places[0] as usize)?;
+        for k in 1..places.len() {
+            let term = self.sparse_term(zpow, terms, places[k] as usize)?;
             sum = self.add(sum, term)?;
         }
         Ok(sum)
     }
 
     // The value of a sparse column whose point is ZK squared k times.
-    pub fn sparse_value(&mut self, col: &[u64], k: usize) -> Result<usize, Refusal>
-        requires { ColumnPromises.Column (modulus_of self.old.prime) col.now × Promises.Few col.now }
-        ensures { Runs.Entering (Runs.held self.old) (λ field. Periodic.sparse_value field col.now k) (Runs.held self.new) result }
+    pub fn sparse_value(&mut self, col: Column, k: usize) -> Result<usize, Refusal>
+        requires { (col.prime ≡ self.old.prime) × Promises.Few col.entries.now }
+        ensures { let c = col.entry in Runs.Entering (Runs.held self.old) (λ field. Periodic.sparse_value field c.entries.now k) (Runs.held self.new) result }
     {
-        let prime = self.prime;
-        let places = coefficients::support::<MOST_TERMS>(col);
-        let rows = coefficients::sparse_twiddles(prime, col, &places);
-        let values = coefficients::sparse_values(prime, col, &places);
-        let log = columns::log_length(col);
+        let places = coefficients::support::<MOST_TERMS>(col.entries);
         let z = self.z_power(k)?;
-        let zpow = self.powers(z, log)?;
-        self.sparse_sum(&zpow, rows, log, values, places.len())
+        let zpow = self.powers(z, columns::log_length(col.entries))?;
+        self.sparse_sum(&zpow, &SparseTerms::new(col), &places)
     }
 
     // The value of a dense column whose point is ZK squared k times.
-    pub fn dense_value(&mut self, col: &[u64], k: usize) -> Result<usize, Refusal>
-        requires { ColumnPromises.Column (modulus_of self.old.prime) col.now }
-        ensures { Runs.Entering (Runs.held self.old) (λ field. Periodic.dense_value field col.now k) (Runs.held self.new) result }
+    pub fn dense_value(&mut self, col: Column, k: usize) -> Result<usize, Refusal>
+        requires { col.prime ≡ self.old.prime }
+        ensures { let c = col.entry in Runs.Entering (Runs.held self.old) (λ field. Periodic.dense_value field c.entries.now k) (Runs.held self.new) result }
     {
-        let numbers = coefficients::dense(self.prime, col);
+        let numbers = coefficients::dense(col);
         let z = self.z_power(k)?;
-        let coeffs = self.constants(&numbers[..col.len()])?;
+        let coeffs = self.constants(&numbers)?;
         self.horner_eval(z, &coeffs)
     }
 }

@@ -7,4 +7,4 @@ use Rattle.basis.proofs.basis_factors.Given as goal
 
 abbrev pub invariant-loop-k : goal.invariant-loop-k
 invariant-loop-k l =
-    Runs.Listed (Runs.held l.initial.builder) (λ field. Builder.turns (λ k fs. Builder.also fs (Periodic.factor field l.col l.point k)) l.k []) (Runs.held l.builder) l.k l.factors.items
+    Runs.Listed (Runs.held l.initial.builder) (λ field. Builder.turns (λ k fs. Builder.also fs (Periodic.factor field l.col.entries.now l.point k)) l.k []) (Runs.held l.builder) l.k l.factors.items

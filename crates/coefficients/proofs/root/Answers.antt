@@ -8,7 +8,7 @@ use Rattle.coefficients.proofs.root.Goals as goal
 pub returns : goal.returns
 unfolding Terms.root
 returns c = (
-  c.pow.ensures.0 ∙ ap (λ w. pow (felt c.args.prime) w c.args.k) (c.two_adic_generator.ensures.0 ∙ ap (generator c.args.prime)
+  c.pow.ensures.0 ∙ ap (λ w. pow (felt c.args.col.prime) w c.args.k) (c.two_adic_generator.ensures.0 ∙ ap (generator c.args.col.prime)
       c.log_length.ensures.0),
   c.pow.ensures.1,
 )

@@ -8,10 +8,10 @@ use Rattle.lower.proofs.column_node.Goals as goal
 pub column_value-requires : goal.column_value-requires
 column_value-requires c =
     let columns = c.args.weighed.now.columns in (
-      rw (c.requires.0 ∙ sym c.column.ensures.0) c.column.result.tested,
-      formed_of (field_of columns.prime) _ _ _ _ _ columns.tested.handed c.requires.2 c.column.ensures.1 c.form.ensures,
+      c.column-col.ensures.0 ∙ sym c.requires.0,
+      formed_of (field_of columns.prime) _ _ _ _ _ columns.tested.handed c.requires.2 c.column-col.ensures.1 c.form.ensures,
     )
 
 pub returns : goal.returns
 returns c =
-    enter_like c.requires.0 (same_is (node_is (field_of c.args.weighed.now.columns.prime) _ _ _ _ _ _ c.column.ensures.1 c.form.ensures c.log_length.ensures.0)) c.column_value.ensures
+    enter_like c.requires.0 (same_is (node_is (field_of c.args.weighed.now.columns.prime) _ _ _ _ _ _ c.column-col.ensures.1 c.form.ensures c.log_length.ensures.0)) c.column_value.ensures

@@ -2,7 +2,7 @@ use native.Mathlib.Omega.{arith}
 use Rattle.std.proofs.Common.{◌∙◌, le_trans}
 use Rattle.periodic.specs.Periodic as Periodic
 use Rattle.periodic.specs.RunLaws.{long_first, then_long, then_enter, turn_long, enter_none, enter_next, enter_all, refused}
-use Rattle.basis.specs.BasisLaws.{products_later}
+use Rattle.basis.specs.BasisLaws.{within_later}
 use Rattle.basis.proofs.LagrangeBasis.class_sum.Goals as goal
 
 pub returns-in_err-acc : goal.returns-in_err-acc
@@ -14,7 +14,7 @@ loop-j-init c = enter_none _ _ _ c.in_ok-acc.ensures.told.inside
 
 pub class_turn-requires : goal.class_turn-requires
 class_turn-requires c = (
-  products_later (c.loop-j.invariant.ran.prime_is ∙ c.in_ok-acc.ensures.told.ran.prime_is) (le_trans c.in_ok-acc.ensures.told.ran.longer c.loop-j.invariant.ran.longer) c.requires,
+  within_later (c.loop-j.invariant.ran.prime_is ∙ c.in_ok-acc.ensures.told.ran.prime_is) (le_trans c.in_ok-acc.ensures.told.ran.longer c.loop-j.invariant.ran.longer) c.requires,
   c.loop-j-test.true,
   c.loop-j.invariant.inside,
 )

@@ -1,4 +1,4 @@
-use Rattle.std.proofs.Common.{◌∙◌, le_trans, le_of_eq}
+use Rattle.std.proofs.Common.{sym, ◌∙◌, le_trans, le_of_eq}
 use Rattle.field.specs.Fields.{field_of}
 use Rattle.periodic.specs.Periodic as Periodic
 use Rattle.periodic.specs.NumberLaws.{dense_below, length_dense}
@@ -12,18 +12,24 @@ returns-in_err-z c = refused _ _ c.from_residual.ensures (long_first _ c.in_err-
 
 pub constants-requires : goal.constants-requires
 constants-requires c =
-    let field = field_of c.args.self.now.prime in (
-      all_below_later _ c.in_ok-z.ensures.told.ran.prime_is (dense_below field c.args.col.now _ c.dense-numbers.ensures),
-      le_trans (le_of_eq (length_dense field c.args.col.now _ c.dense-numbers.ensures)) c.requires.short,
+    let field = field_of c.args.col.prime in
+    let e = c.deref.ensures.0 ∙ c.dense-numbers.ensures in (
+      all_below_later _ (c.in_ok-z.ensures.told.ran.prime_is ∙ sym c.requires) (dense_below field c.args.col.entries.now _ e),
+      le_trans (le_of_eq (length_dense field c.args.col.entries.now _ e)) c.args.col.tested.short,
     )
 
 pub returns-in_err-coeffs : goal.returns-in_err-coeffs
 unfolding Periodic.dense_value
-returns-in_err-coeffs c = refused _ _ c.from_residual-in_err-coeffs.ensures (then_long _ c.in_ok-z.ensures.told.ran (long_first _ (long_like c.in_ok-z.ensures.told.ran.prime_is (dense_same _ _ _ c.dense-numbers.ensures) c.in_err-coeffs.ensures.told)))
+returns-in_err-coeffs c =
+    let e = c.in_ok-z.ensures.told.ran.prime_is ∙ sym c.requires in
+    refused _ _ c.from_residual-in_err-coeffs.ensures
+    (then_long _ c.in_ok-z.ensures.told.ran (long_first _ (long_like e (dense_same _ _ _ (c.deref.ensures.0 ∙ c.dense-numbers.ensures)) c.in_err-coeffs.ensures.told)))
 
 pub returns : goal.returns
 unfolding Periodic.dense_value
 returns c =
-    let many = c.in_ok-coeffs.ensures.told.many ∙ length_dense (field_of c.args.self.now.prime) c.args.col.now _ c.dense-numbers.ensures in
+    let numbers = c.deref.ensures.0 ∙ c.dense-numbers.ensures in
+    let e = c.in_ok-z.ensures.told.ran.prime_is ∙ sym c.requires in
+    let many = c.in_ok-coeffs.ensures.told.many ∙ length_dense (field_of c.args.col.prime) c.args.col.entries.now _ numbers in
     then_enter _ c.in_ok-z.ensures.told.ran
-    (then_enter _ (ran_like c.in_ok-z.ensures.told.ran.prime_is (dense_same _ _ _ c.dense-numbers.ensures) c.in_ok-coeffs.ensures.told.ran) (rw (c.deref.ensures.0, many) at c.horner_eval.ensures))
+    (then_enter _ (ran_like e (dense_same _ _ _ numbers) c.in_ok-coeffs.ensures.told.ran) (rw (c.deref-2.ensures.0, many) at c.horner_eval.ensures))
