@@ -22,19 +22,18 @@ const FEW_LINKS: usize = 2 * dag::FEW_RECORDS;
 // The links of the longest list's index.
 const MOST_LINKS: usize = 2 * dag::MOST_RECORDS;
 
-// What a rule of a step says: a place, a record to intern, or operands handed to the other of add and sub.
-#[derive(Clone, Copy)]
-pub enum Rule {
-    Use(usize),
-    Make(NodeKind),
-    HandOver(usize, usize),
-}
-
 // What a request comes to: a place that is there, or a record to intern.
 #[derive(Clone, Copy)]
 pub enum Outcome {
     Place(usize),
     Node(NodeKind),
+}
+
+// What a rule of a step says: an outcome, or operands handed to the other of add and sub.
+#[derive(Clone, Copy)]
+pub enum Rule {
+    ComesTo(Outcome),
+    HandOver(usize, usize),
 }
 
 // A result's place, and the number of records then.
@@ -125,22 +124,26 @@ fn add_rule(prime: Prime, x: NodeKind, y: NodeKind, a: usize, b: usize) -> Rule
     ensures { result ≡ Steps.add_rule (elements prime) x y a b }
 {
     if let Some((c, d)) = constants(x, y) {
-        return Rule::Make(NodeKind::Constant(c.add(prime, d)));
+        return Rule::ComesTo(Outcome::Node(NodeKind::Constant(c.add(prime, d))));
     }
     if x == NodeKind::Constant(QuadFelt::ZERO) {
-        return Rule::Use(b);
+        return Rule::ComesTo(Outcome::Place(b));
     }
     if y == NodeKind::Constant(QuadFelt::ZERO) {
-        return Rule::Use(a);
+        return Rule::ComesTo(Outcome::Place(a));
     }
     if let Some(i) = cancel_add(x, y, a, b) {
-        return Rule::Use(i);
+        return Rule::ComesTo(Outcome::Place(i));
     }
     match (x, y) {
-        (NodeKind::Neg(_), NodeKind::Neg(_)) => Rule::Make(canonical(AssociativeOp::Add, a, b)),
+        (NodeKind::Neg(_), NodeKind::Neg(_)) => Rule::ComesTo(Outcome::Node(canonical(
+            AssociativeOp::Add,
+            a,
+            b,
+        ))),
         (NodeKind::Neg(c), _) => Rule::HandOver(b, c),
         (_, NodeKind::Neg(d)) => Rule::HandOver(a, d),
-        _ => Rule::Make(canonical(AssociativeOp::Add, a, b)),
+        _ => Rule::ComesTo(Outcome::Node(canonical(AssociativeOp::Add, a, b))),
     }
 }
 
@@ -151,20 +154,20 @@ fn sub_rule(prime: Prime, x: NodeKind, y: NodeKind, a: usize, b: usize) -> Rule
     ensures { result ≡ Steps.sub_rule (elements prime) x y a b }
 {
     if let Some((c, d)) = constants(x, y) {
-        return Rule::Make(NodeKind::Constant(c.sub(prime, d)));
+        return Rule::ComesTo(Outcome::Node(NodeKind::Constant(c.sub(prime, d))));
     }
     if y == NodeKind::Constant(QuadFelt::ZERO) {
-        return Rule::Use(a);
+        return Rule::ComesTo(Outcome::Place(a));
     }
     if a == b {
-        return Rule::Make(NodeKind::Constant(QuadFelt::ZERO));
+        return Rule::ComesTo(Outcome::Node(NodeKind::Constant(QuadFelt::ZERO)));
     }
     if let Some(i) = cancel_sub(x, y, a, b) {
-        return Rule::Use(i);
+        return Rule::ComesTo(Outcome::Place(i));
     }
     match y {
         NodeKind::Neg(d) => Rule::HandOver(a, d),
-        _ => Rule::Make(NodeKind::Sub(a, b)),
+        _ => Rule::ComesTo(Outcome::Node(NodeKind::Sub(a, b))),
     }
 }
 
@@ -208,8 +211,7 @@ fn add_outcome(prime: Prime, list: &[u64], n: usize, a: usize, b: usize) -> Outc
     ensures { result ≡ Steps.add_outcome (elements prime) (Nodes.nodes (interleaved list.now) n) a b }
 {
     match add_rule(prime, dag::node_at(list, a), dag::node_at(list, b), a, b) {
-        Rule::Use(i) => Outcome::Place(i),
-        Rule::Make(x) => Outcome::Node(x),
+        Rule::ComesTo(outcome) => outcome,
         Rule::HandOver(c, d) => sub_outcome(prime, list, n, c, d),
     }
 }
@@ -221,8 +223,7 @@ fn sub_outcome(prime: Prime, list: &[u64], n: usize, a: usize, b: usize) -> Outc
     ensures { result ≡ Steps.sub_outcome (elements prime) (Nodes.nodes (interleaved list.now) n) a b }
 {
     match sub_rule(prime, dag::node_at(list, a), dag::node_at(list, b), a, b) {
-        Rule::Use(i) => Outcome::Place(i),
-        Rule::Make(x) => Outcome::Node(x),
+        Rule::ComesTo(outcome) => outcome,
         Rule::HandOver(c, d) => add_outcome(prime, list, n, c, d),
     }
 }
