@@ -170,7 +170,7 @@ unfolding all_terms
 terms_entered c prefix suffix minus start vs e v d = enter_like e (same_is (rw v refl)) d
 
 -- what is entered keeps the prime and the records, and its place is inside
-pub kept : (b a : PeriodicBuilder) (m : Field → Builder ℕ) (r : Result ℕ Refusal) → Entering (held b) m (held a) r → Later b a × IfOk r (λ place. place < a.count)
+pub kept : (b a : PeriodicBuilder) (m : Field → Builder ℕ) (r : Result ℕ Refusal) → Entering (held b) m (held a) r → Later b a × IfOk r (λ place. place < a.inner.count)
 kept b a m (Ok place) d = (record { prime_is = d.told.ran.prime_is; longer = d.told.ran.longer }, d.told.inside)
 kept b a m (Err r) d = (record { prime_is = d.told.prime_is; longer = d.told.longer }, tt)
 
@@ -200,8 +200,8 @@ module _ {p q : Prime} (e : p ≡ q) where
   column_later d = rw e d
 
 -- what a turn asks, over a later builder
-pub turn_asked : {b q : PeriodicBuilder} {basis : LagrangeBasis} {vs : List ℕ} {d k : ℕ} → Later b q → Products (field_of b.prime) b.count basis → Offset (field_of b.prime) basis.col.now vs d → k < length vs
-    → Products (field_of q.prime) q.count basis × Class (field_of q.prime) basis.col.now d (get_or vs k 0)
+pub turn_asked : {b q : PeriodicBuilder} {basis : LagrangeBasis} {vs : List ℕ} {d k : ℕ} → Later b q → Products (field_of b.inner.prime) b.inner.count basis → Offset (field_of b.inner.prime) basis.col.now vs d → k < length vs
+    → Products (field_of q.inner.prime) q.inner.count basis × Class (field_of q.inner.prime) basis.col.now d (get_or vs k 0)
 turn_asked {b} {basis = basis} {vs = vs} {d = d} {k = k} h ps os i =
-    let class : Class (field_of b.prime) basis.col.now d (get_or vs k 0) = record { offset_is = os.offset_is; offset_low = os.offset_low; value_low = below_at (modulus_of b.prime) _ _ os.low i } in
+    let class : Class (field_of b.inner.prime) basis.col.now d (get_or vs k 0) = record { offset_is = os.offset_is; offset_low = os.offset_low; value_low = below_at (modulus_of b.inner.prime) _ _ os.low i } in
     (products_later h.prime_is h.longer ps, class_later h.prime_is class)

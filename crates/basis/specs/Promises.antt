@@ -14,20 +14,20 @@ use Rattle.basis.specs.declared.LagrangeBasis.{LagrangeBasis}
 
 -- a later builder: the same prime, and no fewer records
 pub record Later (b c : PeriodicBuilder) : Type 0 where
-  pub prime_is : c.prime ≡ b.prime
-  pub longer : b.count ≤ c.count
+  pub prime_is : c.inner.prime ≡ b.inner.prime
+  pub longer : b.inner.count ≤ c.inner.count
 
 -- turns on the places of a later builder, each for a value of vs
 module _ (b : PeriodicBuilder) (vs : List ℕ) where
   -- where each turn may be called
   abbrev pub Callable : (MutBor PeriodicBuilder → ℕ → ℕ → Type 0) → Type 0
-  Callable pre = (q : MutBor PeriodicBuilder) (k s : ℕ) → Later b q.now → k < length vs → s < q.now.count → pre q (get_or vs k 0) s
+  Callable pre = (q : MutBor PeriodicBuilder) (k s : ℕ) → Later b q.now → k < length vs → s < q.now.inner.count → pre q (get_or vs k 0) s
 
   -- each leaves a later builder, and answers a place inside, if any
   abbrev pub Keeps : (MutBor PeriodicBuilder → ℕ → ℕ → Result ℕ Refusal → MutBor PeriodicBuilder → Type 0) → Type 0
   Keeps post =
       (q : MutBor PeriodicBuilder) (k s : ℕ) (r : Result ℕ Refusal) (a : MutBor PeriodicBuilder) → Later b q.now → k < length vs → post q (get_or vs k 0) s r a
-      → Later q.now a.now × IfOk r (λ place. place < a.now.count)
+      → Later q.now a.now × IfOk r (λ place. place < a.now.inner.count)
 
   -- each does what m computes
   abbrev pub Computes : (MutBor PeriodicBuilder → ℕ → ℕ → Result ℕ Refusal → MutBor PeriodicBuilder → Type 0) → (ℕ → ℕ → Builder ℕ) → Type 0

@@ -33,7 +33,7 @@ fn all_terms<F: Fn(&mut PeriodicBuilder, u64, usize) -> Result<usize, Refusal>>(
     start: usize,
     term: F,
 ) -> Result<usize, Refusal>
-    requires inside { start < builder.old.count }
+    requires inside { start < builder.old.inner.count }
     requires callable { Promises.Callable builder.old values.now (F.pre term) }
     requires kept { Promises.Keeps builder.old values.now (F.post term) }
     ensures { (m : ℕ → ℕ → Builder ℕ) → Promises.Computes builder.old values.now (F.post term) m → Runs.Entering (Runs.held builder.old) (λ field. turns (λ k s. m (get_or values.now k 0) s) (length values.now) start) (Runs.held builder.new) result }
@@ -57,7 +57,7 @@ struct LagrangeBasis<'a> {
 impl LagrangeBasis<'_> {
     // Element j of the basis.
     fn element(&self, builder: &mut PeriodicBuilder, j: usize) -> Result<usize, Refusal>
-        requires { Promises.Products (field_of builder.old.prime) builder.old.count self.now × (j < length self.now.col.now) }
+        requires { Promises.Products (field_of builder.old.inner.prime) builder.old.inner.count self.now × (j < length self.now.col.now) }
         ensures { Runs.Entering (Runs.held builder.old) (λ field. Periodic.element field self.now.col.now self.now.prefix.now self.now.suffix.now j) (Runs.held builder.new) result }
     {
         let product = builder.mul(self.prefix[j], self.suffix[self.col.len() - 1 - j])?;
@@ -73,7 +73,7 @@ impl LagrangeBasis<'_> {
         j: usize,
         acc: usize,
     ) -> Result<usize, Refusal>
-        requires { Promises.Products (field_of builder.old.prime) builder.old.count self.now × (j < length self.now.col.now) × (acc < builder.old.count) }
+        requires { Promises.Products (field_of builder.old.inner.prime) builder.old.inner.count self.now × (j < length self.now.col.now) × (acc < builder.old.inner.count) }
         ensures { Runs.Entering (Runs.held builder.old) (λ field. Periodic.class_turn field self.now.col.now self.now.prefix.now self.now.suffix.now v j acc) (Runs.held builder.new) result }
     {
         if self.col[j] != v {
@@ -85,7 +85,7 @@ impl LagrangeBasis<'_> {
 
     // The sum of the elements whose entry is v.
     fn class_sum(&self, builder: &mut PeriodicBuilder, v: u64) -> Result<usize, Refusal>
-        requires { Promises.Products (field_of builder.old.prime) builder.old.count self.now }
+        requires { Promises.Products (field_of builder.old.inner.prime) builder.old.inner.count self.now }
         ensures { Runs.Entering (Runs.held builder.old) (λ field. Periodic.class_sum field self.now.col.now self.now.prefix.now self.now.suffix.now v) (Runs.held builder.new) result }
     {
         let mut acc = builder.constant(0)?;
@@ -103,10 +103,10 @@ impl LagrangeBasis<'_> {
         v: u64,
         sum: usize,
     ) -> Result<usize, Refusal>
-        requires { Promises.Products (field_of builder.old.prime) builder.old.count self.now × (sum < builder.old.count) × Promises.Class (field_of builder.old.prime) self.now.col.now d v }
+        requires { Promises.Products (field_of builder.old.inner.prime) builder.old.inner.count self.now × (sum < builder.old.inner.count) × Promises.Class (field_of builder.old.inner.prime) self.now.col.now d v }
         ensures { Runs.Entering (Runs.held builder.old) (λ field. Periodic.term_turn field self.now.col.now false self.now.prefix.now self.now.suffix.now v sum) (Runs.held builder.new) result }
     {
-        let prime = builder.prime;
+        let prime = builder.inner.prime;
         let is_minus = is_minus(prime, v, d);
         if v == d || is_minus {
             return Ok(sum);
@@ -125,10 +125,10 @@ impl LagrangeBasis<'_> {
         v: u64,
         sum: usize,
     ) -> Result<usize, Refusal>
-        requires { Promises.Products (field_of builder.old.prime) builder.old.count self.now × (sum < builder.old.count) × Promises.Class (field_of builder.old.prime) self.now.col.now d v }
+        requires { Promises.Products (field_of builder.old.inner.prime) builder.old.inner.count self.now × (sum < builder.old.inner.count) × Promises.Class (field_of builder.old.inner.prime) self.now.col.now d v }
         ensures { Runs.Entering (Runs.held builder.old) (λ field. Periodic.term_turn field self.now.col.now true self.now.prefix.now self.now.suffix.now v sum) (Runs.held builder.new) result }
     {
-        let is_minus = is_minus(builder.prime, v, d);
+        let is_minus = is_minus(builder.inner.prime, v, d);
         if v == d || !is_minus {
             return Ok(sum);
         }
@@ -138,11 +138,11 @@ impl LagrangeBasis<'_> {
 
     // The offset and the classes of the column.
     fn basis_sum(&self, builder: &mut PeriodicBuilder) -> Result<usize, Refusal>
-        requires { Promises.Products (field_of builder.old.prime) builder.old.count self.now × ColumnPromises.Column (modulus_of builder.old.prime) self.now.col.now }
+        requires { Promises.Products (field_of builder.old.inner.prime) builder.old.inner.count self.now × ColumnPromises.Column (modulus_of builder.old.inner.prime) self.now.col.now }
         ensures { Runs.Entering (Runs.held builder.old) (λ field. Periodic.basis_sum field self.now.col.now self.now.prefix.now self.now.suffix.now) (Runs.held builder.new) result }
     {
         let values = columns::values::<MOST_ENTRIES>(self.col);
-        let d = columns::offset(builder.prime, self.col, &values);
+        let d = columns::offset(builder.inner.prime, self.col, &values);
         let start = builder.constant(d)?;
         let sum = all_terms(builder, &values, start, |builder, v, sum| {
             self.add_turn(builder, d, v, sum)
@@ -155,7 +155,7 @@ impl LagrangeBasis<'_> {
 
 // point − w^k, from w^k.
 fn basis_factor(builder: &mut PeriodicBuilder, point: usize, root: u64) -> Result<usize, Refusal>
-    requires { (point < builder.old.count) × (root < modulus_of builder.old.prime) }
+    requires { (point < builder.old.inner.count) × (root < modulus_of builder.old.inner.prime) }
     ensures { Runs.Entering (Runs.held builder.old) (λ field. Promises.factor field point root) (Runs.held builder.new) result }
 {
     let root = builder.constant(root)?;
@@ -169,7 +169,7 @@ fn basis_factors(
     roots: &[u64],
     col: &[u64],
 ) -> Result<ArrayVec<usize, MOST_ENTRIES>, Refusal>
-    requires { (point < builder.old.count) × Promises.Roots (field_of builder.old.prime) col.now roots.now × (length col.now ≤ 128) }
+    requires { (point < builder.old.inner.count) × Promises.Roots (field_of builder.old.inner.prime) col.now roots.now × (length col.now ≤ 128) }
     ensures { Runs.Listing (Runs.held builder.old) (λ field. Periodic.factors field col.now point) (Runs.held builder.new) (length col.now) result }
 {
     let mut factors = ArrayVec::new();
@@ -199,7 +199,7 @@ fn basis_back(
     prefix: &[usize],
     col: &[u64],
 ) -> Result<usize, Refusal>
-    requires { Promises.Factors (field_of builder.old.prime) builder.old.count col.now roots.now factors.now × (length prefix.now ≡ length col.now) × AllInside builder.old.count prefix.now × ColumnPromises.Column (modulus_of builder.old.prime) col.now }
+    requires { Promises.Factors (field_of builder.old.inner.prime) builder.old.inner.count col.now roots.now factors.now × (length prefix.now ≡ length col.now) × AllInside builder.old.inner.count prefix.now × ColumnPromises.Column (modulus_of builder.old.inner.prime) col.now }
     ensures { Runs.Entering (Runs.held builder.old) (λ field. Periodic.basis_back field col.now factors.now prefix.now) (Runs.held builder.new) result }
 {
     let one = builder.constant(1)?;
@@ -221,10 +221,10 @@ fn basis_front(
     roots: &[u64],
     col: &[u64],
 ) -> Result<usize, Refusal>
-    requires { (point < builder.old.count) × ColumnPromises.Column (modulus_of builder.old.prime) col.now × Promises.Roots (field_of builder.old.prime) col.now roots.now }
+    requires { (point < builder.old.inner.count) × ColumnPromises.Column (modulus_of builder.old.inner.prime) col.now × Promises.Roots (field_of builder.old.inner.prime) col.now roots.now }
     ensures { Runs.Entering (Runs.held builder.old) (λ field. Periodic.basis_front field col.now point) (Runs.held builder.new) result }
 {
-    let scale = coefficients::size_inverse(builder.prime, col);
+    let scale = coefficients::size_inverse(builder.inner.prime, col);
     let factors = basis_factors(builder, point, roots, col)?;
     let start = builder.constant(scale)?;
     let prefix = builder.chain::<MOST_ENTRIES>(start, &factors[..col.len() - 1])?;
@@ -233,10 +233,10 @@ fn basis_front(
 
 // The value of a column in basis whose point is ZK squared k times.
 pub fn basis_value(builder: &mut PeriodicBuilder, col: &[u64], k: usize) -> Result<usize, Refusal>
-    requires { ColumnPromises.Column (modulus_of builder.old.prime) col.now }
+    requires { ColumnPromises.Column (modulus_of builder.old.inner.prime) col.now }
     ensures { Runs.Entering (Runs.held builder.old) (λ field. Periodic.basis_value field col.now k) (Runs.held builder.new) result }
 {
-    let roots = coefficients::roots(builder.prime, col);
+    let roots = coefficients::roots(builder.inner.prime, col);
     let z = builder.z_power(k)?;
     basis_front(builder, z, &roots, col)
 }

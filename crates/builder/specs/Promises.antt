@@ -5,14 +5,14 @@ use Rattle.field.specs.Fields.{Field, Low}
 use Rattle.field.specs.Field.{elements}
 use Rattle.field.specs.declared.Prime.{Prime}
 use Rattle.field.specs.declared.QuadFelt.{QuadFelt}
-use Rattle.dag.specs.Store.{Sound, written, stored}
+use Rattle.dag.specs.Store.{Sound, put, written, stored}
 use Rattle.dag.specs.Refusals.{unless_refused}
 use Rattle.dag.specs.View.{View, interleaved}
 use Rattle.dag.specs.Nodes.{first, second, nodes, filled}
 use Rattle.dag.specs.Lookup.{lookup}
 use Rattle.dag.specs.Roots.{roots_of, roots_from, Inside}
 use Rattle.dag.specs.WellFormed.{Fine}
-use Rattle.index.specs.Index.{half, NodeIndex}
+use Rattle.index.specs.Index.{half, noted, node_bucket, NodeIndex}
 use Rattle.dag.specs.declared.NodeKind.{NodeKind}
 use Rattle.dag.specs.declared.NodeKind.TheVariants.{Add, Mul}
 use Rattle.dag.specs.declared.Dag.{Dag}
@@ -152,6 +152,13 @@ pub record SameStores (before after : DagBuilder) : Type 0 where
   pub links : after.links.ghost_name ≡ before.links.ghost_name
   pub list_words : length after.list.now ≡ length before.list.now
   pub link_words : length after.links.now ≡ length before.links.now
+
+-- a list that is built with the record y appended and noted, at that place
+pub record Appended (before : DagBuilder) (y : NodeKind) (after : DagBuilder) (place : ℕ) : Type 0 where
+  pub place_is : place ≡ before.count
+  pub count_is : after.count ≡ before.count + 1
+  pub list_is : after.list.now ≡ put before.list.now before.count y
+  pub links_are : after.links.now ≡ noted before.links.now before.count (node_bucket (half before.links.now) y)
 
 -- an empty list that is built, over stores that were `list` and `links`
 pub record Empty (prime : Prime) (list links : List ℕ) (b : DagBuilder) : Type 0 where

@@ -8,7 +8,7 @@ ghost use Rattle.dag.specs.View.{interleaved};
 ghost use Rattle.dag.specs.Nodes as Nodes;
 ghost use Rattle.dag.specs.Refusals as Refusals;
 ghost use Rattle.dag.specs.Store as Store;
-ghost use Rattle.index.specs.Index.{half, Usable, noted, node_bucket, NodeIndex};
+ghost use Rattle.index.specs.Index.{half, Usable, NodeIndex};
 ghost use Rattle.builder.specs.Steps as Steps;
 ghost use Rattle.builder.specs.Promises as Promises;
 ghost use Rattle.builder.specs.Calls as Calls;
@@ -248,29 +248,6 @@ fn request_outcome(prime: Prime, list: &[u64], n: usize, x: NodeKind) -> Outcome
     }
 }
 
-// The place of a request's result among the first n records, or the new record that it needs, by the list's index.
-#[tactic(auto, unfolding(crate::specs::Promises::resolved, crate::specs::Promises::found_or_new))]
-pub fn resolve(prime: Prime, list: &[u64], n: usize, links: &[u64], x: NodeKind) -> Outcome
-    requires { Promises.Request (field_of prime) (interleaved list.now) n x × NodeIndex (Nodes.nodes (interleaved list.now) n) links.now }
-    ensures { result ≡ Promises.resolved (field_of prime) (Nodes.nodes (interleaved list.now) n) n x }
-{
-    match request_outcome(prime, list, n, x) {
-        Outcome::Place(i) => Outcome::Place(i),
-        Outcome::Node(y) => match index::find(list, n, links, y) {
-            Some(i) => Outcome::Place(i),
-            None => Outcome::Node(y),
-        },
-    }
-}
-
-// Notes in an index that record y is at place n.
-pub fn note(links: &mut [u64], n: usize, y: NodeKind)
-    requires { Usable links.old × (n < half links.old) }
-    ensures { links.new ≡ noted links.old n (node_bucket (half links.old) y) }
-{
-    index::note(links, n, Words::from(y));
-}
-
 // A list that is built: its first `count` records, and their index.
 #[derive(Drop)]
 pub struct DagBuilder<'list, 'links> {
@@ -301,23 +278,43 @@ impl<'list, 'links> DagBuilder<'list, 'links> {
         }
     }
 
+    // The place of a request's result, or the new record that it needs, by the index.
+    #[tactic(auto, unfolding(crate::specs::Promises::resolved, crate::specs::Promises::found_or_new))]
+    pub fn resolve(&self, x: NodeKind) -> Outcome
+        requires { Promises.Request (field_of self.now.prime) (interleaved self.now.list.now) self.now.count x × NodeIndex (Nodes.nodes (interleaved self.now.list.now) self.now.count) self.now.links.now }
+        ensures { result ≡ Promises.resolved (field_of self.now.prime) (Nodes.nodes (interleaved self.now.list.now) self.now.count) self.now.count x }
+    {
+        let outcome = request_outcome(self.prime, self.list, self.count, x);
+        match outcome {
+            Outcome::Place(_) => outcome,
+            Outcome::Node(y) => {
+                index::find(self.list, self.count, self.links, y).map_or(outcome, Outcome::Place)
+            }
+        }
+    }
+
+    // Appends a new record and notes it in the index; answers its place.
+    pub fn append(&mut self, y: NodeKind) -> usize
+        requires { (self.old.count < (interleaved self.old.list.now).room) × Usable self.old.links.now × (self.old.count < half self.old.links.now) }
+        ensures same { Promises.SameStores self.old self.new }
+        ensures appended { Promises.Appended self.old y self.new result }
+    {
+        let place = self.count;
+        dag::put_node(self.list, place, y);
+        index::note(self.links, place, Words::from(y));
+        self.count += 1;
+        place
+    }
+
     // Enters one request; answers its place.
     pub fn push(&mut self, x: NodeKind) -> usize
         requires { Promises.Request (field_of self.old.prime) (interleaved self.old.list.now) self.old.count x × Promises.Room self.old.list.now self.old.count self.old.links.now }
         ensures same { Promises.SameStores self.old self.new }
         ensures noted { Promises.Noted (field_of self.old.prime) self.old.list.now self.old.count x self.new.list.now self.new.links.now (record { place = result; count = self.new.count }) }
     {
-        let n = self.count;
-        let list = &mut *self.list;
-        let links = &mut *self.links;
-        match resolve(self.prime, list, n, links, x) {
+        match self.resolve(x) {
             Outcome::Place(i) => i,
-            Outcome::Node(y) => {
-                dag::put_node(list, n, y);
-                note(links, n, y);
-                self.count += 1;
-                n
-            }
+            Outcome::Node(y) => self.append(y),
         }
     }
 }

@@ -15,6 +15,7 @@ ghost use Rattle.lower.specs.Lower as Lower;
 ghost use Rattle.lower.specs.Promises as Promises;
 
 use arrayvec::ArrayVec;
+use builder::DagBuilder;
 use columns::{Columns, Form, MOST_COLUMNS, Weighed};
 use dag::{Dag, Refusal};
 use field::{Prime, felt};
@@ -27,7 +28,7 @@ fn column_value(
     form: Form,
     k: usize,
 ) -> Result<usize, Refusal>
-    requires { ColumnPromises.Column (modulus_of builder.old.prime) col.now × Promises.Formed col.now form }
+    requires { ColumnPromises.Column (modulus_of builder.old.inner.prime) col.now × Promises.Formed col.now form }
     ensures { Runs.Entering (Runs.held builder.old) (λ field. Periodic.column_value field col.now form k) (Runs.held builder.new) result }
 {
     match form {
@@ -44,7 +45,7 @@ fn column_node(
     log: usize,
     j: usize,
 ) -> Result<usize, Refusal>
-    requires { let c = weighed.now.columns in (builder.old.prime ≡ c.prime) × Promises.Covered c.lengths.now c.entries.now log × (j < length c.lengths.now) }
+    requires { let c = weighed.now.columns in (builder.old.inner.prime ≡ c.prime) × Promises.Covered c.lengths.now c.entries.now log × (j < length c.lengths.now) }
     ensures { let c = weighed.now.columns in Runs.Entering (Runs.held builder.old) (λ field. Periodic.column_node field (Held.columns c) log j) (Runs.held builder.new) result }
 {
     let col = weighed.columns.column(j).entries;
@@ -58,7 +59,7 @@ fn build_periodic_nodes(
     columns: Columns,
     log: usize,
 ) -> Result<ArrayVec<u64, MOST_COLUMNS>, Refusal>
-    requires { (builder.old.prime ≡ columns.prime) × Promises.Covered columns.lengths.now columns.entries.now log }
+    requires { (builder.old.inner.prime ≡ columns.prime) × Promises.Covered columns.lengths.now columns.entries.now log }
     ensures { let c = columns.entry in Runs.Listing (Runs.held builder.old) (λ field. Periodic.build_periodic_nodes field (Held.columns c) log) (Runs.held builder.new) (length c.lengths.now) result }
 {
     let weighed = Weighed::new(columns);
@@ -156,11 +157,13 @@ fn lower_with(
     requires ready { Promises.Ready (field_of columns.prime) columns.lengths.now columns.entries.now period (length places.old) }
     ensures { let c = columns.entry in Promises.Finished (field_of c.prime) (interleaved dag.entry.list.now) dag.entry.n c.lengths.now c.entries.now period res.old places.old result res.new places.new }
 {
-    let mut builder = PeriodicBuilder::new(columns.prime);
-    builder.load(dag.list, dag.n);
+    let mut list = [0u64; periodic::LIST_WORDS];
+    let mut links = [0u64; periodic::LINK_WORDS];
+    let mut builder = PeriodicBuilder::load(dag, &mut list, &mut links);
     let log = columns::log_within(felt::most_log(columns.prime), period);
     let nodes = build_periodic_nodes(&mut builder, columns, log)?;
-    hand_over(&builder.list, builder.count, &nodes, res, places)
+    let DagBuilder { list, count, .. } = builder.inner;
+    hand_over(list, count, &nodes, res, places)
 }
 
 // Lower past its first tests.

@@ -20,12 +20,12 @@ unfolding Periodic.factors
 returns-in_err-factor c =
     refused_list _ _ c.from_residual.ensures
     (list_long _ _ _ _ c.loop-k-test.true c.loop-k.invariant
-    (long_like c.loop-k.invariant.ran.prime_is (same_is (factor_at (field_of c.args.builder.now.prime) _ _ _ _ c.requires.1 c.loop-k-test.true)) c.in_err-factor.ensures.told))
+    (long_like c.loop-k.invariant.ran.prime_is (same_is (factor_at (field_of c.args.builder.now.inner.prime) _ _ _ _ c.requires.1 c.loop-k-test.true)) c.in_err-factor.ensures.told))
 
 pub loop-k-preserved : goal.loop-k-preserved
 loop-k-preserved c =
     list_next _ _ _ _ _ c.loop-k.invariant
-    (entered_like c.loop-k.invariant.ran.prime_is (same_is (factor_at (field_of c.args.builder.now.prime) _ _ _ _ c.requires.1 c.loop-k-test.true)) c.in_ok-factor.ensures.told) c.push.ensures.items
+    (entered_like c.loop-k.invariant.ran.prime_is (same_is (factor_at (field_of c.args.builder.now.inner.prime) _ _ _ _ c.requires.1 c.loop-k-test.true)) c.in_ok-factor.ensures.told) c.push.ensures.items
 
 pub returns : goal.returns
 unfolding Periodic.factors

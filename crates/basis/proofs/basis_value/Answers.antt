@@ -13,7 +13,7 @@ basis_front-requires c =
     let e = c.in_ok-z.ensures.told.ran.prime_is in (
       c.in_ok-z.ensures.told.inside,
       column_later e c.requires,
-      roots_later e (roots_of_lem (field_of c.args.builder.now.prime) _ _ c.requires.short c.roots-roots.ensures),
+      roots_later e (roots_of_lem (field_of c.args.builder.now.inner.prime) _ _ c.requires.short c.roots-roots.ensures),
     )
 
 pub returns : goal.returns

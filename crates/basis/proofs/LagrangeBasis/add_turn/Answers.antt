@@ -15,13 +15,13 @@ scale prime {cs} {d} {v} q e = same_is (ap (Builder.constant (field_of prime).el
 
 pub returns-then-v-d : goal.returns-then-v-d
 returns-then-v-d c =
-    let field = field_of c.args.builder.now.prime in
+    let field = field_of c.args.builder.now.inner.prime in
     enter_like refl (add_skipped field _ _ _ c.requires.2.offset_is _ c.is_minus-is_minus.ensures _ _ _ c.then-v-d.either) (enter_done c.requires.1)
 
 pub returns-in_err-class : goal.returns-in_err-class
 unfolding Periodic.add_class
 returns-in_err-class c =
-    let field = field_of c.args.builder.now.prime in
+    let field = field_of c.args.builder.now.inner.prime in
     refused _ _ c.from_residual.ensures
     (long_like {m = λ field. Periodic.add_class field c.args.self.now.col.now c.args.self.now.prefix.now c.args.self.now.suffix.now c.args.v c.args.sum} refl
     (add_taken field _ _ _ c.requires.2.offset_is _ c.is_minus-is_minus.ensures _ _ _ c.if-v-d.false c.if-is_minus.false) (long_first _ c.in_err-class.ensures.told))
@@ -29,7 +29,7 @@ returns-in_err-class c =
 pub returns-in_err-scale : goal.returns-in_err-scale
 unfolding Periodic.add_class
 returns-in_err-scale c =
-    let field = field_of c.args.builder.now.prime in
+    let field = field_of c.args.builder.now.inner.prime in
     refused _ _ c.from_residual-in_err-scale.ensures
     (long_like {m = λ field. Periodic.add_class field c.args.self.now.col.now c.args.self.now.prefix.now c.args.self.now.suffix.now c.args.v c.args.sum} refl
     (add_taken field _ _ _ c.requires.2.offset_is _ c.is_minus-is_minus.ensures _ _ _ c.if-v-d.false c.if-is_minus.false)
@@ -38,7 +38,7 @@ returns-in_err-scale c =
 pub returns-in_err-term : goal.returns-in_err-term
 unfolding Periodic.add_class
 returns-in_err-term c =
-    let field = field_of c.args.builder.now.prime in
+    let field = field_of c.args.builder.now.inner.prime in
     refused _ _ c.from_residual-in_err-term.ensures
     (long_like {m = λ field. Periodic.add_class field c.args.self.now.col.now c.args.self.now.prefix.now c.args.self.now.suffix.now c.args.v c.args.sum} refl
     (add_taken field _ _ _ c.requires.2.offset_is _ c.is_minus-is_minus.ensures _ _ _ c.if-v-d.false c.if-is_minus.false)
@@ -48,7 +48,7 @@ returns-in_err-term c =
 pub returns : goal.returns
 unfolding Periodic.add_class
 returns c =
-    let field = field_of c.args.builder.now.prime in
+    let field = field_of c.args.builder.now.inner.prime in
     enter_like {m = λ field. Periodic.add_class field c.args.self.now.col.now c.args.self.now.prefix.now c.args.self.now.suffix.now c.args.v c.args.sum} refl
     (add_taken field _ _ _ c.requires.2.offset_is _ c.is_minus-is_minus.ensures _ _ _ c.if-v-d.false c.if-is_minus.false)
     (then_enter _ c.in_ok-class.ensures.told.ran

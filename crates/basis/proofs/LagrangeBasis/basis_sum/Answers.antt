@@ -11,12 +11,12 @@ use Rattle.basis.proofs.LagrangeBasis.basis_sum.Goals as goal
 pub returns-in_err-start : goal.returns-in_err-start
 unfolding Periodic.basis_sum
 returns-in_err-start c =
-    let field = field_of c.args.builder.now.prime in
+    let field = field_of c.args.builder.now.inner.prime in
     refused _ _ c.from_residual.ensures (long_first _ (long_like refl (same_is (ap (Builder.constant field.elements) c.offset-d.ensures.0)) c.in_err-start.ensures.told))
 
 pub all_terms-requires : goal.all_terms-requires
 all_terms-requires c =
-    let field = field_of c.args.builder.now.prime in
+    let field = field_of c.args.builder.now.inner.prime in
     let products = products_later c.in_ok-start.ensures.told.ran.prime_is c.in_ok-start.ensures.told.ran.longer c.requires.0 in
     let offset = offset_later c.in_ok-start.ensures.told.ran.prime_is (offset_of field _ _ _ c.requires.1.low (c.deref-2.ensures.0 ∙ c.values-values.ensures) c.offset-d.ensures.0 c.offset-d.ensures.1) in
     record {
@@ -30,7 +30,7 @@ all_terms-requires c =
 pub returns-in_err-sum : goal.returns-in_err-sum
 unfolding Periodic.basis_sum
 returns-in_err-sum c =
-    let field = field_of c.args.builder.now.prime in
+    let field = field_of c.args.builder.now.inner.prime in
     let sum = terms_entered c.args.self.now.col.now _ _ false _ _ c.in_ok-start.ensures.told.ran.prime_is (c.deref-2.ensures.0 ∙ c.values-values.ensures)
     (c.in_err-sum.ensures (λ v s. Periodic.term_turn field c.args.self.now.col.now false c.args.self.now.prefix.now c.args.self.now.suffix.now v s)
     (λ b k s r a h i p.
@@ -41,7 +41,7 @@ returns-in_err-sum c =
 
 pub all_terms-requires-2 : goal.all_terms-requires-2
 all_terms-requires-2 c =
-    let field = field_of c.args.builder.now.prime in
+    let field = field_of c.args.builder.now.inner.prime in
     let sum = (terms_entered c.args.self.now.col.now _ _ false _ _ c.in_ok-start.ensures.told.ran.prime_is (c.deref-2.ensures.0 ∙ c.values-values.ensures)
     (c.in_ok-sum.ensures (λ v s. Periodic.term_turn field c.args.self.now.col.now false c.args.self.now.prefix.now c.args.self.now.suffix.now v s)
     (λ b k s r a h i p.
@@ -61,7 +61,7 @@ all_terms-requires-2 c =
 pub returns : goal.returns
 unfolding Periodic.basis_sum
 returns c =
-    let field = field_of c.args.builder.now.prime in
+    let field = field_of c.args.builder.now.inner.prime in
     let sum = (terms_entered c.args.self.now.col.now _ _ false _ _ c.in_ok-start.ensures.told.ran.prime_is (c.deref-2.ensures.0 ∙ c.values-values.ensures)
     (c.in_ok-sum.ensures (λ v s. Periodic.term_turn field c.args.self.now.col.now false c.args.self.now.prefix.now c.args.self.now.suffix.now v s)
     (λ b k s r a h i p.

@@ -13,7 +13,7 @@ returns-in_err-product c = refused _ _ c.from_residual.ensures (long_first _ c.i
 pub returns-in_err-root : goal.returns-in_err-root
 unfolding Periodic.element
 returns-in_err-root c =
-    let field = field_of c.args.builder.now.prime in
+    let field = field_of c.args.builder.now.inner.prime in
     refused _ _ c.from_residual-in_err-root.ensures
     (then_long _ c.in_ok-product.ensures.told.ran
     (long_first _ (long_like c.in_ok-product.ensures.told.ran.prime_is (same_is (ap (Builder.constant field.elements) (c.requires.0.rows.at _ c.requires.1))) c.in_err-root.ensures.told)))
@@ -21,6 +21,6 @@ returns-in_err-root c =
 pub returns : goal.returns
 unfolding Periodic.element
 returns c =
-    let field = field_of c.args.builder.now.prime in
+    let field = field_of c.args.builder.now.inner.prime in
     then_enter _ c.in_ok-product.ensures.told.ran
     (then_enter _ (ran_like c.in_ok-product.ensures.told.ran.prime_is (same_is (ap (Builder.constant field.elements) (c.requires.0.rows.at _ c.requires.1))) c.in_ok-root.ensures.told.ran) c.mul-2.ensures)

@@ -12,7 +12,7 @@ returns-in_err-z c = refused _ _ c.from_residual.ensures (long_first _ c.in_err-
 
 pub constants-requires : goal.constants-requires
 constants-requires c =
-    let field = field_of c.args.self.now.prime in (
+    let field = field_of c.args.self.now.inner.prime in (
       all_below_later _ c.in_ok-z.ensures.told.ran.prime_is (dense_below field c.args.col.now _ c.dense-numbers.ensures),
       le_trans (le_of_eq (length_dense field c.args.col.now _ c.dense-numbers.ensures)) c.requires.short,
     )
@@ -24,6 +24,6 @@ returns-in_err-coeffs c = refused _ _ c.from_residual-in_err-coeffs.ensures (the
 pub returns : goal.returns
 unfolding Periodic.dense_value
 returns c =
-    let many = c.in_ok-coeffs.ensures.told.many ∙ length_dense (field_of c.args.self.now.prime) c.args.col.now _ c.dense-numbers.ensures in
+    let many = c.in_ok-coeffs.ensures.told.many ∙ length_dense (field_of c.args.self.now.inner.prime) c.args.col.now _ c.dense-numbers.ensures in
     then_enter _ c.in_ok-z.ensures.told.ran
     (then_enter _ (ran_like c.in_ok-z.ensures.told.ran.prime_is (dense_same _ _ _ c.dense-numbers.ensures) c.in_ok-coeffs.ensures.told.ran) (rw (c.deref.ensures.0, many) at c.horner_eval.ensures))

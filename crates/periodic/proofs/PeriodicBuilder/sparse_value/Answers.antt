@@ -18,7 +18,7 @@ returns-in_err-zpow c = refused _ _ c.from_residual-in_err-zpow.ensures (then_lo
 
 pub sparse_sum-requires : goal.sparse_sum-requires
 sparse_sum-requires c =
-    let field = field_of c.args.self.now.prime in
+    let field = field_of c.args.self.now.inner.prime in
     let t = c.len.ensures.value ∙ ap length c.support-places.ensures in (
       rw c.deref-3.ensures.0 c.in_ok-zpow.ensures.told.inside,
       rows_later _ _ _ _ (c.in_ok-zpow.ensures.told.ran.prime_is ∙ c.in_ok-z.ensures.told.ran.prime_is)
