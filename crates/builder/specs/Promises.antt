@@ -149,21 +149,21 @@ module _ (field : Field) where
 pub record SameStores (before after : DagBuilder) : Type 0 where
   pub prime : after.prime ≡ before.prime
   pub list : after.list.ghost_name ≡ before.list.ghost_name
-  pub links : after.links.ghost_name ≡ before.links.ghost_name
+  pub index : after.index.ghost_name ≡ before.index.ghost_name
+  pub links : after.index.now.links.ghost_name ≡ before.index.now.links.ghost_name
   pub list_words : length after.list.now ≡ length before.list.now
-  pub link_words : length after.links.now ≡ length before.links.now
+  pub link_words : length after.index.now.links.now ≡ length before.index.now.links.now
 
 -- a list that is built with the record y appended and noted, at that place
 pub record Appended (before : DagBuilder) (y : NodeKind) (after : DagBuilder) (place : ℕ) : Type 0 where
   pub place_is : place ≡ before.count
   pub count_is : after.count ≡ before.count + 1
   pub list_is : after.list.now ≡ put before.list.now before.count y
-  pub links_are : after.links.now ≡ noted before.links.now before.count (node_bucket (half before.links.now) y)
+  pub links_are : after.index.now.links.now ≡ noted before.index.now.links.now before.count (node_bucket (half before.index.now.links.now) y)
 
--- an empty list that is built, over stores that were `list` and `links`
-pub record Empty (prime : Prime) (list links : List ℕ) (b : DagBuilder) : Type 0 where
+-- an empty list that is built, over a store that was `list`
+pub record Empty (prime : Prime) (list : List ℕ) (b : DagBuilder) : Type 0 where
   pub prime_is : b.prime ≡ prime
   pub list_is : b.list.now ≡ list
   pub none : b.count ≡ 0
-  pub index : NodeIndex [] b.links.now
-  pub link_words : length b.links.now ≡ length links
+  pub index : NodeIndex [] b.index.now.links.now

@@ -8,13 +8,15 @@ ghost use Rattle.dag.specs.View.{interleaved};
 ghost use Rattle.dag.specs.Nodes as Nodes;
 ghost use Rattle.dag.specs.Refusals as Refusals;
 ghost use Rattle.dag.specs.Store as Store;
-ghost use Rattle.index.specs.Index.{half, Usable, NodeIndex};
+ghost use Rattle.index.specs.Index.{half, NodeIndex};
+ghost use Rattle.index.specs.Promises.{SameLinks};
 ghost use Rattle.builder.specs.Steps as Steps;
 ghost use Rattle.builder.specs.Promises as Promises;
 ghost use Rattle.builder.specs.Calls as Calls;
 
 use dag::{Dag, NodeKind, Refusal, Roots, Words};
 use field::{Prime, QuadFelt};
+use index::PlaceIndex;
 
 // The links of a short list's index.
 const FEW_LINKS: usize = 2 * dag::FEW_RECORDS;
@@ -250,30 +252,30 @@ fn request_outcome(prime: Prime, list: &[u64], n: usize, x: NodeKind) -> Outcome
 
 // A list that is built: its first `count` records, and their index.
 #[derive(Drop)]
-pub struct DagBuilder<'list, 'links> {
+pub struct DagBuilder<'list, 'index, 'links> {
     pub prime: Prime,
     pub list: &'list mut [u64],
-    pub links: &'links mut [u64],
+    pub index: &'index mut PlaceIndex<'links>,
     pub count: usize,
 }
 
-impl<'list, 'links> DagBuilder<'list, 'links> {
+impl<'list, 'index, 'links> DagBuilder<'list, 'index, 'links> {
     // An empty list.
     pub fn new(
         prime: Prime,
         list: &'list mut [u64],
-        links: &'links mut [u64],
-    ) -> DagBuilder<'list, 'links>
-        requires { Usable links.old }
+        index: &'index mut PlaceIndex<'links>,
+    ) -> DagBuilder<'list, 'index, 'links>
         ensures same_list { result.list.ghost_name ≡ list.entry.ghost_name }
-        ensures same_links { result.links.ghost_name ≡ links.entry.ghost_name }
-        ensures empty { Promises.Empty prime list.old links.old result }
+        ensures same_index { result.index.ghost_name ≡ index.entry.ghost_name }
+        ensures same_links { SameLinks index.old result.index.now }
+        ensures empty { Promises.Empty prime list.old result }
     {
-        index::clear(links);
+        index.clear();
         DagBuilder {
             prime,
             list,
-            links,
+            index,
             count: 0,
         }
     }
@@ -281,36 +283,38 @@ impl<'list, 'links> DagBuilder<'list, 'links> {
     // The place of a request's result, or the new record that it needs, by the index.
     #[tactic(auto, unfolding(crate::specs::Promises::resolved, crate::specs::Promises::found_or_new))]
     pub fn resolve(&self, x: NodeKind) -> Outcome
-        requires { Promises.Request (field_of self.now.prime) (interleaved self.now.list.now) self.now.count x × NodeIndex (Nodes.nodes (interleaved self.now.list.now) self.now.count) self.now.links.now }
+        requires { Promises.Request (field_of self.now.prime) (interleaved self.now.list.now) self.now.count x × NodeIndex (Nodes.nodes (interleaved self.now.list.now) self.now.count) self.now.index.now.links.now }
         ensures { result ≡ Promises.resolved (field_of self.now.prime) (Nodes.nodes (interleaved self.now.list.now) self.now.count) self.now.count x }
     {
         let outcome = request_outcome(self.prime, self.list, self.count, x);
         match outcome {
             Outcome::Place(_) => outcome,
             Outcome::Node(y) => {
-                index::find(self.list, self.count, self.links, y).map_or(outcome, Outcome::Place)
+                self.index
+                    .find(self.list, self.count, y)
+                    .map_or(outcome, Outcome::Place)
             }
         }
     }
 
     // Appends a new record and notes it in the index; answers its place.
     pub fn append(&mut self, y: NodeKind) -> usize
-        requires { (self.old.count < (interleaved self.old.list.now).room) × Usable self.old.links.now × (self.old.count < half self.old.links.now) }
+        requires { (self.old.count < (interleaved self.old.list.now).room) × (self.old.count < half self.old.index.now.links.now) }
         ensures same { Promises.SameStores self.old self.new }
         ensures appended { Promises.Appended self.old y self.new result }
     {
         let place = self.count;
         dag::put_node(self.list, place, y);
-        index::note(self.links, place, Words::from(y));
+        self.index.note(place, Words::from(y));
         self.count += 1;
         place
     }
 
     // Enters one request; answers its place.
     pub fn push(&mut self, x: NodeKind) -> usize
-        requires { Promises.Request (field_of self.old.prime) (interleaved self.old.list.now) self.old.count x × Promises.Room self.old.list.now self.old.count self.old.links.now }
+        requires { Promises.Request (field_of self.old.prime) (interleaved self.old.list.now) self.old.count x × Promises.Room self.old.list.now self.old.count self.old.index.now.links.now }
         ensures same { Promises.SameStores self.old self.new }
-        ensures noted { Promises.Noted (field_of self.old.prime) self.old.list.now self.old.count x self.new.list.now self.new.links.now (record { place = result; count = self.new.count }) }
+        ensures noted { Promises.Noted (field_of self.old.prime) self.old.list.now self.old.count x self.new.list.now self.new.index.now.links.now (record { place = result; count = self.new.count }) }
     {
         match self.resolve(x) {
             Outcome::Place(i) => i,
@@ -376,11 +380,11 @@ pub fn step(prime: Prime, list: &mut [u64], n: usize, words: Words) -> Result<En
 }
 
 // Replays the requests one after the other into an empty list; answers its count.
-fn replay(dag: Dag, res: &mut [u64], map: &mut [u64], links: &mut [u64]) -> usize
-    requires { (dag.n ≤ (interleaved res.old).room) × (dag.n ≤ length map.old) × Usable links.old × (dag.n ≤ half links.old) }
+fn replay(dag: Dag, res: &mut [u64], map: &mut [u64], index: &mut PlaceIndex) -> usize
+    requires { (dag.n ≤ (interleaved res.old).room) × (dag.n ≤ length map.old) × (dag.n ≤ half index.old.links.now) }
     ensures { let d = dag.entry in Promises.Holds (field_of d.prime) (Promises.replay_of d) d.n res.new map.new result }
 {
-    let mut builder = DagBuilder::new(dag.prime, res, links);
+    let mut builder = DagBuilder::new(dag.prime, res, index);
     for i in 0..dag.n {
         let x = dag.node(i).renamed(map);
         map[i] = builder.push(x) as u64;
@@ -418,7 +422,8 @@ fn build_with<const LINKS: usize>(
     ensures { Promises.Finished (Promises.replay_of dag.entry) roots res.old map.old result res.new map.new }
 {
     let mut links = [0u64; LINKS];
-    let count = replay(dag, res, map, &mut links);
+    let mut index = PlaceIndex::new(&mut links);
+    let count = replay(dag, res, map, &mut index);
     dag::blank_records(res, count);
     dag::blank_from(map, dag.n);
     BuiltDag {

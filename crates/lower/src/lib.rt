@@ -19,6 +19,7 @@ use builder::DagBuilder;
 use columns::{Columns, Form, MOST_COLUMNS, Weighed};
 use dag::{Dag, Refusal};
 use field::{Prime, felt};
+use index::PlaceIndex;
 use periodic::PeriodicBuilder;
 
 // The value of a column in this form, whose point is ZK squared k times.
@@ -159,7 +160,8 @@ fn lower_with(
 {
     let mut list = [0u64; periodic::LIST_WORDS];
     let mut links = [0u64; periodic::LINK_WORDS];
-    let mut builder = PeriodicBuilder::load(dag, &mut list, &mut links);
+    let mut index = PlaceIndex::new(&mut links);
+    let mut builder = PeriodicBuilder::load(dag, &mut list, &mut index);
     let log = columns::log_within(felt::most_log(columns.prime), period);
     let nodes = build_periodic_nodes(&mut builder, columns, log)?;
     let DagBuilder { list, count, .. } = builder.inner;

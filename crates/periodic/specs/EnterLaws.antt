@@ -49,10 +49,10 @@ module _ (b : PeriodicBuilder) (x : NodeKind) (fine : Fine (Low (field_of b.inne
 
       -- a new record, appended
       module _ (few : b.inner.count < most_records) (a : DagBuilder) (place : ℕ) (same : SameStores b.inner a) (d : Appended b.inner y a place) where
-        told : Noted (field_of b.inner.prime) b.inner.list.now b.inner.count x a.list.now a.links.now (record { place = place; count = a.count })
+        told : Noted (field_of b.inner.prime) b.inner.list.now b.inner.count x a.list.now a.index.now.links.now (record { place = place; count = a.count })
         told =
             rw (d.place_is, d.count_is)
-            (noted_node (field_of b.inner.prime) b.inner.list.now b.inner.count x asked o y a.list.now b.inner.links.now a.links.now e q d.list_is
+            (noted_node (field_of b.inner.prime) b.inner.list.now b.inner.count x asked o y a.list.now b.inner.index.now.links.now a.index.now.links.now e q d.list_is
             (record { room = omega (arith, b.list_room); index = b.indexed; link_room = omega (arith, b.link_room) })
             d.links_are)
 
@@ -62,13 +62,13 @@ module _ (b : PeriodicBuilder) (x : NodeKind) (fine : Fine (Low (field_of b.inne
         pub node_sound : Sound (field_of a.prime).bounds (interleaved a.list.now) a.count
         node_sound = rw same.prime told.pushed.sound
 
-        pub node_indexed : NodeIndex (nodes (interleaved a.list.now) a.count) a.links.now
+        pub node_indexed : NodeIndex (nodes (interleaved a.list.now) a.count) a.index.now.links.now
         node_indexed = told.index
 
         pub node_list_room : most_records ≤ (interleaved a.list.now).room
         node_list_room = rw (same_room a.list.now b.inner.list.now same.list_words) b.list_room
 
-        pub node_link_room : most_records ≤ half a.links.now
+        pub node_link_room : most_records ≤ half a.index.now.links.now
         node_link_room = rw same.link_words b.link_room
 
 -- ZK is a key

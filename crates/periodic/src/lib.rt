@@ -21,6 +21,7 @@ use coefficients::MOST_TERMS;
 use columns::MOST_ENTRIES;
 use dag::{Dag, NodeKind, Refusal};
 use field::{Prime, QuadFelt};
+use index::PlaceIndex;
 
 // The key number of ZK.
 const ZK: u64 = 3096224743817216;
@@ -33,33 +34,34 @@ pub const LINK_WORDS: usize = 2 * dag::MOST_RECORDS;
 
 // A list that is built in stores for the longest, and refused where it would be longer.
 #[derive(Drop)]
-pub struct PeriodicBuilder<'list, 'links> {
-    pub inner: DagBuilder<'list, 'links>,
+pub struct PeriodicBuilder<'list, 'index, 'links> {
+    pub inner: DagBuilder<'list, 'index, 'links>,
     pub ghost few: { inner.count ≤ most_records },
     pub ghost sound: { Sound (field_of inner.prime).bounds (interleaved inner.list.now) inner.count },
-    pub ghost indexed: { NodeIndex (nodes (interleaved inner.list.now) inner.count) inner.links.now },
+    pub ghost indexed: { NodeIndex (nodes (interleaved inner.list.now) inner.count) inner.index.now.links.now },
     pub ghost list_room: { most_records ≤ (interleaved inner.list.now).room },
-    pub ghost link_room: { most_records ≤ half inner.links.now },
+    pub ghost link_room: { most_records ≤ half inner.index.now.links.now },
 }
 
-impl<'list, 'links> PeriodicBuilder<'list, 'links> {
+impl<'list, 'index, 'links> PeriodicBuilder<'list, 'index, 'links> {
     ghost use Rattle.periodic.specs.Runs as Runs;
 
     // A builder that goes on with a list, in these stores.
     pub fn load(
         dag: Dag,
         list: &'list mut [u64; LIST_WORDS],
-        links: &'links mut [u64; LINK_WORDS],
-    ) -> PeriodicBuilder<'list, 'links>
+        index: &'index mut PlaceIndex<'links>,
+    ) -> PeriodicBuilder<'list, 'index, 'links>
+        requires { most_records ≤ half index.old.links.now }
         ensures { let d = dag.entry in Runs.Loaded d.prime (nodes (interleaved d.list.now) d.n) d.n (Runs.held result) }
     {
         dag::copy_records(dag.list, dag.n, list);
-        index::index_list(dag.list, dag.n, links);
+        index.index_list(dag.list, dag.n);
         PeriodicBuilder {
             inner: DagBuilder {
                 prime: dag.prime,
                 list,
-                links,
+                index,
                 count: dag.n,
             },
         }

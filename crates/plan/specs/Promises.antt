@@ -56,7 +56,7 @@ fanouts r = read r.fan.now
 -- a round's records decode, are indexed, and have a fanout each
 pub record Standing (r : Round) : Type 0 where
   pub sound : Records (interleaved r.list.now) r.n
-  pub indexed : NodeIndex (records r) r.own.now
+  pub indexed : NodeIndex (records r) r.own.now.links.now
   pub fits : r.n ≤ length r.fan.now
 
 -- the places of a plan come before the record

@@ -15,6 +15,7 @@ ghost use Rattle.plan.specs.Promises.{Standing, records, fanouts};
 
 use builder::AssociativeOp;
 use dag::{NodeKind, Roots};
+use index::PlaceIndex;
 
 // What a round does with one record: two products that share a factor, with what is left of each; or a record that is there already in place of an inner one, with the operand that remains.
 #[derive(Clone, Copy)]
@@ -110,14 +111,14 @@ fn shared_factor(a: [usize; 2], b: [usize; 2]) -> Option<Rewrite>
 
 // What a round reads: its list of n records, the index of these, and each place's fanout.
 #[derive(Clone, Copy)]
-pub struct Round<'a> {
+pub struct Round<'a, 'links> {
     pub list: &'a [u64],
     pub n: usize,
-    pub own: &'a [u64],
+    pub own: &'a PlaceIndex<'links>,
     pub fan: &'a [u64],
 }
 
-impl Round<'_> {
+impl Round<'_, '_> {
     // The operands of the record at place i, if it is the operation's, with fanout 1.
     #[tactic(auto, using(dag::specs::NodeLaws::at_nodes))]
     fn single(&self, op: AssociativeOp, i: usize) -> Option<[usize; 2]>
@@ -149,7 +150,7 @@ impl Round<'_> {
         requires { Standing self.now }
         ensures { result ≡ Plans.onto_before i remaining (Lookup.lookup (records self.now) candidate self.now.n) }
     {
-        let existing = index::find(self.list, self.n, self.own, candidate)?;
+        let existing = self.own.find(self.list, self.n, candidate)?;
         (existing < i).then_some(Rewrite::Rotated {
             existing,
             remaining,

@@ -26,7 +26,7 @@ enter_planned-place-requires c =
     let g = Turn.rounding_still (field_of c.args.prime) c.requires.0 _ _ (v.same.list_words ∙ ap length e.list_is) c.loop-i.auto.map in
     let h = Turn.round_count (field_of c.args.prime) g v.held in (
       (c.loop-i.i, rw (v.same.prime, e.prime_is) (Turn.turn_entering (field_of c.args.prime) g v.held c.loop-i-test.true _ (c.node_at-x.ensures ∙ sym (at_nodes _ _ _ c.loop-i-test.true)) _ c.plan_of-plan.ensures)),
-      record { index = v.index; room = rw (v.same.link_words, e.link_words) (omega (arith, h, c.requires.3, c.loop-i-test.true)) },
+      record { index = v.index; room = omega (arith, h, c.requires.2, c.loop-i-test.true, v.same.link_words, c.new-built.ensures.same_links.words) },
     )
 
 pub loop-i-preserved : goal.loop-i-preserved

@@ -3,7 +3,7 @@ use Rattle.builder.specs.RequestLaws.{noted_place, noted_node}
 use Rattle.builder.proofs.DagBuilder.push.Goals as goal
 
 pub append-requires : goal.append-requires
-append-requires c = (c.requires.1.room, c.requires.1.index.usable, c.requires.1.link_room)
+append-requires c = (c.requires.1.room, c.requires.1.link_room)
 
 pub returns-in-Place-clause-noted : goal.returns-in-Place-clause-noted
 returns-in-Place-clause-noted c =

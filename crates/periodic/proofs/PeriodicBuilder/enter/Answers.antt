@@ -11,7 +11,7 @@ returns-then-self-eq-MOST_RECORDS c = enter_long c.args.self.now _ c.requires _ 
 pub append-requires : goal.append-requires
 append-requires c =
     let b = c.args.self.now in
-    (omega (arith, b.few, b.list_room), b.indexed.usable, omega (arith, b.few, b.link_room))
+    (omega (arith, b.few, b.list_room), omega (arith, b.few, b.link_room))
 
 pub invariant_of-self : goal.invariant_of-self
 invariant_of-self c =

@@ -16,9 +16,9 @@ invariant_of-result c =
     record {
       few = d.most;
       sound = loaded_sound d.list.now c.copy_records.new.to d.n e _ (omega (arith, d.most, c.copy_records.auto.to)) d.sound;
-      indexed = rw (loaded_records d.list.now c.copy_records.new.to d.n e) c.index_list.ensures;
+      indexed = rw (loaded_records d.list.now c.copy_records.new.to d.n e) c.index_list.ensures.indexed;
       list_room = words_room c.copy_records.new.to 4096 (omega (arith, c.copy_records.auto.to));
-      link_room = omega (arith, c.index_list.auto.links);
+      link_room = omega (arith, c.index_list.ensures.same.words, c.requires);
     }
 
 pub returns : goal.returns
