@@ -9,7 +9,6 @@ ghost use Rattle.dag.specs.Nodes as Nodes;
 ghost use Rattle.dag.specs.Refusals.{outcome};
 ghost use Rattle.index.specs.Index.{half, NodeIndex};
 ghost use Rattle.builder.specs.Promises.{SameStores};
-ghost use Rattle.plan.specs.Promises.{Standing};
 ghost use Rattle.normalize.specs.Rounds as Rounds;
 ghost use Rattle.normalize.specs.Promises as Promises;
 ghost use Rattle.normalize.specs.Calls as Calls;
@@ -63,20 +62,14 @@ fn enter_planned(work: &mut DagBuilder, map: &[u64], x: NodeKind, plan: Option<R
 }
 
 // Replays a round's records into an empty list, each by its plan; answers the list's count where a rewrite fired.
-fn round(
-    prime: Prime,
-    round: Round,
-    work: &mut [u64],
-    index: &mut PlaceIndex,
-    map: &mut [u64],
-) -> Option<usize>
-    requires { Promises.Rounding (field_of prime) round.list.now round.n round.fan.now work.old map.old × Standing round × (2 * round.n ≤ half index.old.links.now) }
-    ensures { Promises.RoundEnds (field_of prime) round.entry.list.now round.entry.n round.entry.fan.now work.new map.new result }
+fn round(round: Round, work: &mut [u64], index: &mut PlaceIndex, map: &mut [u64]) -> Option<usize>
+    requires { let d = round.dag in (2 * d.n ≤ (interleaved work.old).room) × (d.n ≤ length map.old) × (2 * d.n ≤ half index.old.links.now) }
+    ensures { let d = round.entry.dag in Promises.RoundEnds (field_of d.prime) d.list.now d.n round.entry.fan.now work.new map.new result }
 {
-    let mut built = DagBuilder::new(prime, work, index);
+    let mut built = DagBuilder::new(round.dag.prime, work, index);
     let mut fired = false;
-    for i in 0..round.n {
-        let x = dag::node_at(round.list, i);
+    for i in 0..round.dag.n {
+        let x = round.dag.node(i);
         let plan = round.plan_of(i, x);
         let place = enter_planned(&mut built, map, x, plan);
         fired |= plan.is_some();
@@ -105,14 +98,18 @@ fn normalize_once(
     plan::fanout(res, n, roots, fan);
     let mut index = PlaceIndex::new(own);
     index.index_list(res, n);
-    let read = Round {
+    let dag = Dag {
+        prime,
         list: res,
         n,
+    };
+    let read = Round {
+        dag,
         own: &index,
         fan,
     };
     let mut built = PlaceIndex::new(&mut rest[..4 * n]);
-    let count = round(prime, read, work, &mut built, map)?;
+    let count = round(read, work, &mut built, map)?;
     let new_roots = roots.renamed(map);
     let mut reachable = [false; compact::MOST_MARKS];
     let size = compact::number_reachable(work, count, new_roots, &mut reachable, own);
