@@ -10,7 +10,7 @@ use Rattle.dag.specs.declared.NodeKind.{NodeKind}
 use Rattle.dag.specs.declared.NodeKind.TheVariants.{Constant, Add, Sub, Mul}
 use Rattle.builder.specs.Steps.{is_constant, is_neg, element, is_the, low_first, add_rule, sub_rule, mul_outcome}
 use Rattle.builder.specs.Promises.{constants, cancel_add, cancel_sub}
-use Rattle.builder.specs.declared.Rule.TheVariants.{Use, Make, HandOver}
+use Rattle.builder.specs.declared.Rule.TheVariants.{ComesTo, HandOver}
 use Rattle.builder.specs.declared.Outcome.TheVariants.{Place, Node}
 
 eqb_self : (n : ℕ) → eqb n n ≡ true
@@ -29,11 +29,11 @@ not_the c x other = go (is_the c x) refl
 
 module _ (F : Ops QuadFelt) (x y : NodeKind) (a b : ℕ) where
   module _ (c d e : QuadFelt) (both : Some (c, d) ≡ constants x y) where
-    pub add_folded : e ≡ F.add c d → Make (Constant e) ≡ add_rule F x y a b
+    pub add_folded : e ≡ F.add c d → ComesTo (Node (Constant e)) ≡ add_rule F x y a b
     unfolding add_rule
     add_folded f = grind arith
 
-    pub sub_folded : e ≡ F.sub c d → Make (Constant e) ≡ sub_rule F x y a b
+    pub sub_folded : e ≡ F.sub c d → ComesTo (Node (Constant e)) ≡ sub_rule F x y a b
     unfolding sub_rule
     sub_folded f = grind arith
 
@@ -42,11 +42,11 @@ module _ (F : Ops QuadFelt) (x y : NodeKind) (a b : ℕ) where
     mul_folded f = grind arith
 
   module _ (none : None ≡ constants x y) where
-    pub add_zero_left : x ≡ Constant F.zero → Use b ≡ add_rule F x y a b
+    pub add_zero_left : x ≡ Constant F.zero → ComesTo (Place b) ≡ add_rule F x y a b
     unfolding add_rule
     add_zero_left f = grind (arith, the_when F.zero x f)
 
-    pub sub_zero : y ≡ Constant F.zero → Use a ≡ sub_rule F x y a b
+    pub sub_zero : y ≡ Constant F.zero → ComesTo (Place a) ≡ sub_rule F x y a b
     unfolding sub_rule
     sub_zero f = grind (arith, the_when F.zero y f)
 
@@ -55,21 +55,21 @@ module _ (F : Ops QuadFelt) (x y : NodeKind) (a b : ℕ) where
     mul_zero (inl f) = grind (arith, the_when F.zero x f)
     mul_zero (inr f) = grind (arith, the_when F.zero y f)
 
-    pub add_zero_right : x ≢ Constant F.zero → y ≡ Constant F.zero → Use a ≡ add_rule F x y a b
+    pub add_zero_right : x ≢ Constant F.zero → y ≡ Constant F.zero → ComesTo (Place a) ≡ add_rule F x y a b
     unfolding add_rule
     add_zero_right f g = grind (arith, not_the F.zero x f, the_when F.zero y g)
 
-    pub sub_self : y ≢ Constant F.zero → a ≡ b → Make (Constant F.zero) ≡ sub_rule F x y a b
+    pub sub_self : y ≢ Constant F.zero → a ≡ b → ComesTo (Node (Constant F.zero)) ≡ sub_rule F x y a b
     unfolding sub_rule
     sub_self f g = grind (arith, not_the F.zero y f)
 
     module _ (x_kept : x ≢ Constant F.zero) (y_kept : y ≢ Constant F.zero) where
-      pub add_cancelled : (i : ℕ) → Some i ≡ cancel_add x y a b → Use i ≡ add_rule F x y a b
+      pub add_cancelled : (i : ℕ) → Some i ≡ cancel_add x y a b → ComesTo (Place i) ≡ add_rule F x y a b
       unfolding add_rule
       add_cancelled i h = grind (arith, not_the F.zero x x_kept, not_the F.zero y y_kept)
 
       pub add_rest : None ≡ cancel_add x y a b
-          → cond (is_neg x && not (is_neg y)) (HandOver b (first x)) (cond (is_neg y && not (is_neg x)) (HandOver a (first y)) (Make (low_first Add a b))) ≡ add_rule F x y a b
+          → cond (is_neg x && not (is_neg y)) (HandOver b (first x)) (cond (is_neg y && not (is_neg x)) (HandOver a (first y)) (ComesTo (Node (low_first Add a b)))) ≡ add_rule F x y a b
       unfolding add_rule
       add_rest h = grind (arith, not_the F.zero x x_kept, not_the F.zero y y_kept)
 
@@ -86,11 +86,11 @@ module _ (F : Ops QuadFelt) (x y : NodeKind) (a b : ℕ) where
       mul_rest f g = grind (arith, not_the F.zero x x_kept, not_the F.zero y y_kept, not_the F.one x f, not_the F.one y g)
 
     module _ (y_kept : y ≢ Constant F.zero) (apart : a ≢ b) where
-      pub sub_cancelled : (i : ℕ) → Some i ≡ cancel_sub x y a b → Use i ≡ sub_rule F x y a b
+      pub sub_cancelled : (i : ℕ) → Some i ≡ cancel_sub x y a b → ComesTo (Place i) ≡ sub_rule F x y a b
       unfolding sub_rule
       sub_cancelled i h = grind (arith, not_the F.zero y y_kept)
 
-      pub sub_rest : None ≡ cancel_sub x y a b → cond (is_neg y) (HandOver a (first y)) (Make (Sub a b)) ≡ sub_rule F x y a b
+      pub sub_rest : None ≡ cancel_sub x y a b → cond (is_neg y) (HandOver a (first y)) (ComesTo (Node (Sub a b))) ≡ sub_rule F x y a b
       unfolding sub_rule
       sub_rest h = grind (arith, not_the F.zero y y_kept)
 

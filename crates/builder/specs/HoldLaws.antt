@@ -96,13 +96,14 @@ filled_map map i words places e k f = rw (e, ← f, k)
 
 -- a list that is built, over its first stores still
 pub same_stores : (b : DagBuilder) → SameStores b b
-same_stores b = record { prime = refl; list = refl; links = refl; list_words = refl; link_words = refl }
+same_stores b = record { prime = refl; list = refl; index = refl; links = refl; list_words = refl; link_words = refl }
 
 pub same_still : (a b c : DagBuilder) → SameStores a b → SameStores b c → SameStores a c
 same_still a b c s t =
     record {
       prime = t.prime ∙ s.prime;
       list = t.list ∙ s.list;
+      index = t.index ∙ s.index;
       links = t.links ∙ s.links;
       list_words = t.list_words ∙ s.list_words;
       link_words = t.link_words ∙ s.link_words;

@@ -5,14 +5,14 @@ use Rattle.field.specs.Fields.{Field, Low}
 use Rattle.field.specs.Field.{elements}
 use Rattle.field.specs.declared.Prime.{Prime}
 use Rattle.field.specs.declared.QuadFelt.{QuadFelt}
-use Rattle.dag.specs.Store.{Sound, written, stored}
+use Rattle.dag.specs.Store.{Sound, put, written, stored}
 use Rattle.dag.specs.Refusals.{unless_refused}
 use Rattle.dag.specs.View.{View, interleaved}
 use Rattle.dag.specs.Nodes.{first, second, nodes, filled}
 use Rattle.dag.specs.Lookup.{lookup}
 use Rattle.dag.specs.Roots.{roots_of, roots_from, Inside}
 use Rattle.dag.specs.WellFormed.{Fine}
-use Rattle.index.specs.Index.{half, NodeIndex}
+use Rattle.index.specs.Index.{half, noted, node_bucket, NodeIndex}
 use Rattle.dag.specs.declared.NodeKind.{NodeKind}
 use Rattle.dag.specs.declared.NodeKind.TheVariants.{Add, Mul}
 use Rattle.dag.specs.declared.Dag.{Dag}
@@ -149,14 +149,21 @@ module _ (field : Field) where
 pub record SameStores (before after : DagBuilder) : Type 0 where
   pub prime : after.prime ≡ before.prime
   pub list : after.list.ghost_name ≡ before.list.ghost_name
-  pub links : after.links.ghost_name ≡ before.links.ghost_name
+  pub index : after.index.ghost_name ≡ before.index.ghost_name
+  pub links : after.index.now.links.ghost_name ≡ before.index.now.links.ghost_name
   pub list_words : length after.list.now ≡ length before.list.now
-  pub link_words : length after.links.now ≡ length before.links.now
+  pub link_words : length after.index.now.links.now ≡ length before.index.now.links.now
 
--- an empty list that is built, over stores that were `list` and `links`
-pub record Empty (prime : Prime) (list links : List ℕ) (b : DagBuilder) : Type 0 where
+-- a list that is built with the record y appended and noted, at that place
+pub record Appended (before : DagBuilder) (y : NodeKind) (after : DagBuilder) (place : ℕ) : Type 0 where
+  pub place_is : place ≡ before.count
+  pub count_is : after.count ≡ before.count + 1
+  pub list_is : after.list.now ≡ put before.list.now before.count y
+  pub links_are : after.index.now.links.now ≡ noted before.index.now.links.now before.count (node_bucket (half before.index.now.links.now) y)
+
+-- an empty list that is built, over a store that was `list`
+pub record Empty (prime : Prime) (list : List ℕ) (b : DagBuilder) : Type 0 where
   pub prime_is : b.prime ≡ prime
   pub list_is : b.list.now ≡ list
   pub none : b.count ≡ 0
-  pub index : NodeIndex [] b.links.now
-  pub link_words : length b.links.now ≡ length links
+  pub index : NodeIndex [] b.index.now.links.now

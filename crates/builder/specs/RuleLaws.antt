@@ -13,7 +13,7 @@ use Rattle.dag.specs.declared.NodeKind.{NodeKind}
 use Rattle.dag.specs.declared.NodeKind.TheVariants.{Constant, Add, Sub, Mul, Neg}
 use Rattle.builder.specs.Steps.{is_constant, is_add, is_sub, is_neg, is_the, element, low_first, add_rule, sub_rule, mul_outcome, neg_outcome}
 use Rattle.builder.specs.declared.Rule.{Rule}
-use Rattle.builder.specs.declared.Rule.TheVariants.{Use, Make, HandOver}
+use Rattle.builder.specs.declared.Rule.TheVariants.{ComesTo, HandOver}
 use Rattle.builder.specs.declared.Outcome.{Outcome}
 use Rattle.builder.specs.declared.Outcome.TheVariants.{Place, Node}
 
@@ -55,54 +55,54 @@ low_first_lem P op a b p q = cond_elim P (leb a b) (op a b) (op b a) (λ _. p) (
 
 module _ (F : Ops QuadFelt) (x y : NodeKind) (a b : ℕ) where
   pub add_cases : (P : Rule → Type 0)
-      → (is_constant x ≡ true → is_constant y ≡ true → P (Make (Constant (F.add (element x) (element y)))))
-      → (is_the F.zero x ≡ true → P (Use b))
-      → (is_the F.zero y ≡ true → P (Use a))
-      → (is_sub x ≡ true → second x ≡ b → P (Use (first x)))
-      → (is_sub y ≡ true → second y ≡ a → P (Use (first y)))
+      → (is_constant x ≡ true → is_constant y ≡ true → P (ComesTo (Node (Constant (F.add (element x) (element y))))))
+      → (is_the F.zero x ≡ true → P (ComesTo (Place b)))
+      → (is_the F.zero y ≡ true → P (ComesTo (Place a)))
+      → (is_sub x ≡ true → second x ≡ b → P (ComesTo (Place (first x))))
+      → (is_sub y ≡ true → second y ≡ a → P (ComesTo (Place (first y))))
       → (is_neg x ≡ true → P (HandOver b (first x)))
       → (is_neg y ≡ true → P (HandOver a (first y)))
-      → P (Make (low_first Add a b))
+      → P (ComesTo (Node (low_first Add a b)))
       → P (add_rule F x y a b)
   unfolding add_rule
   add_cases P fold zero-x zero-y sub-x sub-y neg-x neg-y plain =
-      cond_elim P (is_constant x && is_constant y) (Make (Constant (F.add (element x) (element y)))) _
+      cond_elim P (is_constant x && is_constant y) (ComesTo (Node (Constant (F.add (element x) (element y))))) _
       (λ e. let c = and_true (is_constant x) (is_constant y) e in fold c.0 c.1)
-      (λ _. cond_elim P (is_the F.zero x) (Use b) _ zero-x
-      (λ _. cond_elim P (is_the F.zero y) (Use a) _ zero-y
-      (λ _. cond_elim P (is_sub x && eqb (second x) b) (Use (first x)) _
+      (λ _. cond_elim P (is_the F.zero x) (ComesTo (Place b)) _ zero-x
+      (λ _. cond_elim P (is_the F.zero y) (ComesTo (Place a)) _ zero-y
+      (λ _. cond_elim P (is_sub x && eqb (second x) b) (ComesTo (Place (first x))) _
       (λ e. let c = and_true (is_sub x) (eqb (second x) b) e in sub-x c.0 (eqb-true (second x) b c.1))
-      (λ _. cond_elim P (is_sub y && eqb (second y) a) (Use (first y)) _
+      (λ _. cond_elim P (is_sub y && eqb (second y) a) (ComesTo (Place (first y))) _
       (λ e. let c = and_true (is_sub y) (eqb (second y) a) e in sub-y c.0 (eqb-true (second y) a c.1))
       (λ _. cond_elim P (is_neg x && not (is_neg y)) (HandOver b (first x)) _
       (λ e. neg-x (and_true (is_neg x) (not (is_neg y)) e).0)
-      (λ _. cond_elim P (is_neg y && not (is_neg x)) (HandOver a (first y)) (Make (low_first Add a b))
+      (λ _. cond_elim P (is_neg y && not (is_neg x)) (HandOver a (first y)) (ComesTo (Node (low_first Add a b)))
       (λ e. neg-y (and_true (is_neg y) (not (is_neg x)) e).0)
       (λ _. plain)))))))
 
   pub sub_cases : (P : Rule → Type 0)
-      → (is_constant x ≡ true → is_constant y ≡ true → P (Make (Constant (F.sub (element x) (element y)))))
-      → (is_the F.zero y ≡ true → P (Use a))
-      → (a ≡ b → P (Make (Constant F.zero)))
-      → (is_add x ≡ true → first x ≡ b → P (Use (second x)))
-      → (is_add x ≡ true → second x ≡ b → P (Use (first x)))
-      → (is_sub y ≡ true → first y ≡ a → P (Use (second y)))
+      → (is_constant x ≡ true → is_constant y ≡ true → P (ComesTo (Node (Constant (F.sub (element x) (element y))))))
+      → (is_the F.zero y ≡ true → P (ComesTo (Place a)))
+      → (a ≡ b → P (ComesTo (Node (Constant F.zero))))
+      → (is_add x ≡ true → first x ≡ b → P (ComesTo (Place (second x))))
+      → (is_add x ≡ true → second x ≡ b → P (ComesTo (Place (first x))))
+      → (is_sub y ≡ true → first y ≡ a → P (ComesTo (Place (second y))))
       → (is_neg y ≡ true → P (HandOver a (first y)))
-      → P (Make (Sub a b))
+      → P (ComesTo (Node (Sub a b)))
       → P (sub_rule F x y a b)
   unfolding sub_rule
   sub_cases P fold zero-y same_place add-first add-second sub-y neg-y plain =
-      cond_elim P (is_constant x && is_constant y) (Make (Constant (F.sub (element x) (element y)))) _
+      cond_elim P (is_constant x && is_constant y) (ComesTo (Node (Constant (F.sub (element x) (element y))))) _
       (λ e. let c = and_true (is_constant x) (is_constant y) e in fold c.0 c.1)
-      (λ _. cond_elim P (is_the F.zero y) (Use a) _ zero-y
-      (λ _. cond_elim P (eqb a b) (Make (Constant F.zero)) _ (λ e. same_place (eqb-true a b e))
-      (λ _. cond_elim P (is_add x && eqb (first x) b) (Use (second x)) _
+      (λ _. cond_elim P (is_the F.zero y) (ComesTo (Place a)) _ zero-y
+      (λ _. cond_elim P (eqb a b) (ComesTo (Node (Constant F.zero))) _ (λ e. same_place (eqb-true a b e))
+      (λ _. cond_elim P (is_add x && eqb (first x) b) (ComesTo (Place (second x))) _
       (λ e. let c = and_true (is_add x) (eqb (first x) b) e in add-first c.0 (eqb-true (first x) b c.1))
-      (λ _. cond_elim P (is_add x && eqb (second x) b) (Use (first x)) _
+      (λ _. cond_elim P (is_add x && eqb (second x) b) (ComesTo (Place (first x))) _
       (λ e. let c = and_true (is_add x) (eqb (second x) b) e in add-second c.0 (eqb-true (second x) b c.1))
-      (λ _. cond_elim P (is_sub y && eqb (first y) a) (Use (second y)) _
+      (λ _. cond_elim P (is_sub y && eqb (first y) a) (ComesTo (Place (second y))) _
       (λ e. let c = and_true (is_sub y) (eqb (first y) a) e in sub-y c.0 (eqb-true (first y) a c.1))
-      (λ _. cond_elim P (is_neg y) (HandOver a (first y)) (Make (Sub a b)) neg-y (λ _. plain)))))))
+      (λ _. cond_elim P (is_neg y) (HandOver a (first y)) (ComesTo (Node (Sub a b))) neg-y (λ _. plain)))))))
 
   pub mul_cases : (P : Outcome → Type 0)
       → (is_constant x ≡ true → is_constant y ≡ true → P (Node (Constant (F.mul (element x) (element y)))))

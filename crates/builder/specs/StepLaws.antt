@@ -16,20 +16,19 @@ use Rattle.dag.specs.declared.NodeKind.TheVariants.{Input, Constant, Add, Sub, M
 use Rattle.builder.specs.Steps.{is_add, is_sub, is_neg, element, add_rule, sub_rule, mul_outcome, neg_outcome, follow, add_within, sub_within, add_outcome, sub_outcome, outcome, Built, interned, intern, enter, step}
 use Rattle.builder.specs.RuleLaws.{add_is, sub_is, neg_is, low_first_lem, add_cases, sub_cases, mul_cases, neg_cases}
 use Rattle.builder.specs.declared.Rule.{Rule}
-use Rattle.builder.specs.declared.Rule.TheVariants.{Use, Make, HandOver}
+use Rattle.builder.specs.declared.Rule.TheVariants.{ComesTo, HandOver}
 use Rattle.builder.specs.declared.Outcome.{Outcome}
 use Rattle.builder.specs.declared.Outcome.TheVariants.{Place, Node}
-
--- a rule's answer on a list of n records; operands handed over have a lower sum than m
-abbrev pub RuleFine : (QuadFelt → Type 0) → ℕ → ℕ → Rule → Type 0
-RuleFine Low n m (Use i) = i < n
-RuleFine Low n m (Make x) = Fine Low n x
-RuleFine Low n m (HandOver c d) = (c < n) × (d < n) × (c + d < m)
 
 -- what a request comes to on a list of n records
 abbrev pub OutcomeFine : (QuadFelt → Type 0) → ℕ → Outcome → Type 0
 OutcomeFine Low n (Place i) = i < n
 OutcomeFine Low n (Node x) = Fine Low n x
+
+-- a rule's answer on a list of n records; operands handed over have a lower sum than m
+abbrev pub RuleFine : (QuadFelt → Type 0) → ℕ → ℕ → Rule → Type 0
+RuleFine Low n m (ComesTo o) = OutcomeFine Low n o
+RuleFine Low n m (HandOver c d) = (c < n) × (d < n) × (c + d < m)
 
 module _ (Low : QuadFelt → Type 0) (i : ℕ) (x : NodeKind) (f : Fine Low i x) where
   add_operands : is_add x ≡ true → (first x < i) × (second x < i)
@@ -89,8 +88,7 @@ module _ (F : Ops QuadFelt) (L : Laws F) (l : List NodeKind) (w : WellFormed L.L
   follow_fine : (n m : ℕ) (r : Rule) (next : ℕ → ℕ → Outcome) → RuleFine L.Low n m r
       → ((c d : ℕ) → c < n → d < n → OutcomeFine L.Low n (next c d)) → OutcomeFine L.Low n (follow F r next)
   unfolding follow
-  follow_fine n m (Use i) next f g = f
-  follow_fine n m (Make x) next f g = f
+  follow_fine n m (ComesTo o) next f g = f
   follow_fine n m (HandOver c d) next f g = g c d f.0 f.1
 
   mutual
@@ -119,8 +117,7 @@ module _ (F : Ops QuadFelt) (L : Laws F) (l : List NodeKind) (w : WellFormed L.L
   follow_same : (n m : ℕ) (r : Rule) (f g : ℕ → ℕ → Outcome) → RuleFine L.Low n m r
       → ((c d : ℕ) → c + d < m → f c d ≡ g c d) → follow F r f ≡ follow F r g
   unfolding follow
-  follow_same n m (Use i) f g h e = refl
-  follow_same n m (Make x) f g h e = refl
+  follow_same n m (ComesTo o) f g h e = refl
   follow_same n m (HandOver c d) f g h e = e c d h.2
 
   -- past the sum of the places, fuel doesn't matter

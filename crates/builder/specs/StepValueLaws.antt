@@ -17,7 +17,7 @@ use Rattle.builder.specs.Steps.{is_constant, is_add, is_sub, is_neg, is_the, ele
 use Rattle.builder.specs.RuleLaws.{constant_is, the_is, add_is, sub_is, neg_is, low_first_lem, add_cases, sub_cases, mul_cases, neg_cases}
 use Rattle.builder.specs.StepLaws.{RuleFine, add_fine, sub_fine}
 use Rattle.builder.specs.declared.Rule.{Rule}
-use Rattle.builder.specs.declared.Rule.TheVariants.{Use, Make, HandOver}
+use Rattle.builder.specs.declared.Rule.TheVariants.{ComesTo, HandOver}
 use Rattle.builder.specs.declared.Outcome.{Outcome}
 use Rattle.builder.specs.declared.Outcome.TheVariants.{Place, Node}
 
@@ -28,8 +28,7 @@ outcome_value F given v (Node x) = value_of F given v x
 
 -- what a rule's answer is worth, where operands are handed over to op
 abbrev pub rule_value : (F : Ops QuadFelt) (given v : ℕ → QuadFelt) → (QuadFelt → QuadFelt → QuadFelt) → Rule → QuadFelt
-rule_value F given v op (Use i) = v i
-rule_value F given v op (Make x) = value_of F given v x
+rule_value F given v op (ComesTo o) = outcome_value F given v o
 rule_value F given v op (HandOver c d) = op (v c) (v d)
 
 module _ (F : Ops QuadFelt) (L : Laws F) (given : ℕ → QuadFelt) (low-given : (k : ℕ) → L.Low (given k)) (l : List NodeKind) (w : WellFormed L.Low l) where
@@ -113,8 +112,7 @@ module _ (F : Ops QuadFelt) (L : Laws F) (given : ℕ → QuadFelt) (low-given :
       → ((c d : ℕ) → c < length l → d < length l → outcome_value F given (value F given l) (next c d) ≡ op (value F given l c) (value F given l d))
       → outcome_value F given (value F given l) (follow F r next) ≡ rule_value F given (value F given l) op r
   unfolding follow
-  follow_worth m op (Use i) next f g = refl
-  follow_worth m op (Make x) next f g = refl
+  follow_worth m op (ComesTo o) next f g = refl
   follow_worth m op (HandOver c d) next f g = g c d f.0 f.1
 
   mutual

@@ -8,7 +8,7 @@ use Rattle.dag.specs.Lookup.{lookup}
 use Rattle.dag.specs.declared.NodeKind.{NodeKind}
 use Rattle.dag.specs.declared.NodeKind.TheVariants.{Input, Constant, Add, Sub, Mul, Neg}
 use Rattle.builder.specs.declared.Rule.{Rule}
-use Rattle.builder.specs.declared.Rule.TheVariants.{Use, Make, HandOver}
+use Rattle.builder.specs.declared.Rule.TheVariants.{ComesTo, HandOver}
 use Rattle.builder.specs.declared.Outcome.{Outcome}
 use Rattle.builder.specs.declared.Outcome.TheVariants.{Place, Node}
 
@@ -44,26 +44,26 @@ module _ (F : Ops QuadFelt) where
   -- add(a, b), where places a and b hold x and y
   unfoldable pub add_rule : NodeKind → NodeKind → ℕ → ℕ → Rule
   add_rule x y a b =
-      cond (is_constant x && is_constant y) (Make (Constant (F.add (element x) (element y))))
-      (cond (is_the F.zero x) (Use b)
-      (cond (is_the F.zero y) (Use a)
-      (cond (is_sub x && eqb (second x) b) (Use (first x))
-      (cond (is_sub y && eqb (second y) a) (Use (first y))
+      cond (is_constant x && is_constant y) (ComesTo (Node (Constant (F.add (element x) (element y)))))
+      (cond (is_the F.zero x) (ComesTo (Place b))
+      (cond (is_the F.zero y) (ComesTo (Place a))
+      (cond (is_sub x && eqb (second x) b) (ComesTo (Place (first x)))
+      (cond (is_sub y && eqb (second y) a) (ComesTo (Place (first y)))
       (cond (is_neg x && not (is_neg y)) (HandOver b (first x))
       (cond (is_neg y && not (is_neg x)) (HandOver a (first y))
-      (Make (low_first Add a b))))))))
+      (ComesTo (Node (low_first Add a b)))))))))
 
   -- sub(a, b), where places a and b hold x and y
   unfoldable pub sub_rule : NodeKind → NodeKind → ℕ → ℕ → Rule
   sub_rule x y a b =
-      cond (is_constant x && is_constant y) (Make (Constant (F.sub (element x) (element y))))
-      (cond (is_the F.zero y) (Use a)
-      (cond (eqb a b) (Make (Constant F.zero))
-      (cond (is_add x && eqb (first x) b) (Use (second x))
-      (cond (is_add x && eqb (second x) b) (Use (first x))
-      (cond (is_sub y && eqb (first y) a) (Use (second y))
+      cond (is_constant x && is_constant y) (ComesTo (Node (Constant (F.sub (element x) (element y)))))
+      (cond (is_the F.zero y) (ComesTo (Place a))
+      (cond (eqb a b) (ComesTo (Node (Constant F.zero)))
+      (cond (is_add x && eqb (first x) b) (ComesTo (Place (second x)))
+      (cond (is_add x && eqb (second x) b) (ComesTo (Place (first x)))
+      (cond (is_sub y && eqb (first y) a) (ComesTo (Place (second y)))
       (cond (is_neg y) (HandOver a (first y))
-      (Make (Sub a b))))))))
+      (ComesTo (Node (Sub a b)))))))))
 
   -- mul(a, b), where places a and b hold x and y
   unfoldable pub mul_outcome : NodeKind → NodeKind → ℕ → ℕ → Outcome
@@ -80,8 +80,7 @@ module _ (F : Ops QuadFelt) where
 
   -- a rule's answer, where `next` says what operands handed over come to
   unfoldable pub follow : Rule → (ℕ → ℕ → Outcome) → Outcome
-  follow (Use i) next = Place i
-  follow (Make x) next = Node x
+  follow (ComesTo o) next = o
   follow (HandOver a b) next = next a b
 
   unfoldable mutual

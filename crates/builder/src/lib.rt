@@ -8,13 +8,15 @@ ghost use Rattle.dag.specs.View.{interleaved};
 ghost use Rattle.dag.specs.Nodes as Nodes;
 ghost use Rattle.dag.specs.Refusals as Refusals;
 ghost use Rattle.dag.specs.Store as Store;
-ghost use Rattle.index.specs.Index.{half, Usable, noted, node_bucket, NodeIndex};
+ghost use Rattle.index.specs.Index.{half, NodeIndex};
+ghost use Rattle.index.specs.Promises.{SameLinks};
 ghost use Rattle.builder.specs.Steps as Steps;
 ghost use Rattle.builder.specs.Promises as Promises;
 ghost use Rattle.builder.specs.Calls as Calls;
 
 use dag::{Dag, NodeKind, Refusal, RootedDag, Roots, Words};
 use field::{Prime, QuadFelt};
+use index::PlaceIndex;
 
 // The links of a short list's index.
 const FEW_LINKS: usize = 2 * dag::FEW_RECORDS;
@@ -22,19 +24,18 @@ const FEW_LINKS: usize = 2 * dag::FEW_RECORDS;
 // The links of the longest list's index.
 const MOST_LINKS: usize = 2 * dag::MOST_RECORDS;
 
-// What a rule of a step says: a place, a record to intern, or operands handed to the other of add and sub.
-#[derive(Clone, Copy)]
-pub enum Rule {
-    Use(usize),
-    Make(NodeKind),
-    HandOver(usize, usize),
-}
-
 // What a request comes to: a place that is there, or a record to intern.
 #[derive(Clone, Copy)]
 pub enum Outcome {
     Place(usize),
     Node(NodeKind),
+}
+
+// What a rule of a step says: an outcome, or operands handed to the other of add and sub.
+#[derive(Clone, Copy)]
+pub enum Rule {
+    ComesTo(Outcome),
+    HandOver(usize, usize),
 }
 
 // A result's place, and the number of records then.
@@ -118,22 +119,26 @@ fn add_rule(prime: Prime, x: NodeKind, y: NodeKind, a: usize, b: usize) -> Rule
     ensures { result ≡ Steps.add_rule (elements prime) x y a b }
 {
     if let Some((c, d)) = constants(x, y) {
-        return Rule::Make(NodeKind::Constant(c.add(prime, d)));
+        return Rule::ComesTo(Outcome::Node(NodeKind::Constant(c.add(prime, d))));
     }
     if x == NodeKind::Constant(QuadFelt::ZERO) {
-        return Rule::Use(b);
+        return Rule::ComesTo(Outcome::Place(b));
     }
     if y == NodeKind::Constant(QuadFelt::ZERO) {
-        return Rule::Use(a);
+        return Rule::ComesTo(Outcome::Place(a));
     }
     if let Some(i) = cancel_add(x, y, a, b) {
-        return Rule::Use(i);
+        return Rule::ComesTo(Outcome::Place(i));
     }
     match (x, y) {
-        (NodeKind::Neg(_), NodeKind::Neg(_)) => Rule::Make(canonical(AssociativeOp::Add, a, b)),
+        (NodeKind::Neg(_), NodeKind::Neg(_)) => Rule::ComesTo(Outcome::Node(canonical(
+            AssociativeOp::Add,
+            a,
+            b,
+        ))),
         (NodeKind::Neg(c), _) => Rule::HandOver(b, c),
         (_, NodeKind::Neg(d)) => Rule::HandOver(a, d),
-        _ => Rule::Make(canonical(AssociativeOp::Add, a, b)),
+        _ => Rule::ComesTo(Outcome::Node(canonical(AssociativeOp::Add, a, b))),
     }
 }
 
@@ -144,20 +149,20 @@ fn sub_rule(prime: Prime, x: NodeKind, y: NodeKind, a: usize, b: usize) -> Rule
     ensures { result ≡ Steps.sub_rule (elements prime) x y a b }
 {
     if let Some((c, d)) = constants(x, y) {
-        return Rule::Make(NodeKind::Constant(c.sub(prime, d)));
+        return Rule::ComesTo(Outcome::Node(NodeKind::Constant(c.sub(prime, d))));
     }
     if y == NodeKind::Constant(QuadFelt::ZERO) {
-        return Rule::Use(a);
+        return Rule::ComesTo(Outcome::Place(a));
     }
     if a == b {
-        return Rule::Make(NodeKind::Constant(QuadFelt::ZERO));
+        return Rule::ComesTo(Outcome::Node(NodeKind::Constant(QuadFelt::ZERO)));
     }
     if let Some(i) = cancel_sub(x, y, a, b) {
-        return Rule::Use(i);
+        return Rule::ComesTo(Outcome::Place(i));
     }
     match y {
         NodeKind::Neg(d) => Rule::HandOver(a, d),
-        _ => Rule::Make(NodeKind::Sub(a, b)),
+        _ => Rule::ComesTo(Outcome::Node(NodeKind::Sub(a, b))),
     }
 }
 
@@ -201,8 +206,7 @@ fn add_outcome(prime: Prime, list: &[u64], n: usize, a: usize, b: usize) -> Outc
     ensures { result ≡ Steps.add_outcome (elements prime) (Nodes.nodes (interleaved list.now) n) a b }
 {
     match add_rule(prime, dag::node_at(list, a), dag::node_at(list, b), a, b) {
-        Rule::Use(i) => Outcome::Place(i),
-        Rule::Make(x) => Outcome::Node(x),
+        Rule::ComesTo(outcome) => outcome,
         Rule::HandOver(c, d) => sub_outcome(prime, list, n, c, d),
     }
 }
@@ -214,8 +218,7 @@ fn sub_outcome(prime: Prime, list: &[u64], n: usize, a: usize, b: usize) -> Outc
     ensures { result ≡ Steps.sub_outcome (elements prime) (Nodes.nodes (interleaved list.now) n) a b }
 {
     match sub_rule(prime, dag::node_at(list, a), dag::node_at(list, b), a, b) {
-        Rule::Use(i) => Outcome::Place(i),
-        Rule::Make(x) => Outcome::Node(x),
+        Rule::ComesTo(outcome) => outcome,
         Rule::HandOver(c, d) => add_outcome(prime, list, n, c, d),
     }
 }
@@ -240,76 +243,75 @@ fn request_outcome(prime: Prime, list: &[u64], n: usize, x: NodeKind) -> Outcome
     }
 }
 
-// The place of a request's result among the first n records, or the new record that it needs, by the list's index.
-#[tactic(auto, unfolding(crate::specs::Promises::resolved, crate::specs::Promises::found_or_new))]
-pub fn resolve(prime: Prime, list: &[u64], n: usize, links: &[u64], x: NodeKind) -> Outcome
-    requires { Promises.Request (field_of prime) (interleaved list.now) n x × NodeIndex (Nodes.nodes (interleaved list.now) n) links.now }
-    ensures { result ≡ Promises.resolved (field_of prime) (Nodes.nodes (interleaved list.now) n) n x }
-{
-    match request_outcome(prime, list, n, x) {
-        Outcome::Place(i) => Outcome::Place(i),
-        Outcome::Node(y) => match index::find(list, n, links, y) {
-            Some(i) => Outcome::Place(i),
-            None => Outcome::Node(y),
-        },
-    }
-}
-
-// Notes in an index that record y is at place n.
-pub fn note(links: &mut [u64], n: usize, y: NodeKind)
-    requires { Usable links.old × (n < half links.old) }
-    ensures { links.new ≡ noted links.old n (node_bucket (half links.old) y) }
-{
-    index::note(links, n, Words::from(y));
-}
-
 // A list that is built: its first `count` records, and their index.
 #[derive(Drop)]
-pub struct DagBuilder<'list, 'links> {
+pub struct DagBuilder<'list, 'index, 'links> {
     pub prime: Prime,
     pub list: &'list mut [u64],
-    pub links: &'links mut [u64],
+    pub index: &'index mut PlaceIndex<'links>,
     pub count: usize,
 }
 
-impl<'list, 'links> DagBuilder<'list, 'links> {
+impl<'list, 'index, 'links> DagBuilder<'list, 'index, 'links> {
     // An empty list.
     pub fn new(
         prime: Prime,
         list: &'list mut [u64],
-        links: &'links mut [u64],
-    ) -> DagBuilder<'list, 'links>
-        requires { Usable links.old }
+        index: &'index mut PlaceIndex<'links>,
+    ) -> DagBuilder<'list, 'index, 'links>
         ensures same_list { result.list.ghost_name ≡ list.entry.ghost_name }
-        ensures same_links { result.links.ghost_name ≡ links.entry.ghost_name }
-        ensures empty { Promises.Empty prime list.old links.old result }
+        ensures same_index { result.index.ghost_name ≡ index.entry.ghost_name }
+        ensures same_links { SameLinks index.old result.index.now }
+        ensures empty { Promises.Empty prime list.old result }
     {
-        index::clear(links);
+        index.clear();
         DagBuilder {
             prime,
             list,
-            links,
+            index,
             count: 0,
         }
     }
 
+    // The place of a request's result, or the new record that it needs, by the index.
+    #[tactic(auto, unfolding(crate::specs::Promises::resolved, crate::specs::Promises::found_or_new))]
+    pub fn resolve(&self, x: NodeKind) -> Outcome
+        requires { Promises.Request (field_of self.now.prime) (interleaved self.now.list.now) self.now.count x × NodeIndex (Nodes.nodes (interleaved self.now.list.now) self.now.count) self.now.index.now.links.now }
+        ensures { result ≡ Promises.resolved (field_of self.now.prime) (Nodes.nodes (interleaved self.now.list.now) self.now.count) self.now.count x }
+    {
+        let outcome = request_outcome(self.prime, self.list, self.count, x);
+        match outcome {
+            Outcome::Place(_) => outcome,
+            Outcome::Node(y) => {
+                self.index
+                    .find(self.list, self.count, y)
+                    .map_or(outcome, Outcome::Place)
+            }
+        }
+    }
+
+    // Appends a new record and notes it in the index; answers its place.
+    pub fn append(&mut self, y: NodeKind) -> usize
+        requires { (self.old.count < (interleaved self.old.list.now).room) × (self.old.count < half self.old.index.now.links.now) }
+        ensures same { Promises.SameStores self.old self.new }
+        ensures appended { Promises.Appended self.old y self.new result }
+    {
+        let place = self.count;
+        dag::put_node(self.list, place, y);
+        self.index.note(place, Words::from(y));
+        self.count += 1;
+        place
+    }
+
     // Enters one request; answers its place.
     pub fn push(&mut self, x: NodeKind) -> usize
-        requires { Promises.Request (field_of self.old.prime) (interleaved self.old.list.now) self.old.count x × Promises.Room self.old.list.now self.old.count self.old.links.now }
+        requires { Promises.Request (field_of self.old.prime) (interleaved self.old.list.now) self.old.count x × Promises.Room self.old.list.now self.old.count self.old.index.now.links.now }
         ensures same { Promises.SameStores self.old self.new }
-        ensures noted { Promises.Noted (field_of self.old.prime) self.old.list.now self.old.count x self.new.list.now self.new.links.now (record { place = result; count = self.new.count }) }
+        ensures noted { Promises.Noted (field_of self.old.prime) self.old.list.now self.old.count x self.new.list.now self.new.index.now.links.now (record { place = result; count = self.new.count }) }
     {
-        let n = self.count;
-        let list = &mut *self.list;
-        let links = &mut *self.links;
-        match resolve(self.prime, list, n, links, x) {
+        match self.resolve(x) {
             Outcome::Place(i) => i,
-            Outcome::Node(y) => {
-                dag::put_node(list, n, y);
-                note(links, n, y);
-                self.count += 1;
-                n
-            }
+            Outcome::Node(y) => self.append(y),
         }
     }
 }
@@ -371,11 +373,11 @@ pub fn step(prime: Prime, list: &mut [u64], n: usize, words: Words) -> Result<En
 }
 
 // Replays the requests one after the other into an empty list; answers its count.
-fn replay(dag: Dag, res: &mut [u64], map: &mut [u64], links: &mut [u64]) -> usize
-    requires { (dag.n ≤ (interleaved res.old).room) × (dag.n ≤ length map.old) × Usable links.old × (dag.n ≤ half links.old) }
+fn replay(dag: Dag, res: &mut [u64], map: &mut [u64], index: &mut PlaceIndex) -> usize
+    requires { (dag.n ≤ (interleaved res.old).room) × (dag.n ≤ length map.old) × (dag.n ≤ half index.old.links.now) }
     ensures { let d = dag.entry in Promises.Holds (field_of d.prime) (Promises.replay_of d) d.n res.new map.new result }
 {
-    let mut builder = DagBuilder::new(dag.prime, res, links);
+    let mut builder = DagBuilder::new(dag.prime, res, index);
     for i in 0..dag.n {
         let x = dag.node(i).renamed(map);
         map[i] = builder.push(x) as u64;
@@ -413,7 +415,8 @@ fn build_with<const LINKS: usize>(
     ensures { Promises.Finished (Promises.replay_of dag.entry) roots.now res.old map.old result res.new map.new }
 {
     let mut links = [0u64; LINKS];
-    let count = replay(dag, res, map, &mut links);
+    let mut index = PlaceIndex::new(&mut links);
+    let count = replay(dag, res, map, &mut index);
     dag::blank_records(res, count);
     dag::blank_from(map, dag.n);
     RootedDag {

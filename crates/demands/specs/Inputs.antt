@@ -14,7 +14,7 @@ use Rattle.dag.specs.declared.NodeKind.TheVariants.{Input, Constant, Add, Sub, M
 use Rattle.builder.specs.Steps.{add_rule, sub_rule, mul_outcome, neg_outcome, follow, add_within, sub_within, add_outcome, sub_outcome, outcome, interned, intern, enter, step, Replay, place_of, recorded, replay}
 use Rattle.builder.specs.RuleLaws.{low_first_lem, add_cases, sub_cases, mul_cases, neg_cases}
 use Rattle.builder.specs.declared.Rule.{Rule}
-use Rattle.builder.specs.declared.Rule.TheVariants.{Use, Make, HandOver}
+use Rattle.builder.specs.declared.Rule.TheVariants.{ComesTo, HandOver}
 use Rattle.builder.specs.declared.Outcome.{Outcome}
 use Rattle.builder.specs.declared.Outcome.TheVariants.{Place, Node}
 use Rattle.compact.specs.Reach.{marks}
@@ -95,15 +95,14 @@ module _ (K : ℕ → Type 0) where
       rw (length_snoc l x)
       (below_suc_elim (λ i. Keyed K (at (l ++ (x ∷ [])) i)) (length l) (λ i h. rw (at_left l (x ∷ []) i h) (f i h)) (rw (at_last l x) g))
 
-  -- what a rule, and a request, makes
-  abbrev RuleKeyed : Rule → Type 0
-  RuleKeyed (Use i) = Unit {0}
-  RuleKeyed (Make x) = Keyed K x
-  RuleKeyed (HandOver a b) = Unit {0}
-
+  -- what a request, and a rule, makes
   abbrev OutcomeKeyed : Outcome → Type 0
   OutcomeKeyed (Place i) = Unit {0}
   OutcomeKeyed (Node x) = Keyed K x
+
+  abbrev RuleKeyed : Rule → Type 0
+  RuleKeyed (ComesTo o) = OutcomeKeyed o
+  RuleKeyed (HandOver a b) = Unit {0}
 
   module _ (F : Ops QuadFelt) where
     module _ (x y : NodeKind) (a b : ℕ) where
@@ -122,8 +121,7 @@ module _ (K : ℕ → Type 0) where
 
     follow_keyed : (r : Rule) (next : ℕ → ℕ → Outcome) → RuleKeyed r → ((c d : ℕ) → OutcomeKeyed (next c d)) → OutcomeKeyed (follow F r next)
     unfolding follow
-    follow_keyed (Use i) next f g = tt
-    follow_keyed (Make x) next f g = f
+    follow_keyed (ComesTo o) next f g = f
     follow_keyed (HandOver c d) next f g = g c d
 
     module _ (l : List NodeKind) where

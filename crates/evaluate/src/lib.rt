@@ -7,6 +7,7 @@ ghost use Rattle.dag.specs.View.{interleaved};
 ghost use Rattle.dag.specs.Nodes as Nodes;
 ghost use Rattle.dag.specs.Refusals as Refusals;
 ghost use Rattle.index.specs.Index as Index;
+ghost use Rattle.index.specs.Promises.{SameLinks};
 ghost use Rattle.evaluate.specs.Entries as Places;
 ghost use Rattle.evaluate.specs.Entries.{Lent};
 ghost use Rattle.evaluate.specs.KeyIndex as KeyIndex;
@@ -15,6 +16,7 @@ ghost use Rattle.evaluate.specs.Promises as Promises;
 
 use dag::{Dag, MOST_RECORDS, NodeKind, Refusal, Words};
 use field::{Prime, QuadFelt};
+use index::PlaceIndex;
 
 // The most entries that an assignment has.
 const MOST_ENTRIES: usize = 4096;
@@ -103,21 +105,23 @@ impl<const WIDTH: usize> Entries<'_, WIDTH> {
 
     // Notes entry i in the bucket of its key.
     #[tactic(auto, using(crate::specs::KeyIndexLaws::keyed_next))]
-    fn note(&self, i: usize, links: &mut [u64])
-        requires { KeyIndex.Keyed WIDTH self.now.words.now i links.old × (i < Index.half links.old) × (WIDTH * i < length self.now.words.now) }
-        ensures { KeyIndex.Keyed WIDTH self.now.words.now (i + 1) links.new }
+    fn note(&self, i: usize, index: &mut PlaceIndex)
+        requires { KeyIndex.Keyed WIDTH self.now.words.now i index.old.links.now × (i < Index.half index.old.links.now) × (WIDTH * i < length self.now.words.now) }
+        ensures same { SameLinks index.old index.new }
+        ensures keyed { KeyIndex.Keyed WIDTH self.now.words.now (i + 1) index.new.links.now }
     {
-        index::note(links, i, words_of_key(self.key_at(i)));
+        index.note(i, words_of_key(self.key_at(i)));
     }
 
-    // Indexes the entries by their keys, in links that index none.
+    // Indexes the entries by their keys, in an index of none.
     #[tactic(auto, using(crate::specs::EntryLaws::key_room))]
-    fn index(&self, links: &mut [u64])
-        requires { Lent WIDTH self.now.words.now self.now.count × KeyIndex.Keyed WIDTH self.now.words.now 0 links.old × (self.now.count ≤ Index.half links.old) }
-        ensures { KeyIndex.Keyed WIDTH self.now.words.now self.now.count links.new }
+    fn index(&self, index: &mut PlaceIndex)
+        requires { Lent WIDTH self.now.words.now self.now.count × KeyIndex.Keyed WIDTH self.now.words.now 0 index.old.links.now × (self.now.count ≤ Index.half index.old.links.now) }
+        ensures same { SameLinks index.old index.new }
+        ensures keyed { KeyIndex.Keyed WIDTH self.now.words.now self.now.count index.new.links.now }
     {
         for i in 0..self.count {
-            self.note(i, links);
+            self.note(i, index);
         }
     }
 
@@ -135,14 +139,12 @@ impl<const WIDTH: usize> Entries<'_, WIDTH> {
     }
 
     // The last entry of a key, along its bucket; behind many others of the bucket by the plain search.
-    fn find(&self, links: &[u64], key: u64) -> Option<usize>
-        requires { KeyIndex.Lookup WIDTH self.now.words.now self.now.count links.now }
+    fn find(&self, index: &PlaceIndex, key: u64) -> Option<usize>
+        requires { KeyIndex.Lookup WIDTH self.now.words.now self.now.count index.now.links.now }
         ensures { result ≡ Places.entry_of WIDTH self.now.words.now self.now.count key }
     {
-        let k = index::bucket(links, words_of_key(key));
-        index::walk(
-            links,
-            k,
+        index.walk(
+            index.bucket(words_of_key(key)),
             |i: usize| -> bool
                 requires { WIDTH * i < length self.now.words.now }
                 ensures { result ≡ nat_eq (Places.key_at WIDTH self.entry.now.words.now i) key }
@@ -155,11 +157,11 @@ impl<const WIDTH: usize> Entries<'_, WIDTH> {
     }
 
     // The element that the entries give a key: that of its last entry.
-    fn given(&self, links: &[u64], key: u64) -> Option<QuadFelt>
-        requires { (2 < WIDTH) × KeyIndex.Lookup WIDTH self.now.words.now self.now.count links.now }
+    fn given(&self, index: &PlaceIndex, key: u64) -> Option<QuadFelt>
+        requires { (2 < WIDTH) × KeyIndex.Lookup WIDTH self.now.words.now self.now.count index.now.links.now }
         ensures { result ≡ option_map (Places.element_at WIDTH self.now.words.now) (Places.entry_of WIDTH self.now.words.now self.now.count key) }
     {
-        let i = self.find(links, key)?;
+        let i = self.find(index, key)?;
         Some(self.element_at(i))
     }
 }
@@ -185,16 +187,16 @@ fn value_of(
     dag: Dag,
     i: usize,
     entries: Entries<ENTRY_WORDS>,
-    links: &[u64],
+    index: &PlaceIndex,
     values: &[QuadFelt],
 ) -> Option<QuadFelt>
     requires inside { i < dag.n }
     requires valued { Promises.Valued (field_of dag.prime) i values.now }
-    requires indexed { KeyIndex.Lookup Calls.entry_words entries.words.now entries.count links.now }
+    requires indexed { KeyIndex.Lookup Calls.entry_words entries.words.now entries.count index.now.links.now }
     ensures { let d = dag.entry in result ≡ Promises.record_answer (field_of d.prime) entries.entry.words.now entries.entry.count (Promises.at_place values.now) (Nodes.record_at (interleaved d.list.now) i) }
 {
     match dag.node(i) {
-        NodeKind::Input(k) => entries.given(links, k),
+        NodeKind::Input(k) => entries.given(index, k),
         NodeKind::Constant(c) => Some(c),
         NodeKind::Add(a, b) => Some(value_at(values, a).add(dag.prime, value_at(values, b))),
         NodeKind::Sub(a, b) => Some(value_at(values, a).sub(dag.prime, value_at(values, b))),
@@ -207,17 +209,17 @@ fn value_of(
 fn fill_values(
     dag: Dag,
     entries: Entries<ENTRY_WORDS>,
-    links: &[u64],
+    index: &PlaceIndex,
     values: &mut [QuadFelt],
 ) -> Result<(), Refusal>
     requires passed { Promises.Passed (field_of dag.prime) entries.words.now entries.count }
     requires fits { dag.n ≤ length values.old }
-    requires keyed { KeyIndex.Keyed Calls.entry_words entries.words.now entries.count links.now }
+    requires keyed { KeyIndex.Keyed Calls.entry_words entries.words.now entries.count index.now.links.now }
     ensures value { let d = dag.entry in result ≡ Places.inputs_check (Places.entry_of Calls.entry_words entries.entry.words.now entries.entry.count) (Nodes.nodes (interleaved d.list.now) d.n) d.n }
     ensures filled { let d = dag.entry in result ≡ Ok tt → Promises.Filled (field_of d.prime) (interleaved d.list.now) d.n entries.entry.words.now entries.entry.count values.new d.n }
 {
     for i in 0..dag.n {
-        values[i] = value_of(dag, i, entries, links, values).ok_or(Refusal::Unassigned(i))?;
+        values[i] = value_of(dag, i, entries, index, values).ok_or(Refusal::Unassigned(i))?;
     }
     Ok(())
 }
@@ -234,9 +236,10 @@ fn evaluate_within<const VALUES: usize, const LINKS: usize>(
     ensures { let d = dag.entry in result ≡ Calls.evaluate_answer (field_of d.prime) (interleaved d.list.now) d.n root entries.entry.words.now entries.entry.count }
 {
     let mut links = [0u64; LINKS];
-    entries.index(&mut links);
+    let mut index = PlaceIndex::new(&mut links);
+    entries.index(&mut index);
     let mut values = [QuadFelt::ZERO; VALUES];
-    fill_values(dag, entries, &links, &mut values)?;
+    fill_values(dag, entries, &index, &mut values)?;
     Ok(value_at(&values, root))
 }
 

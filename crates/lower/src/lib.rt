@@ -13,9 +13,11 @@ ghost use Rattle.lower.specs.Lower as Lower;
 ghost use Rattle.lower.specs.Promises as Promises;
 
 use arrayvec::ArrayVec;
+use builder::DagBuilder;
 use columns::{Column, Columns, Form, MOST_COLUMNS, Weighed};
 use dag::{Dag, Refusal};
 use field::{Prime, felt};
+use index::PlaceIndex;
 use periodic::PeriodicBuilder;
 
 // The value of a column in this form, whose point is ZK squared k times.
@@ -25,7 +27,7 @@ fn column_value(
     form: Form,
     k: usize,
 ) -> Result<usize, Refusal>
-    requires { (col.prime ≡ builder.old.prime) × Promises.Formed col.entries.now form }
+    requires { (col.prime ≡ builder.old.inner.prime) × Promises.Formed col.entries.now form }
     ensures { let c = col.entry in Runs.Entering (Runs.held builder.old) (λ field. Periodic.column_value field c.entries.now form k) (Runs.held builder.new) result }
 {
     match form {
@@ -42,7 +44,7 @@ fn column_node(
     log: usize,
     j: usize,
 ) -> Result<usize, Refusal>
-    requires { let c = weighed.now.columns in (builder.old.prime ≡ c.prime) × Promises.Covered c.lengths.now c.entries.now log × (j < length c.lengths.now) }
+    requires { let c = weighed.now.columns in (builder.old.inner.prime ≡ c.prime) × Promises.Covered c.lengths.now c.entries.now log × (j < length c.lengths.now) }
     ensures { let c = weighed.now.columns in Runs.Entering (Runs.held builder.old) (λ field. Periodic.column_node field (Held.columns c) log j) (Runs.held builder.new) result }
 {
     let col = weighed.columns.column(j);
@@ -56,7 +58,7 @@ fn build_periodic_nodes(
     columns: Columns,
     log: usize,
 ) -> Result<ArrayVec<u64, MOST_COLUMNS>, Refusal>
-    requires { (builder.old.prime ≡ columns.prime) × Promises.Covered columns.lengths.now columns.entries.now log }
+    requires { (builder.old.inner.prime ≡ columns.prime) × Promises.Covered columns.lengths.now columns.entries.now log }
     ensures { let c = columns.entry in Runs.Listing (Runs.held builder.old) (λ field. Periodic.build_periodic_nodes field (Held.columns c) log) (Runs.held builder.new) (length c.lengths.now) result }
 {
     let weighed = Weighed::new(columns);
@@ -154,11 +156,14 @@ fn lower_with(
     requires ready { Promises.Ready (field_of columns.prime) columns.lengths.now columns.entries.now period (length places.old) }
     ensures { let c = columns.entry in Promises.Finished (field_of c.prime) (interleaved dag.entry.list.now) dag.entry.n c.lengths.now c.entries.now period res.old places.old result res.new places.new }
 {
-    let mut builder = PeriodicBuilder::new(columns.prime);
-    builder.load(dag.list, dag.n);
+    let mut list = [0u64; periodic::LIST_WORDS];
+    let mut links = [0u64; periodic::LINK_WORDS];
+    let mut index = PlaceIndex::new(&mut links);
+    let mut builder = PeriodicBuilder::load(dag, &mut list, &mut index);
     let log = columns::log_within(felt::most_log(columns.prime), period);
     let nodes = build_periodic_nodes(&mut builder, columns, log)?;
-    hand_over(&builder.list, builder.count, &nodes, res, places)
+    let DagBuilder { list, count, .. } = builder.inner;
+    hand_over(list, count, &nodes, res, places)
 }
 
 // Lower past its first tests.

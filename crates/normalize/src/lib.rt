@@ -7,9 +7,8 @@ ghost use Rattle.field.specs.Field.{elements};
 ghost use Rattle.dag.specs.View.{interleaved};
 ghost use Rattle.dag.specs.Nodes as Nodes;
 ghost use Rattle.dag.specs.Refusals.{outcome};
-ghost use Rattle.index.specs.Index.{half, Usable, NodeIndex};
+ghost use Rattle.index.specs.Index.{half, NodeIndex};
 ghost use Rattle.builder.specs.Promises.{SameStores};
-ghost use Rattle.plan.specs.Promises.{Standing};
 ghost use Rattle.normalize.specs.Rounds as Rounds;
 ghost use Rattle.normalize.specs.Promises as Promises;
 ghost use Rattle.normalize.specs.Calls as Calls;
@@ -17,6 +16,7 @@ ghost use Rattle.normalize.specs.Calls as Calls;
 use builder::DagBuilder;
 use dag::{Dag, FEW_RECORDS, MOST_RECORDS, NodeKind, Refusal, RootedDag, Roots};
 use field::Prime;
+use index::PlaceIndex;
 use plan::{Rewrite, Round};
 
 // A record of x's kind with other operands.
@@ -34,10 +34,10 @@ fn like(x: NodeKind, a: usize, b: usize) -> NodeKind
 
 // Enters a record into a round's list by its plan; of a factored one the sum or difference inside first, then the product.
 fn enter_planned(work: &mut DagBuilder, map: &[u64], x: NodeKind, plan: Option<Rewrite>) -> usize
-    requires { ((i : ℕ) × Promises.Entering (field_of work.old.prime) work.old.list.now work.old.count map.now i x plan) × Promises.Linked work.old.list.now work.old.count work.old.links.now }
+    requires { ((i : ℕ) × Promises.Entering (field_of work.old.prime) work.old.list.now work.old.count map.now i x plan) × Promises.Linked work.old.list.now work.old.count work.old.index.now.links.now }
     ensures same { SameStores work.old work.new }
     ensures planned { Promises.Planned (field_of work.old.prime) work.old.list.now work.old.count (Rounds.planned (elements work.old.prime) (Promises.held work.old.list.now work.old.count map.now) x plan) work.new.list.now (record { place = result; count = work.new.count }) }
-    ensures index { NodeIndex (Nodes.nodes (interleaved work.new.list.now) work.new.count) work.new.links.now }
+    ensures index { NodeIndex (Nodes.nodes (interleaved work.new.list.now) work.new.count) work.new.index.now.links.now }
 {
     match plan {
         Some(
@@ -61,20 +61,14 @@ fn enter_planned(work: &mut DagBuilder, map: &[u64], x: NodeKind, plan: Option<R
 }
 
 // Replays a round's records into an empty list, each by its plan; answers the list's count where a rewrite fired.
-fn round(
-    prime: Prime,
-    round: Round,
-    work: &mut [u64],
-    links: &mut [u64],
-    map: &mut [u64],
-) -> Option<usize>
-    requires { Promises.Rounding (field_of prime) round.list.now round.n round.fan.now work.old map.old × Standing round × Usable links.old × (2 * round.n ≤ half links.old) }
-    ensures { Promises.RoundEnds (field_of prime) round.entry.list.now round.entry.n round.entry.fan.now work.new map.new result }
+fn round(round: Round, work: &mut [u64], index: &mut PlaceIndex, map: &mut [u64]) -> Option<usize>
+    requires { let d = round.dag in (2 * d.n ≤ (interleaved work.old).room) × (d.n ≤ length map.old) × (2 * d.n ≤ half index.old.links.now) }
+    ensures { let d = round.entry.dag in Promises.RoundEnds (field_of d.prime) d.list.now d.n round.entry.fan.now work.new map.new result }
 {
-    let mut built = DagBuilder::new(prime, work, links);
+    let mut built = DagBuilder::new(round.dag.prime, work, index);
     let mut fired = false;
-    for i in 0..round.n {
-        let x = dag::node_at(round.list, i);
+    for i in 0..round.dag.n {
+        let x = round.dag.node(i);
         let plan = round.plan_of(i, x);
         let place = enter_planned(&mut built, map, x, plan);
         fired |= plan.is_some();
@@ -99,17 +93,22 @@ fn normalize_once(
     let (fan, rest) = scratch.split_at_mut(n);
     let (map, rest) = rest.split_at_mut(n);
     let (own, rest) = rest.split_at_mut(2 * n);
-    let links = &mut rest[..4 * n];
     fan.fill(0);
     plan::fanout(res, n, roots, fan);
-    index::index_list(res, n, own);
-    let read = Round {
+    let mut index = PlaceIndex::new(own);
+    index.index_list(res, n);
+    let dag = Dag {
+        prime,
         list: res,
         n,
-        own,
+    };
+    let read = Round {
+        dag,
+        own: &index,
         fan,
     };
-    let count = round(prime, read, work, links, map)?;
+    let mut built = PlaceIndex::new(&mut rest[..4 * n]);
+    let count = round(read, work, &mut built, map)?;
     let new_roots = roots.renamed(map);
     let mut reachable = [false; compact::MOST_MARKS];
     let size = compact::number_reachable(work, count, &new_roots, &mut reachable, own);

@@ -20,7 +20,7 @@ pub record State : Type 0 where
 
 -- what a builder holds
 abbrev pub held : PeriodicBuilder → State
-held b = record { prime = b.prime; list = nodes (interleaved b.list) b.count; count = b.count }
+held b = record { prime = b.inner.prime; list = nodes (interleaved b.inner.list.now) b.inner.count; count = b.inner.count }
 
 -- a list of n records was taken up
 pub record Loaded (prime : Prime) (l : List NodeKind) (n : ℕ) (b : State) : Type 0 where

@@ -8,7 +8,7 @@ ghost use Rattle.dag.specs.View.{interleaved};
 ghost use Rattle.dag.specs.Nodes.{most_records, nodes};
 ghost use Rattle.dag.specs.Store.{Sound};
 ghost use Rattle.dag.specs.WellFormed.{Fine};
-ghost use Rattle.index.specs.Index.{NodeIndex};
+ghost use Rattle.index.specs.Index.{half, NodeIndex};
 ghost use Rattle.columns.specs.Prepare.{all_below};
 ghost use Rattle.columns.specs.Columns.{log_length};
 ghost use Rattle.coefficients.specs.Terms.{twiddle, scaled_value};
@@ -17,11 +17,12 @@ ghost use Rattle.periodic.specs.Periodic as Periodic;
 ghost use Rattle.periodic.specs.Promises as Promises;
 
 use arrayvec::ArrayVec;
-use builder::Outcome;
+use builder::{DagBuilder, Outcome};
 use coefficients::{MOST_TERMS, SparseTerms};
 use columns::{Column, MOST_ENTRIES};
-use dag::{NodeKind, Refusal};
+use dag::{Dag, NodeKind, Refusal};
 use field::{Prime, QuadFelt};
+use index::PlaceIndex;
 
 // The key number of ZK.
 const ZK: u64 = 3096224743817216;
@@ -32,67 +33,60 @@ pub const LIST_WORDS: usize = dag::RECORD_WORDS * dag::MOST_RECORDS;
 // The words of its index.
 pub const LINK_WORDS: usize = 2 * dag::MOST_RECORDS;
 
-// A list that is built, with its index.
+// A list that is built in stores for the longest, and refused where it would be longer.
 #[derive(Drop)]
-pub struct PeriodicBuilder {
-    pub prime: Prime,
-    pub list: [u64; LIST_WORDS],
-    pub links: [u64; LINK_WORDS],
-    pub count: usize,
-    pub ghost few: { count ≤ most_records },
-    pub ghost sound: { Sound (field_of prime).bounds (interleaved list) count },
-    pub ghost indexed: { NodeIndex (nodes (interleaved list) count) links },
+pub struct PeriodicBuilder<'list, 'index, 'links> {
+    pub inner: DagBuilder<'list, 'index, 'links>,
+    pub ghost few: { inner.count ≤ most_records },
+    pub ghost sound: { Sound (field_of inner.prime).bounds (interleaved inner.list.now) inner.count },
+    pub ghost indexed: { NodeIndex (nodes (interleaved inner.list.now) inner.count) inner.index.now.links.now },
+    pub ghost list_room: { most_records ≤ (interleaved inner.list.now).room },
+    pub ghost link_room: { most_records ≤ half inner.index.now.links.now },
 }
 
-impl PeriodicBuilder {
+impl<'list, 'index, 'links> PeriodicBuilder<'list, 'index, 'links> {
     ghost use Rattle.periodic.specs.Runs as Runs;
 
-    // A builder of the empty list.
-    pub fn new(prime: Prime) -> PeriodicBuilder
-        ensures { (result.prime ≡ prime) × (result.count ≡ 0) }
+    // A builder that goes on with a list, in these stores.
+    pub fn load(
+        dag: Dag,
+        list: &'list mut [u64; LIST_WORDS],
+        index: &'index mut PlaceIndex<'links>,
+    ) -> PeriodicBuilder<'list, 'index, 'links>
+        requires { most_records ≤ half index.old.links.now }
+        ensures { let d = dag.entry in Runs.Loaded d.prime (nodes (interleaved d.list.now) d.n) d.n (Runs.held result) }
     {
+        dag::copy_records(dag.list, dag.n, list);
+        index.index_list(dag.list, dag.n);
         PeriodicBuilder {
-            prime,
-            list: [0u64; LIST_WORDS],
-            links: [0u64; LINK_WORDS],
-            count: 0,
+            inner: DagBuilder {
+                prime: dag.prime,
+                list,
+                index,
+                count: dag.n,
+            },
         }
-    }
-
-    // Takes up the first n records of a list.
-    pub fn load(&mut self, list: &[u64], n: usize)
-        requires { Sound (field_of self.old.prime).bounds (interleaved list.now) n × (n ≤ most_records) }
-        ensures { Runs.Loaded self.old.prime (nodes (interleaved list.now) n) n (Runs.held self.new) }
-    {
-        dag::copy_records(list, n, &mut self.list);
-        index::index_list(list, n, &mut self.links);
-        self.count = n;
     }
 
     // One request.
     fn enter(&mut self, x: NodeKind) -> Result<usize, Refusal>
-        requires { Fine (Below self.old.prime) self.old.count x }
+        requires { Fine (Below self.old.inner.prime) self.old.inner.count x }
         ensures { Runs.Entering (Runs.held self.old) (λ field. Builder.enter field.elements x) (Runs.held self.new) result }
     {
-        let outcome = builder::resolve(self.prime, &self.list, self.count, &self.links, x);
-        match outcome {
+        match self.inner.resolve(x) {
             Outcome::Place(i) => Ok(i),
             Outcome::Node(y) => {
-                let place = self.count;
-                if place == dag::MOST_RECORDS {
+                if self.inner.count == dag::MOST_RECORDS {
                     return Err(Refusal::NoRoom);
                 }
-                dag::put_node(&mut self.list, place, y);
-                builder::note(&mut self.links, place, y);
-                self.count += 1;
-                Ok(place)
+                Ok(self.inner.append(y))
             }
         }
     }
 
     // The constant v.
     pub fn constant(&mut self, v: u64) -> Result<usize, Refusal>
-        requires { v < modulus_of self.old.prime }
+        requires { v < modulus_of self.old.inner.prime }
         ensures { Runs.Entering (Runs.held self.old) (λ field. Builder.constant field.elements v) (Runs.held self.new) result }
     {
         self.enter(NodeKind::Constant(QuadFelt::from_base(v)))
@@ -100,7 +94,7 @@ impl PeriodicBuilder {
 
     // The sum of two places.
     pub fn add(&mut self, a: usize, b: usize) -> Result<usize, Refusal>
-        requires { (a < self.old.count) × (b < self.old.count) }
+        requires { (a < self.old.inner.count) × (b < self.old.inner.count) }
         ensures { Runs.Entering (Runs.held self.old) (λ field. Builder.add field.elements a b) (Runs.held self.new) result }
     {
         self.enter(NodeKind::Add(a, b))
@@ -108,7 +102,7 @@ impl PeriodicBuilder {
 
     // The difference of two places.
     pub fn sub(&mut self, a: usize, b: usize) -> Result<usize, Refusal>
-        requires { (a < self.old.count) × (b < self.old.count) }
+        requires { (a < self.old.inner.count) × (b < self.old.inner.count) }
         ensures { Runs.Entering (Runs.held self.old) (λ field. Builder.sub field.elements a b) (Runs.held self.new) result }
     {
         self.enter(NodeKind::Sub(a, b))
@@ -116,7 +110,7 @@ impl PeriodicBuilder {
 
     // The product of two places.
     pub fn mul(&mut self, a: usize, b: usize) -> Result<usize, Refusal>
-        requires { (a < self.old.count) × (b < self.old.count) }
+        requires { (a < self.old.inner.count) × (b < self.old.inner.count) }
         ensures { Runs.Entering (Runs.held self.old) (λ field. Builder.mul field.elements a b) (Runs.held self.new) result }
     {
         self.enter(NodeKind::Mul(a, b))
@@ -135,7 +129,7 @@ impl PeriodicBuilder {
 
     // z and its squares, k + 1 in all.
     fn powers(&mut self, z: usize, k: usize) -> Result<ArrayVec<usize, 8>, Refusal>
-        requires { (z < self.old.count) × (k < 8) }
+        requires { (z < self.old.inner.count) × (k < 8) }
         ensures { Runs.Listing (Runs.held self.old) (λ field. Periodic.powers field.elements z k) (Runs.held self.new) (k + 1) result }
     {
         let mut powers = ArrayVec::new();
@@ -154,7 +148,7 @@ impl PeriodicBuilder {
         first: usize,
         factors: &[usize],
     ) -> Result<ArrayVec<usize, N>, Refusal>
-        requires { (first < self.old.count) × Promises.AllInside self.old.count factors.now × (length factors.now < N) }
+        requires { (first < self.old.inner.count) × Promises.AllInside self.old.inner.count factors.now × (length factors.now < N) }
         ensures { Runs.Listing (Runs.held self.old) (λ field. Periodic.chain field.elements first factors.now (length factors.now)) (Runs.held self.new) (length factors.now + 1) result }
     {
         let mut products = ArrayVec::new();
@@ -169,7 +163,7 @@ impl PeriodicBuilder {
 
     // The constants of these numbers.
     fn constants(&mut self, numbers: &[u64]) -> Result<ArrayVec<usize, MOST_ENTRIES>, Refusal>
-        requires { (all_below (modulus_of self.old.prime) numbers.now ≡ true) × (length numbers.now ≤ 128) }
+        requires { (all_below (modulus_of self.old.inner.prime) numbers.now ≡ true) × (length numbers.now ≤ 128) }
         ensures { Runs.Listing (Runs.held self.old) (λ field. Periodic.constants field.elements (λ j. get_or numbers.now j 0) (length numbers.now)) (Runs.held self.new) (length numbers.now) result }
     {
         let mut places = ArrayVec::new();
@@ -182,7 +176,7 @@ impl PeriodicBuilder {
 
     // Horner's rule from the highest of these coefficients.
     fn horner_eval(&mut self, point: usize, coeffs: &[usize]) -> Result<usize, Refusal>
-        requires { (point < self.old.count) × Promises.AllInside self.old.count coeffs.now }
+        requires { (point < self.old.inner.count) × Promises.AllInside self.old.inner.count coeffs.now }
         ensures { Runs.Entering (Runs.held self.old) (λ field. Periodic.horner_eval field.elements point coeffs.now (length coeffs.now)) (Runs.held self.new) result }
     {
         let mut acc = self.constant(0)?;
@@ -195,7 +189,7 @@ impl PeriodicBuilder {
 
     // factor · (1 + twiddle · power).
     fn sparse_turn(&mut self, twiddle: u64, power: usize, factor: usize) -> Result<usize, Refusal>
-        requires { (twiddle < modulus_of self.old.prime) × (power < self.old.count) × (factor < self.old.count) }
+        requires { (twiddle < modulus_of self.old.inner.prime) × (power < self.old.inner.count) × (factor < self.old.inner.count) }
         ensures { Runs.Entering (Runs.held self.old) (λ field. Periodic.sparse_turn field.elements twiddle power factor) (Runs.held self.new) result }
     {
         let twiddled = self.constant(twiddle)?;
@@ -207,7 +201,7 @@ impl PeriodicBuilder {
 
     // The product of 1 + twiddle · power over the powers of the column's point.
     fn sparse_factor(&mut self, zpow: &[usize], twiddles: &[u64]) -> Result<usize, Refusal>
-        requires { Promises.AllInside self.old.count zpow.now × (all_below (modulus_of self.old.prime) twiddles.now ≡ true) × (length twiddles.now ≤ length zpow.now) }
+        requires { Promises.AllInside self.old.inner.count zpow.now × (all_below (modulus_of self.old.inner.prime) twiddles.now ≡ true) × (length twiddles.now ≤ length zpow.now) }
         ensures { Runs.Entering (Runs.held self.old) (λ field. Periodic.sparse_factor field.elements zpow.now (λ i. get_or twiddles.now i 0) (length twiddles.now)) (Runs.held self.new) result }
     {
         let mut factor = self.constant(1)?;
@@ -224,7 +218,7 @@ impl PeriodicBuilder {
         terms: &SparseTerms,
         j: usize,
     ) -> Result<usize, Refusal>
-        requires { Promises.AllInside self.old.count zpow.now × Promises.Spans self.old.prime terms.now.col.prime zpow.now terms.now.col.entries.now × (j < length terms.now.col.entries.now) }
+        requires { Promises.AllInside self.old.inner.count zpow.now × Promises.Spans self.old.inner.prime terms.now.col.prime zpow.now terms.now.col.entries.now × (j < length terms.now.col.entries.now) }
         ensures { let c = terms.now.col.entries.now in Runs.Entering (Runs.held self.old) (λ field. Periodic.sparse_term field.elements zpow.now (twiddle field c j) (log_length c) (scaled_value field c j)) (Runs.held self.new) result }
     {
         let twiddles = terms.twiddles(j);
@@ -240,7 +234,7 @@ impl PeriodicBuilder {
         terms: &SparseTerms,
         places: &[u64],
     ) -> Result<usize, Refusal>
-        requires { Promises.AllInside self.old.count zpow.now × Promises.Spans self.old.prime terms.now.col.prime zpow.now terms.now.col.entries.now × Promises.AllInside (length terms.now.col.entries.now) places.now }
+        requires { Promises.AllInside self.old.inner.count zpow.now × Promises.Spans self.old.inner.prime terms.now.col.prime zpow.now terms.now.col.entries.now × Promises.AllInside (length terms.now.col.entries.now) places.now }
         ensures { let c = terms.now.col.entries.now in Runs.Entering (Runs.held self.old) (λ field. Periodic.sparse_sum field.elements zpow.now (λ k. twiddle field c (get_or places.now k 0)) (log_length c) (λ k. scaled_value field c (get_or places.now k 0)) (length places.now)) (Runs.held self.new) result }
     {
         if places.is_empty() {
@@ -256,7 +250,7 @@ impl PeriodicBuilder {
 
     // The value of a sparse column whose point is ZK squared k times.
     pub fn sparse_value(&mut self, col: Column, k: usize) -> Result<usize, Refusal>
-        requires { (col.prime ≡ self.old.prime) × Promises.Few col.entries.now }
+        requires { (col.prime ≡ self.old.inner.prime) × Promises.Few col.entries.now }
         ensures { let c = col.entry in Runs.Entering (Runs.held self.old) (λ field. Periodic.sparse_value field c.entries.now k) (Runs.held self.new) result }
     {
         let places = coefficients::support::<MOST_TERMS>(col.entries);
@@ -267,7 +261,7 @@ impl PeriodicBuilder {
 
     // The value of a dense column whose point is ZK squared k times.
     pub fn dense_value(&mut self, col: Column, k: usize) -> Result<usize, Refusal>
-        requires { col.prime ≡ self.old.prime }
+        requires { col.prime ≡ self.old.inner.prime }
         ensures { let c = col.entry in Runs.Entering (Runs.held self.old) (λ field. Periodic.dense_value field c.entries.now k) (Runs.held self.new) result }
     {
         let numbers = coefficients::dense(col);

@@ -5,3 +5,4 @@ pub mod FactorLaws
 pub mod SearchLaws
 pub mod PlanLaws
 pub mod PlanValueLaws
+pub mod Held

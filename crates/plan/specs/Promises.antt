@@ -1,17 +1,14 @@
 -- What the functions of a plan ask of their stores, and say of them.
 use Rattle.std.specs.Prelude.{ℕ, ◌+◌, ◌*◌, ◌<◌, ◌≤◌, cond, List, [], ◌∷◌, Option, Some, None, ◌≡◌, eqb, get_or, length, set}
-use Rattle.dag.specs.View.{View, interleaved}
+use Rattle.dag.specs.View.{View}
 use Rattle.dag.specs.Roots.{most_roots, Inside}
 use Rattle.dag.specs.Store.{Records}
-use Rattle.dag.specs.Nodes.{most_records, nodes, at, tag, first, second}
+use Rattle.dag.specs.Nodes.{most_records, at, tag, first, second}
 use Rattle.dag.specs.declared.NodeKind.{NodeKind}
 use Rattle.dag.specs.declared.Roots.{Roots}
-use Rattle.index.specs.Index.{NodeIndex}
-use Rattle.builder.specs.Promises.{read}
 use Rattle.plan.specs.Plan.{is_single, shared_factor}
 use Rattle.plan.specs.declared.Rewrite.{Rewrite}
 use Rattle.plan.specs.declared.Rewrite.TheVariants.{Factored, Rotated}
-use Rattle.plan.specs.declared.Round.{Round}
 
 -- a place is mentioned at most twice by each record, and by each root
 abbrev pub most_mentions : ℕ
@@ -45,19 +42,6 @@ operands_if op x = cond (eqb (tag x) (tag (op 0 0))) (Some (first x ∷ second x
 -- those of the record at place i, if its fanout is 1 besides
 abbrev pub single_at : (ℕ → ℕ → NodeKind) → List NodeKind → (ℕ → ℕ) → ℕ → Option (List ℕ)
 single_at op l fan i = cond (is_single op l fan i) (Some (first (at l i) ∷ second (at l i) ∷ [])) None
-
--- a round's records, and their fanouts
-abbrev pub records : Round → List NodeKind
-records r = nodes (interleaved r.list.now) r.n
-
-abbrev pub fanouts : Round → ℕ → ℕ
-fanouts r = read r.fan.now
-
--- a round's records decode, are indexed, and have a fanout each
-pub record Standing (r : Round) : Type 0 where
-  pub sound : Records (interleaved r.list.now) r.n
-  pub indexed : NodeIndex (records r) r.own.now
-  pub fits : r.n ≤ length r.fan.now
 
 -- the places of a plan come before the record
 abbrev pub PlanFine : ℕ → Option Rewrite → Type 0

@@ -7,14 +7,15 @@ ghost use Rattle.dag.specs.Nodes as Nodes;
 ghost use Rattle.dag.specs.Lookup as Lookup;
 ghost use Rattle.dag.specs.Roots.{roots_of};
 ghost use Rattle.dag.specs.WellFormed.{Any, Fine};
+ghost use Rattle.index.specs.Index.{NodeIndex};
 ghost use Rattle.builder.specs.Promises.{read, operation};
 ghost use Rattle.compact.specs.Promises.{AllBelow};
 ghost use Rattle.plan.specs.Plan as Plans;
 ghost use Rattle.plan.specs.Promises as Promises;
-ghost use Rattle.plan.specs.Promises.{Standing, records, fanouts};
 
 use builder::AssociativeOp;
-use dag::{NodeKind, Roots};
+use dag::{Dag, NodeKind, Roots};
+use index::PlaceIndex;
 
 // What a round does with one record: two products that share a factor, with what is left of each; or a record that is there already in place of an inner one, with the operand that remains.
 #[derive(Clone, Copy)]
@@ -84,24 +85,27 @@ fn shared_factor(a: [usize; 2], b: [usize; 2]) -> Option<Rewrite>
     }
 }
 
-// What a round reads: its list of n records, the index of these, and each place's fanout.
+// What a round reads: its list, the index of the records, and each place's fanout.
 #[derive(Clone, Copy)]
-pub struct Round<'a> {
-    pub list: &'a [u64],
-    pub n: usize,
-    pub own: &'a [u64],
+pub struct Round<'dag, 'a, 'links> {
+    pub dag: Dag<'dag>,
+    pub own: &'a PlaceIndex<'links>,
     pub fan: &'a [u64],
+    pub ghost indexed: { NodeIndex (Nodes.nodes (interleaved dag.list.now) dag.n) own.now.links.now },
+    pub ghost fits: { dag.n ≤ length fan.now },
 }
 
-impl Round<'_> {
+impl Round<'_, '_, '_> {
+    ghost use Rattle.plan.specs.Held.{records, fanouts};
+
     // The operands of the record at place i, if it is the operation's, with fanout 1.
     #[tactic(auto, using(dag::specs::NodeLaws::at_nodes))]
     fn single(&self, op: AssociativeOp, i: usize) -> Option<[usize; 2]>
-        requires { Standing self.now × (i < self.now.n) }
+        requires { (i < self.now.dag.n) }
         ensures { result ≡ Promises.single_at (operation op) (records self.now) (fanouts self.now) i }
     {
         if self.fan[i] == 1 {
-            operands_of(op, dag::node_at(self.list, i))
+            operands_of(op, self.dag.node(i))
         } else {
             None
         }
@@ -110,7 +114,7 @@ impl Round<'_> {
     // Two muls, each of fanout 1, that share a factor.
     #[tactic(auto, unfolding(crate::specs::Plan::common_factor))]
     fn common_factor(&self, a: usize, b: usize) -> Option<Rewrite>
-        requires { Standing self.now × (a < self.now.n) × (b < self.now.n) }
+        requires { (a < self.now.dag.n) × (b < self.now.dag.n) }
         ensures { result ≡ Plans.common_factor (records self.now) (fanouts self.now) a b }
     {
         shared_factor(
@@ -122,10 +126,9 @@ impl Round<'_> {
     // The candidate's greatest place, if it stands before place i, with what remains.
     #[tactic(auto, unfolding(crate::specs::Plan::onto_before))]
     fn onto_before(&self, i: usize, candidate: NodeKind, remaining: usize) -> Option<Rewrite>
-        requires { Standing self.now }
-        ensures { result ≡ Plans.onto_before i remaining (Lookup.lookup (records self.now) candidate self.now.n) }
+        ensures { result ≡ Plans.onto_before i remaining (Lookup.lookup (records self.now) candidate self.now.dag.n) }
     {
-        let existing = index::find(self.list, self.n, self.own, candidate)?;
+        let existing = self.own.find(self.dag.list, self.dag.n, candidate)?;
         (existing < i).then_some(Rewrite::Rotated {
             existing,
             remaining,
@@ -141,7 +144,7 @@ impl Round<'_> {
         inner: usize,
         other: usize,
     ) -> Option<Rewrite>
-        requires { Standing self.now × (inner < self.now.n) }
+        requires { (inner < self.now.dag.n) }
         ensures { result ≡ Plans.existing_rotation (operation op) (records self.now) (fanouts self.now) i inner other }
     {
         let [x, y] = self.single(op, inner)?;
@@ -154,7 +157,7 @@ impl Round<'_> {
     // The first operand is tried as the inner one, then the second.
     #[tactic(auto, unfolding(crate::specs::Plan::either_rotation, crate::specs::Plan::or_else))]
     fn either_rotation(&self, op: AssociativeOp, i: usize, a: usize, b: usize) -> Option<Rewrite>
-        requires { Standing self.now × (a < self.now.n) × (b < self.now.n) }
+        requires { (a < self.now.dag.n) × (b < self.now.dag.n) }
         ensures { result ≡ Plans.either_rotation (operation op) (records self.now) (fanouts self.now) i a b }
     {
         match self.existing_rotation(op, i, a, b) {
@@ -166,7 +169,7 @@ impl Round<'_> {
     // What a round does with the record x at place i.
     #[tactic(auto, unfolding(crate::specs::Plan::plan_of, crate::specs::Plan::or_else, dag::specs::WellFormed::Fine))]
     pub fn plan_of(&self, i: usize, x: NodeKind) -> Option<Rewrite>
-        requires { Standing self.now × (i ≤ self.now.n) × Fine Any i x }
+        requires { (i ≤ self.now.dag.n) × Fine Any i x }
         ensures { result ≡ Plans.plan_of (records self.now) (fanouts self.now) i x }
     {
         match x {

@@ -12,13 +12,9 @@ add_outcome-sub_outcome-requires t c =
     let h = add_lower (field_of c.args.prime) c.requires c.node_at.ensures c.node_at-2.ensures c.in-HandOver.ensures in
     (subst (λ (j : ℕ). c.in-HandOver.c + c.in-HandOver.d < j) c.decreases h.0, h.1)
 
-pub add_outcome-returns-in-Use : goal.add_outcome-returns-in-Use
+pub add_outcome-returns-in-ComesTo : goal.add_outcome-returns-in-ComesTo
 unfolding Steps.follow
-add_outcome-returns-in-Use t c = add_told (field_of c.args.prime) c.requires c.node_at.ensures c.node_at-2.ensures c.in-Use.ensures
-
-pub add_outcome-returns-in-Make : goal.add_outcome-returns-in-Make
-unfolding Steps.follow
-add_outcome-returns-in-Make t c = add_told (field_of c.args.prime) c.requires c.node_at.ensures c.node_at-2.ensures c.in-Make.ensures
+add_outcome-returns-in-ComesTo t c = add_told (field_of c.args.prime) c.requires c.node_at.ensures c.node_at-2.ensures c.in-ComesTo.ensures
 
 pub add_outcome-returns-in-HandOver : goal.add_outcome-returns-in-HandOver
 unfolding Steps.follow
@@ -32,13 +28,9 @@ sub_outcome-add_outcome-requires t c =
     let h = sub_lower (field_of c.args.prime) c.requires c.node_at.ensures c.node_at-2.ensures c.in-HandOver.ensures in
     (subst (λ (j : ℕ). c.in-HandOver.c + c.in-HandOver.d < j) c.decreases h.0, h.1)
 
-pub sub_outcome-returns-in-Use : goal.sub_outcome-returns-in-Use
+pub sub_outcome-returns-in-ComesTo : goal.sub_outcome-returns-in-ComesTo
 unfolding Steps.follow
-sub_outcome-returns-in-Use t c = sub_told (field_of c.args.prime) c.requires c.node_at.ensures c.node_at-2.ensures c.in-Use.ensures
-
-pub sub_outcome-returns-in-Make : goal.sub_outcome-returns-in-Make
-unfolding Steps.follow
-sub_outcome-returns-in-Make t c = sub_told (field_of c.args.prime) c.requires c.node_at.ensures c.node_at-2.ensures c.in-Make.ensures
+sub_outcome-returns-in-ComesTo t c = sub_told (field_of c.args.prime) c.requires c.node_at.ensures c.node_at-2.ensures c.in-ComesTo.ensures
 
 pub sub_outcome-returns-in-HandOver : goal.sub_outcome-returns-in-HandOver
 unfolding Steps.follow

@@ -34,7 +34,7 @@ push-requires c =
       record {
         room = rw (same_room c.loop-i.builder.list.now c.args.res.now (v.same.list_words ∙ ap length e.list_is)) (omega (arith, h, c.requires.0, c.loop-i-test.true));
         index = v.index;
-        link_room = rw (v.same.link_words, e.link_words) (omega (arith, h, c.requires.3, c.loop-i-test.true));
+        link_room = omega (arith, h, c.requires.2, c.loop-i-test.true, v.same.link_words, c.new-builder.ensures.same_links.words);
       },
     )
 

@@ -13,8 +13,8 @@ index-requires g c = (
   omega arith,
   (
     (entries_pass (field_of c.args.dag.prime).bounds _ _ _ (omega arith) c.requires.passed).0,
-    links_keyed c.requires.sized _ _,
-    links_room c.requires.sized,
+    rw c.new-index.ensures.held (links_keyed c.requires.sized _ _),
+    rw c.new-index.ensures.held (links_room c.requires.sized),
   ),
 )
 

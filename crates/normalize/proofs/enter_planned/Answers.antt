@@ -24,7 +24,7 @@ push-requires c =
     let p = c.push-inner.ensures in
     rw p.same.prime
     (Enter.outer_request (field_of b.prime) c.requires.0.1 _ _ _ e _ _ c.mapped.ensures c.mapped-in-Some-Factored.ensures _ c.like.ensures _ _ p.noted.pushed _
-    c.mapped-in-Some-Factored-2.ensures b.links.now _ c.requires.1 p.noted.index p.same.link_words)
+    c.mapped-in-Some-Factored-2.ensures b.index.now.links.now _ c.requires.1 p.noted.index p.same.link_words)
 
 pub push-requires-in-Some-Rotated : goal.push-requires-in-Some-Rotated
 push-requires-in-Some-Rotated c =

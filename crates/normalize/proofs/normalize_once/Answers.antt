@@ -11,7 +11,7 @@ number_reachable-size-requires c =
     let h = Rounded.round_short (field_of c.args.prime) c.requires.0 c.in_ok-count.ensures c.fanout.ensures in (
       Rounded.markable (field_of c.args.prime) c.requires.0 c.in_ok-count.ensures c.fanout.ensures c.renamed-new_roots.ensures,
       refl,
-      omega (arith, h, c.index_list.auto.links),
+      omega (arith, h, c.index_list.ensures.same.words),
     )
 
 pub returns-then-n-size : goal.returns-then-n-size

@@ -1,6 +1,10 @@
--- The invariant: the links index the entries before entry i.
+-- The invariant: the index holds the entries before entry i.
+use Rattle.index.specs.Promises.{SameLinks}
 use Rattle.evaluate.specs.KeyIndex.{Keyed}
 use Rattle.evaluate.proofs.Entries.index.Given as goal
 
 abbrev pub invariant-loop-i : goal.invariant-loop-i
-invariant-loop-i g l = Keyed g.row.WIDTH l.self.words.now l.i l.links
+invariant-loop-i g l = record {
+  same : SameLinks l.initial.index l.index;
+  keyed : Keyed g.row.WIDTH l.self.words.now l.i l.index.links.now;
+}

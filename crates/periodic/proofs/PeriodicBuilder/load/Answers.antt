@@ -1,5 +1,5 @@
-use mathlib.Core.Path.{refl, ◌∙◌, ap}
 use native.Mathlib.Omega.{arith}
+use Rattle.std.proofs.Common.{refl, ◌∙◌, ap}
 use Rattle.dag.specs.Store.{front}
 use Rattle.dag.specs.ViewLaws.{words_room}
 use Rattle.dag.specs.WordLaws.{front_copied}
@@ -7,19 +7,22 @@ use Rattle.periodic.specs.LoadLaws.{loaded_records, loaded_sound}
 use Rattle.periodic.proofs.PeriodicBuilder.load.Goals as goal
 
 pub copy_records-requires : goal.copy_records-requires
-copy_records-requires c = (c.requires.0.room, words_room c.args.self.now.list c.args.n (omega (arith, c.requires.1)))
+copy_records-requires c = (c.args.dag.sound.room, words_room c.args.list.now c.args.dag.n (omega (arith, c.args.dag.most)))
 
-pub invariant_of-self : goal.invariant_of-self
-invariant_of-self c =
-    let e = ap (front c.args.n) c.copy_records.ensures ∙ front_copied c.args.list.now c.args.self.now.list c.args.n c.requires.0.room in
-    let k = loaded_records c.args.list.now c.copy_records.new.to c.args.n e in
+pub invariant_of-result : goal.invariant_of-result
+invariant_of-result c =
+    let d = c.args.dag in
+    let e = ap (front d.n) c.copy_records.ensures ∙ front_copied d.list.now c.args.list.now d.n d.sound.room in
     record {
-      few = c.requires.1;
-      sound = loaded_sound c.args.list.now c.copy_records.new.to c.args.n e _ (omega (arith, c.requires.1, c.copy_records.auto.to)) c.requires.0;
-      indexed = rw k c.index_list.ensures;
+      few = d.most;
+      sound = loaded_sound d.list.now c.copy_records.new.to d.n e _ (omega (arith, d.most, c.copy_records.auto.to)) d.sound;
+      indexed = rw (loaded_records d.list.now c.copy_records.new.to d.n e) c.index_list.ensures.indexed;
+      list_room = words_room c.copy_records.new.to 4096 (omega (arith, c.copy_records.auto.to));
+      link_room = omega (arith, c.index_list.ensures.same.words, c.requires);
     }
 
 pub returns : goal.returns
 returns c =
-    let e = ap (front c.args.n) c.copy_records.ensures ∙ front_copied c.args.list.now c.args.self.now.list c.args.n c.requires.0.room in
-    record { prime_is = refl; list_is = loaded_records c.args.list.now c.copy_records.new.to c.args.n e; count_is = refl }
+    let d = c.args.dag in
+    let e = ap (front d.n) c.copy_records.ensures ∙ front_copied d.list.now c.args.list.now d.n d.sound.room in
+    record { prime_is = refl; list_is = loaded_records d.list.now c.copy_records.new.to d.n e; count_is = refl }

@@ -15,7 +15,7 @@ loop-i-init c = enter_none _ _ _ c.in_ok-factor.ensures.told.inside
 
 pub sparse_turn-requires : goal.sparse_turn-requires
 sparse_turn-requires c = (
-  below_later (c.loop-i.invariant.ran.prime_is ∙ c.in_ok-factor.ensures.told.ran.prime_is) (below_at (modulus_of c.args.self.now.prime) _ _ c.requires.1 c.loop-i-test.true),
+  below_later (c.loop-i.invariant.ran.prime_is ∙ c.in_ok-factor.ensures.told.ran.prime_is) (below_at (modulus_of c.args.self.now.inner.prime) _ _ c.requires.1 c.loop-i-test.true),
   (all_later c.loop-i.invariant.ran.longer (all_later c.in_ok-factor.ensures.told.ran.longer c.requires.0)).at _ (omega arith),
   c.loop-i.invariant.inside,
 )

@@ -1,0 +1,12 @@
+use Rattle.std.proofs.Common.{refl}
+use Rattle.index.specs.Index.{noted}
+use Rattle.index.specs.IndexLaws.{length_noted}
+use Rattle.index.proofs.PlaceIndex.link.Goals as goal
+
+pub returns-clause-same : goal.returns-clause-same
+unfolding noted
+returns-clause-same c = record { reference = refl; words = length_noted c.args.self.now.links.now c.args.n c.args.k }
+
+pub returns-clause-noted : goal.returns-clause-noted
+unfolding noted
+returns-clause-noted c = refl
