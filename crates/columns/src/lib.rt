@@ -362,7 +362,7 @@ pub struct Columns<'a> {
     pub prime: Prime,
     pub lengths: &'a [u64],
     pub entries: &'a [u64],
-    ghost tested: { Promises.Tested (modulus_of prime) lengths.now entries.now },
+    pub ghost tested: { Promises.Tested (modulus_of prime) lengths.now entries.now },
 }
 
 impl<'a> Columns<'a> {
@@ -425,7 +425,7 @@ pub struct Weighed<'a> {
     pub columns: Columns<'a>,
     pub gains: ArrayVec<u64, MOST_COLUMNS>,
     pub savings: ArrayVec<u64, MOST_COLUMNS>,
-    ghost weighs: { Promises.Weighs (modulus_of columns.prime) (Prepare.columns columns.lengths.now columns.entries.now) gains.items savings.items },
+    pub ghost weighs: { Promises.Weighs (modulus_of columns.prime) (Prepare.columns columns.lengths.now columns.entries.now) gains.items savings.items },
 }
 
 impl<'a> Weighed<'a> {
