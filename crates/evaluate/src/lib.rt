@@ -137,32 +137,41 @@ impl<const WIDTH: usize> Entries<'_, WIDTH> {
         }
         None
     }
+}
 
+// Entries, and the index of their keys.
+#[derive(Clone, Copy)]
+struct KeyedEntries<'a, 'index, 'links, const WIDTH: usize> {
+    entries: Entries<'a, WIDTH>,
+    index: &'index PlaceIndex<'links>,
+    ghost lookup: { KeyIndex.Lookup WIDTH entries.words.now entries.count index.now.links.now },
+}
+
+impl<const WIDTH: usize> KeyedEntries<'_, '_, '_, WIDTH> {
     // The last entry of a key, along its bucket; behind many others of the bucket by the plain search.
-    fn find(&self, index: &PlaceIndex, key: u64) -> Option<usize>
-        requires { KeyIndex.Lookup WIDTH self.now.words.now self.now.count index.now.links.now }
-        ensures { result ≡ Places.entry_of WIDTH self.now.words.now self.now.count key }
+    fn find(&self, key: u64) -> Option<usize>
+        ensures { result ≡ Places.entry_of WIDTH self.now.entries.words.now self.now.entries.count key }
     {
-        index.walk(
-            index.bucket(words_of_key(key)),
+        self.index.walk(
+            self.index.bucket(words_of_key(key)),
             |i: usize| -> bool
-                requires { WIDTH * i < length self.now.words.now }
-                ensures { result ≡ nat_eq (Places.key_at WIDTH self.entry.now.words.now i) key }
-            { self.key_at(i) == key },
+                requires { WIDTH * i < length self.now.entries.words.now }
+                ensures { result ≡ nat_eq (Places.key_at WIDTH self.entry.now.entries.words.now i) key }
+            { self.entries.key_at(i) == key },
             |below: usize| -> Option<usize>
-                requires { Lent WIDTH self.now.words.now below }
-                ensures { result ≡ Places.entry_of WIDTH self.entry.now.words.now below key }
-            { self.search(below, key) },
+                requires { Lent WIDTH self.now.entries.words.now below }
+                ensures { result ≡ Places.entry_of WIDTH self.entry.now.entries.words.now below key }
+            { self.entries.search(below, key) },
         )
     }
 
     // The element that the entries give a key: that of its last entry.
-    fn given(&self, index: &PlaceIndex, key: u64) -> Option<QuadFelt>
-        requires { (2 < WIDTH) × KeyIndex.Lookup WIDTH self.now.words.now self.now.count index.now.links.now }
-        ensures { result ≡ option_map (Places.element_at WIDTH self.now.words.now) (Places.entry_of WIDTH self.now.words.now self.now.count key) }
+    fn given(&self, key: u64) -> Option<QuadFelt>
+        requires { 2 < WIDTH }
+        ensures { result ≡ option_map (Places.element_at WIDTH self.now.entries.words.now) (Places.entry_of WIDTH self.now.entries.words.now self.now.entries.count key) }
     {
-        let i = self.find(index, key)?;
-        Some(self.element_at(i))
+        let i = self.find(key)?;
+        Some(self.entries.element_at(i))
     }
 }
 
@@ -186,17 +195,15 @@ fn value_at(values: &[QuadFelt], i: usize) -> QuadFelt
 fn value_of(
     dag: Dag,
     i: usize,
-    entries: Entries<ENTRY_WORDS>,
-    index: &PlaceIndex,
+    keyed: KeyedEntries<ENTRY_WORDS>,
     values: &[QuadFelt],
 ) -> Option<QuadFelt>
     requires inside { i < dag.n }
     requires valued { Promises.Valued (field_of dag.prime) i values.now }
-    requires indexed { KeyIndex.Lookup Calls.entry_words entries.words.now entries.count index.now.links.now }
-    ensures { let d = dag.entry in result ≡ Promises.record_answer (field_of d.prime) entries.entry.words.now entries.entry.count (Promises.at_place values.now) (Nodes.record_at (interleaved d.list.now) i) }
+    ensures { let d = dag.entry in let e = keyed.entry.entries in result ≡ Promises.record_answer (field_of d.prime) e.words.now e.count (Promises.at_place values.now) (Nodes.record_at (interleaved d.list.now) i) }
 {
     match dag.node(i) {
-        NodeKind::Input(k) => entries.given(index, k),
+        NodeKind::Input(k) => keyed.given(k),
         NodeKind::Constant(c) => Some(c),
         NodeKind::Add(a, b) => Some(value_at(values, a).add(dag.prime, value_at(values, b))),
         NodeKind::Sub(a, b) => Some(value_at(values, a).sub(dag.prime, value_at(values, b))),
@@ -208,18 +215,16 @@ fn value_of(
 // Fills in the values of a list's records, up to the first input whose key has no entry.
 fn fill_values(
     dag: Dag,
-    entries: Entries<ENTRY_WORDS>,
-    index: &PlaceIndex,
+    keyed: KeyedEntries<ENTRY_WORDS>,
     values: &mut [QuadFelt],
 ) -> Result<(), Refusal>
-    requires passed { Promises.Passed (field_of dag.prime) entries.words.now entries.count }
+    requires passed { Promises.Passed (field_of dag.prime) keyed.entries.words.now keyed.entries.count }
     requires fits { dag.n ≤ length values.old }
-    requires keyed { KeyIndex.Keyed Calls.entry_words entries.words.now entries.count index.now.links.now }
-    ensures value { let d = dag.entry in result ≡ Places.inputs_check (Places.entry_of Calls.entry_words entries.entry.words.now entries.entry.count) (Nodes.nodes (interleaved d.list.now) d.n) d.n }
-    ensures filled { let d = dag.entry in result ≡ Ok tt → Promises.Filled (field_of d.prime) (interleaved d.list.now) d.n entries.entry.words.now entries.entry.count values.new d.n }
+    ensures value { let d = dag.entry in let e = keyed.entry.entries in result ≡ Places.inputs_check (Places.entry_of Calls.entry_words e.words.now e.count) (Nodes.nodes (interleaved d.list.now) d.n) d.n }
+    ensures filled { let d = dag.entry in let e = keyed.entry.entries in result ≡ Ok tt → Promises.Filled (field_of d.prime) (interleaved d.list.now) d.n e.words.now e.count values.new d.n }
 {
     for i in 0..dag.n {
-        values[i] = value_of(dag, i, entries, index, values).ok_or(Refusal::Unassigned(i))?;
+        values[i] = value_of(dag, i, keyed, values).ok_or(Refusal::Unassigned(i))?;
     }
     Ok(())
 }
@@ -239,7 +244,11 @@ fn evaluate_within<const VALUES: usize, const LINKS: usize>(
     let mut index = PlaceIndex::new(&mut links);
     entries.index(&mut index);
     let mut values = [QuadFelt::ZERO; VALUES];
-    fill_values(dag, entries, &index, &mut values)?;
+    let keyed = KeyedEntries {
+        entries,
+        index: &index,
+    };
+    fill_values(dag, keyed, &mut values)?;
     Ok(value_at(&values, root))
 }
 

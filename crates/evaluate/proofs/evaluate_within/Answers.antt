@@ -18,6 +18,12 @@ index-requires g c = (
   ),
 )
 
+pub invariant_of-keyed : goal.invariant_of-keyed
+invariant_of-keyed g c =
+    record {
+      lookup = record { lent = (entries_pass (field_of c.args.dag.prime).bounds _ _ _ (omega arith) c.requires.passed).0; keyed = c.index.ensures.keyed };
+    }
+
 pub fill_values-requires-clause-fits : goal.fill_values-requires-clause-fits
 fill_values-requires-clause-fits g c =
     omega (arith, length-replicate {A = QuadFelt} g.row.VALUES (record { c0 = 0; c1 = 0 }), c.requires.sized.records)

@@ -3,7 +3,6 @@ use Rattle.std.proofs.lemmas.Result.{err_from_is_err_and}
 use Rattle.field.specs.Fields.{field_of}
 use Rattle.dag.specs.Refusals.{first_refused}
 use Rattle.dag.specs.BranchLaws.{told}
-use Rattle.evaluate.specs.CallLaws.{entries_pass}
 use Rattle.evaluate.specs.Entries.{inputs_check}
 use Rattle.evaluate.specs.ValueStepLaws.{may_value, filled_more, input_more, input_none}
 use Rattle.evaluate.proofs.fill_values.Goals as goal
@@ -24,10 +23,6 @@ loop-i-init c = (λ j h. absurd (omega arith), refl)
 pub value_of-requires-clause-valued : goal.value_of-requires-clause-valued
 value_of-requires-clause-valued c =
     may_value (field_of c.args.dag.prime) _ _ c.args.dag.sound _ _ c.requires.passed _ _ (omega arith) (omega (arith, c.requires.fits)) c.loop-i.invariant.0
-
-pub value_of-requires-clause-indexed : goal.value_of-requires-clause-indexed
-value_of-requires-clause-indexed c =
-    record { lent = (entries_pass (field_of c.args.dag.prime).bounds _ _ _ (omega arith) c.requires.passed).0; keyed = c.requires.keyed }
 
 pub returns-in_err-values-clause-value : goal.returns-in_err-values-clause-value
 returns-in_err-values-clause-value c =

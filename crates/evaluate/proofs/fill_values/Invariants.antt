@@ -11,5 +11,5 @@ use Rattle.evaluate.proofs.fill_values.Given as goal
 abbrev pub invariant-loop-i : goal.invariant-loop-i
 invariant-loop-i l =
     let d = l.dag in
-    Filled (field_of d.prime) (interleaved d.list.now) d.n l.entries.words.now l.entries.count l.values l.i
-    × (inputs_check (entry_of entry_words l.entries.words.now l.entries.count) (nodes (interleaved d.list.now) d.n) l.i ≡ Ok tt)
+    Filled (field_of d.prime) (interleaved d.list.now) d.n l.keyed.entries.words.now l.keyed.entries.count l.values l.i
+    × (inputs_check (entry_of entry_words l.keyed.entries.words.now l.keyed.entries.count) (nodes (interleaved d.list.now) d.n) l.i ≡ Ok tt)

@@ -1,10 +1,10 @@
 use Rattle.std.proofs.Common.{sym, ◌∙◌, arith}
 use Rattle.evaluate.specs.EntryLaws.{entry_inside, entry_room}
-use Rattle.evaluate.proofs.Entries.given.Goals as goal
+use Rattle.evaluate.proofs.KeyedEntries.given.Goals as goal
 
 pub element_at-requires : goal.element_at-requires
 element_at-requires g c =
-    (omega arith, (c.requires.0, entry_room _ _ _ c.requires.1.lent _ (entry_inside _ _ _ _ _ (sym c.in_ok-i.ensures))))
+    (omega arith, (c.requires, entry_room _ _ _ c.args.self.now.lookup.lent _ (entry_inside _ _ _ _ _ (sym c.in_ok-i.ensures))))
 
 pub returns-in_err-i : goal.returns-in_err-i
 returns-in_err-i g c = c.from_residual.ensures ∙ rw (← c.in_err-i.ensures)
