@@ -1,7 +1,7 @@
 -- The laws of sums over every s-th entry.
 use Prim.Native.Nat.{ℕ, zero, suc, ◌+◌, ◌*◌, ◌-◌, ◌/◌, ◌^◌, ◌≤◌, ◌<◌}
 use Rattle.std.specs.Prelude.{Bool, true, false, cond, List, ◌⊎◌, ◌≡◌, eqb, ltb, set, replicate}
-use Rattle.std.proofs.Common.{inl, inr, ◌∙◌, add_assoc, mul_comm, one-mul, mul-le-mul_right, le-mul_of_pos_right, add-one, lt-ltb, le-ltb, ltb-true, eqb-true, length-set, pow_pos, get_or-set_same, get_or-set_other}
+use Rattle.std.proofs.Common.{inl, inr, ◌∙◌, add_assoc, mul_comm, mul-le-mul_right, add-one, lt-ltb, le-ltb, ltb-true, eqb-true, get_or-set_same, get_or-set_other}
 use Rattle.std.proofs.Math.Path.{refl, sym, ap, ap₂, subst}
 use Rattle.std.proofs.Math.Nat.{two-pow-succ}
 use native.Mathlib.Omega.{arith}
@@ -135,9 +135,6 @@ module _ {o : Ops ℕ} (L : Laws o) where
               (ap (λ i. get_or from i 0) (add_assoc (round n j * (2 * s)) s r) ∙ word j (s + r) h (omega arith)))
 
 -- rows stay inside
-pub rows_fit : (s n : ℕ) → 0 < s → 2 * s * n ≤ 128 → 2 * n ≤ 128
-rows_fit s n pos h = omega (arith, le-mul_of_pos_right n pos)
-
 pub row_fits : (s n j m : ℕ) → 2 * s * n ≤ m → j < 2 * n → j * s + s ≤ m
 row_fits s n j m h l = omega (arith, mul-le-mul_right s l)
 
@@ -180,27 +177,6 @@ module _ (field : Field) where
       subst (λ t. LowTable field t) (fill_next 0 128 f (padded 0 128 (up_to f n)) n (f n) short refl refl ∙ ap (λ k. padded 0 128 (up_to f k)) (add-one n))
       (low_set (padded 0 128 (up_to f n)) n (f n) (omega (arith, length_padded 0 128 (up_to f n) (omega (arith, length_up_to f n)))) (low_filled f n (omega arith) (λ i h. low i (omega arith))) (low n (omega arith)))
 
-  -- a row is filled word by word
-  module _ (f : ℕ → ℕ) (old : List ℕ) (a : ℕ) where
-    pub row_none : LowTable field old → RowDone field f old a 0 old
-    row_none low = record { kept = λ i h. refl; filled = λ r h. absurd (omega arith); many = refl; low = low }
-
-    pub row_next : (s : ℕ) (t : List ℕ) (v : ℕ) → RowDone field f old a s t → a + s < length t → v ≡ f s → v < modulus field → RowDone field f old a (s + 1) (set t (a + s) v)
-    row_next s t v d room e h =
-        record {
-          kept = λ i l. get_or-set_other t (a + s) i v 0 (λ q. omega arith) ∙ d.kept i l;
-          filled = λ r l. go r (below_suc r s (omega arith));
-          many = length-set t (a + s) v ∙ d.many;
-          low = low_set t (a + s) v room d.low h;
-        }
-      where
-        go : (r : ℕ) → (r < s) ⊎ (r ≡ s) → get_or (set t (a + s) v) (a + r) 0 ≡ f r
-        go r (inl l) = get_or-set_other t (a + s) (a + r) v 0 (λ q. omega arith) ∙ d.filled r l
-        go r (inr q) = rw q (get_or-set_same t (a + s) v 0 room ∙ e)
-
-    pub row_all : (i s : ℕ) (t : List ℕ) → i ≤ s → s ≤ i → RowDone field f old a i t → RowDone field f old a s t
-    row_all i s t h l d = let e : i ≡ s = omega arith in subst (λ k. RowDone field f old a k t) e d
-
   -- the first m rows are made
   pub record Rows (from factors : List ℕ) (s n m : ℕ) (t : List ℕ) : Type 0 where
     pub at : (j r : ℕ) → j < m → r < s → get_or t (j * s + r) 0 ≡ joined field.coordinates from s (get_or factors (j * s) 0) (round n j * (2 * s)) r
@@ -217,9 +193,6 @@ module _ (field : Field) where
         go : (j r : ℕ) → r < s → (j < m) ⊎ (j ≡ m) → get_or t (j * s + r) 0 ≡ joined field.coordinates from s (get_or factors (j * s) 0) (round n j * (2 * s)) r
         go j r l (inl h) = e.kept (j * s + r) (omega (arith, mul-le-mul_right s h)) ∙ d.at j r h l
         go j r l (inr q) = rw (q, ← ex, ← ea) (e.filled r l)
-
-    pub rows_all : (m : ℕ) (t : List ℕ) → 2 * n ≤ m → Rows from factors s n m t → Halved field.coordinates from factors s n t × LowTable field t
-    rows_all m t h d = (record { at = λ j r l k. d.at j r (omega arith) k }, d.low)
 
   -- the column's powers are below p, and turn
   module _ (c : List ℕ) (col : Column (modulus field) c) where
@@ -283,12 +256,6 @@ module _ (field : Field) where
     pub low_powers : (f : List ℕ) (v : ℕ) → f ≡ powers field.coordinates v (length c) → LowTable field f
     unfolding powers
     low_powers f v e = rw e (low_up_to (pow field.coordinates v) (length c) (λ i _. low_pow (coordinate_laws field) v i))
-
-    pub reached_end : (s n : ℕ) (t : List ℕ) → s ≤ 1 → Reached field c s n t → Reached field c 1 (length c) t
-    reached_end s n t h d =
-        let one : s ≡ 1 = omega (arith, d.even.1, pow_pos d.even.0) in
-        let all : n ≡ length c = sym (one-mul n) ∙ (ap (λ k. k * n) (sym one) ∙ d.whole) in
-        subst (λ k. Reached field c 1 k t) all (subst (λ k. Reached field c k n t) one d)
 
     pub dense_told : (j h s r : ℕ) (t : List ℕ) → j < length c → Reached field c 1 (length c) t → h ≡ get_or t j 0 → s ≡ size_inverse field c → r ≡ field.coordinates.mul h s → r ≡ dense field c j
     unfolding dense

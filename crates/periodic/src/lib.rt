@@ -235,7 +235,7 @@ impl<'list, 'index, 'links> PeriodicBuilder<'list, 'index, 'links> {
         places: &[u64],
     ) -> Result<usize, Refusal>
         requires { Promises.AllInside self.old.inner.count zpow.now × Promises.Spans self.old.inner.prime terms.now.col.prime zpow.now terms.now.col.entries.now × Promises.AllInside (length terms.now.col.entries.now) places.now }
-        ensures { let c = terms.now.col.entries.now in Runs.Entering (Runs.held self.old) (λ field. Periodic.sparse_sum field.elements zpow.now (λ k. twiddle field c (get_or places.now k 0)) (log_length c) (λ k. scaled_value field c (get_or places.now k 0)) (length places.now)) (Runs.held self.new) result }
+        ensures { Runs.Entering (Runs.held self.old) (λ field. Promises.terms_at field terms.now.col.entries.now zpow.now places.now) (Runs.held self.new) result }
     {
         if places.is_empty() {
             return self.constant(0);
