@@ -1,10 +1,11 @@
 // builder.rs: what a request comes to, interning, Step and Build.
 #![tactic(auto)]
 
-ghost use Rattle.std.specs.Prelude.{◌≡◌, ◌/◌, ◌<◌, ◌≤◌, length, IfOk};
+ghost use Rattle.std.specs.Prelude.{◌≡◌, ◌/◌, ◌<◌, ◌≤◌, length};
 ghost use Rattle.field.specs.Fields.{field_of};
 ghost use Rattle.field.specs.Field.{elements};
 ghost use Rattle.dag.specs.View.{interleaved};
+ghost use Rattle.dag.specs.Held.{HeldOf};
 ghost use Rattle.dag.specs.Nodes as Nodes;
 ghost use Rattle.dag.specs.Refusals as Refusals;
 ghost use Rattle.dag.specs.Store as Store;
@@ -396,7 +397,7 @@ fn build_check<'a>(
     map_words: usize,
 ) -> Result<Dag<'a>, Refusal>
     ensures checked { Refusals.outcome result ≡ Calls.build_check (field_of prime) (interleaved list.now) n root result_room map_words }
-    ensures held { IfOk result (λ dag. (dag.prime ≡ prime) × (dag.list.now ≡ list.now) × (dag.n ≡ n)) }
+    ensures held { HeldOf prime list.now n result }
 {
     let dag = Dag::new(prime, list, n, root)?;
     dag::room_check(n, result_room)?;

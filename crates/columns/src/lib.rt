@@ -2,7 +2,7 @@
 #![tactic(auto)]
 
 ghost use Rattle.field.specs.Field.{modulus_of};
-ghost use Rattle.std.specs.Prelude.{◌≡◌, ℕ, ◌^◌, ◌<◌, ◌≤◌, length, IfOk, All};
+ghost use Rattle.std.specs.Prelude.{◌≡◌, ℕ, ◌^◌, ◌<◌, ◌≤◌, length, All};
 ghost use Rattle.dag.specs.Refusals as Refusals;
 ghost use Rattle.columns.specs.Columns as Spec;
 ghost use Rattle.columns.specs.Prepare as Prepare;
@@ -372,7 +372,7 @@ impl<'a> Columns<'a> {
     #[tactic(auto, using(crate::specs::PrepareLaws::in_order))]
     pub fn new(prime: Prime, lengths: &'a [u64], entries: &'a [u64]) -> Result<Columns<'a>, Refusal>
         ensures checked { Refusals.outcome result ≡ Prepare.prepare_check (modulus_of prime) lengths.now entries.now }
-        ensures columns { IfOk result (λ c. (c.prime ≡ prime) × (c.lengths.now ≡ lengths.now) × (c.entries.now ≡ entries.now)) }
+        ensures columns { Held.HeldOf prime lengths.now entries.now result }
     {
         if MOST_COLUMNS < lengths.len() {
             return Err(Refusal::TooManyColumns);

@@ -1,9 +1,10 @@
 // `AceDag::compact`: reachability marks, new places, Compact.
 #![tactic(auto)]
 
-ghost use Rattle.std.specs.Prelude.{◌≡◌, ◌++◌, ◌≤◌, length, drop, IfOk};
+ghost use Rattle.std.specs.Prelude.{◌≡◌, ◌++◌, ◌≤◌, length, drop};
 ghost use Rattle.field.specs.Fields.{field_of};
 ghost use Rattle.dag.specs.View.{interleaved};
+ghost use Rattle.dag.specs.Held.{HeldOf};
 ghost use Rattle.dag.specs.Nodes as Nodes;
 ghost use Rattle.dag.specs.Refusals.{outcome};
 ghost use Rattle.dag.specs.Roots.{roots_of, Inside};
@@ -142,7 +143,7 @@ fn compact_check<'a>(
     result_room: usize,
 ) -> Result<Dag<'a>, Refusal>
     ensures checked { outcome result ≡ Calls.compact_check (field_of prime) (interleaved list.now) n root result_room }
-    ensures held { IfOk result (λ dag. (dag.prime ≡ prime) × (dag.list.now ≡ list.now) × (dag.n ≡ n)) }
+    ensures held { HeldOf prime list.now n result }
 {
     let dag = Dag::new(prime, list, n, root)?;
     dag::room_check(n, result_room)?;

@@ -93,6 +93,17 @@ pub passes : (m : Bounds) (t a b i : ℕ) → Passed m t a b i → record_check 
 unfolding record_check
 passes m t a b i h = simp (le-leb t 5 h.known, h.form, h.order)
 
+-- the order of the operands is told by the record that words of a known tag stand for
+pub earlier_decoded : (t a b i : ℕ) → t ≤ 5 → earlier (tag (decode t a b)) (first (decode t a b)) (second (decode t a b)) i ≡ earlier t a b i
+unfolding decode earlier
+earlier_decoded zero a b i h = refl
+earlier_decoded (suc zero) a b i h = refl
+earlier_decoded (suc (suc zero)) a b i h = refl
+earlier_decoded (suc (suc (suc zero))) a b i h = refl
+earlier_decoded (suc (suc (suc (suc zero)))) a b i h = refl
+earlier_decoded (suc (suc (suc (suc (suc zero))))) a b i h = refl
+earlier_decoded (suc (suc (suc (suc (suc (suc t)))))) a b i h = absurd (omega arith)
+
 -- the record of words that pass has those words, and may stand there
 pub record Faithful (m : Bounds) (t a b i : ℕ) : Type 0 where
   pub tag_is : tag (decode t a b) ≡ t

@@ -8,6 +8,7 @@ pub mod WellFormed
 pub mod Arrays
 pub mod Roots
 pub mod Store
+pub mod Held
 pub mod BranchLaws
 pub mod CaseLaws
 pub mod KeyLaws

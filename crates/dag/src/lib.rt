@@ -1,7 +1,7 @@
 // The constraint DAG's records: key numbers, `NodeKind` and its three words, refusals, the list check and the lookup.
 #![tactic(auto)]
 
-ghost use Rattle.std.specs.Prelude.{◌≡◌, ℕ, ◌+◌, ◌*◌, ◌-◌, ◌^◌, ◌<◌, ◌≤◌, ltb, [], ◌∷◌, ◌++◌, length, get_or, take, replicate, IfOk};
+ghost use Rattle.std.specs.Prelude.{◌≡◌, ℕ, ◌+◌, ◌*◌, ◌-◌, ◌^◌, ◌<◌, ◌≤◌, ltb, [], ◌∷◌, ◌++◌, length, get_or, take, replicate};
 ghost use mathlib.Core.List as Lists;
 ghost use Rattle.field.specs.Fields.{field_of};
 ghost use Rattle.dag.specs.View.{interleaved};
@@ -164,13 +164,13 @@ pub fn lowest(prime: Prime, c0: u64, c1: u64) -> bool
     c0 < felt::modulus(prime) && c1 < felt::second_below(prime)
 }
 
-// Whether a record of a known tag may have these words.
+// Whether the record x may have these words, which it is decoded from.
 #[tactic(auto, unfolding(crate::specs::Nodes::decode, crate::specs::Check::formed))]
-fn formed(prime: Prime, w: Words) -> bool
-    requires { w.tag ≤ 5 }
+fn formed(prime: Prime, x: NodeKind, w: Words) -> bool
+    requires { (w.tag ≤ 5) × (x ≡ Nodes.decode w.tag w.first w.second) }
     ensures { result ≡ Check.formed (field_of prime).bounds w.tag w.first w.second }
 {
-    match NodeKind::from(w) {
+    match x {
         NodeKind::Input(k) => is_key(k) && w.second == 0,
         NodeKind::Constant(c) => lowest(prime, c.c0, c.c1),
         NodeKind::Neg(_) => w.second == 0,
@@ -178,26 +178,26 @@ fn formed(prime: Prime, w: Words) -> bool
     }
 }
 
-// Whether the operands of a record with these words, of a known tag, come before place i.
-fn earlier(w: Words, i: usize) -> bool
-    requires { w.tag ≤ 5 }
-    ensures { result ≡ Check.earlier w.tag w.first w.second i }
+// Whether a record's operands come before place i.
+fn earlier(x: NodeKind, i: usize) -> bool
+    ensures { result ≡ Check.earlier (Nodes.tag x) (Nodes.first x) (Nodes.second x) i }
 {
-    NodeKind::from(w).operands().iter().all(|a| *a < i)
+    x.operands().iter().all(|a| *a < i)
 }
 
 // The tests of one record at place i: 3, 4, 5.
-#[tactic(auto, unfolding(crate::specs::Check::record_check))]
+#[tactic(auto, using(crate::specs::CheckLaws::earlier_decoded), unfolding(crate::specs::Check::record_check))]
 pub fn record_check(prime: Prime, w: Words, i: usize) -> Result<(), Refusal>
     ensures { result ≡ Check.record_check (field_of prime).bounds w.tag w.first w.second i }
 {
     if LAST_TAG < w.tag {
         return Err(Refusal::UnknownTag(i));
     }
-    if !formed(prime, w) {
+    let x = NodeKind::from(w);
+    if !formed(prime, x, w) {
         return Err(Refusal::Malformed(i));
     }
-    if !earlier(w, i) {
+    if !earlier(x, i) {
         return Err(Refusal::OperandNotEarlier(i));
     }
     Ok(())
@@ -434,10 +434,12 @@ pub struct Dag<'a> {
 }
 
 impl<'a> Dag<'a> {
+    ghost use Rattle.dag.specs.Held.{HeldOf};
+
     // The list, if it passes the list check.
     pub fn new(prime: Prime, list: &'a [u64], n: usize, root: usize) -> Result<Dag<'a>, Refusal>
         ensures checked { Refusals.outcome result ≡ Check.list_check (field_of prime).bounds (interleaved list.now) n root }
-        ensures held { IfOk result (λ dag. (dag.prime ≡ prime) × (dag.list.now ≡ list.now) × (dag.n ≡ n)) }
+        ensures held { HeldOf prime list.now n result }
     {
         list_check(prime, list, n, root)?;
         Ok(Dag { prime, list, n })
@@ -446,7 +448,7 @@ impl<'a> Dag<'a> {
     // The list, if it passes the list check without a root; it may be empty.
     pub fn rootless(prime: Prime, list: &'a [u64], n: usize) -> Result<Dag<'a>, Refusal>
         ensures checked { Refusals.outcome result ≡ Check.rootless_check (field_of prime).bounds 0 (interleaved list.now) n }
-        ensures held { IfOk result (λ dag. (dag.prime ≡ prime) × (dag.list.now ≡ list.now) × (dag.n ≡ n)) }
+        ensures held { HeldOf prime list.now n result }
     {
         rootless_check(prime, list, n, 0)?;
         Ok(Dag { prime, list, n })

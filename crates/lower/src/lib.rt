@@ -1,7 +1,7 @@
 // Lower: the nodes of periodic columns on a list.
 #![tactic(auto)]
 
-ghost use Rattle.std.specs.Prelude.{◌≡◌, ◌+◌, ◌-◌, ◌<◌, ◌≤◌, length, take, replicate, IfOk};
+ghost use Rattle.std.specs.Prelude.{◌≡◌, ◌+◌, ◌-◌, ◌<◌, ◌≤◌, length, take, replicate};
 ghost use Rattle.field.specs.Fields.{field_of};
 ghost use Rattle.dag.specs.View.{interleaved};
 ghost use Rattle.dag.specs.Nodes.{blank, filled};
@@ -105,7 +105,7 @@ fn columns_check<'a>(
     place_words: usize,
 ) -> Result<Columns<'a>, Refusal>
     ensures checked { Refusals.outcome result ≡ Promises.columns_check (field_of prime) lengths.now entries.now period work_room place_words }
-    ensures columns { IfOk result (λ c. (c.prime ≡ prime) × (c.lengths.now ≡ lengths.now) × (c.entries.now ≡ entries.now)) }
+    ensures columns { Held.HeldOf prime lengths.now entries.now result }
 {
     let columns = Columns::new(prime, lengths, entries)?;
     lower_stores(lengths, work_room, place_words)?;

@@ -1,10 +1,11 @@
 // normalize.rs: a round, the rounds, Normalise.
 #![tactic(auto)]
 
-ghost use Rattle.std.specs.Prelude.{◌≡◌, ℕ, ◌*◌, ◌≤◌, length, IfOk};
+ghost use Rattle.std.specs.Prelude.{◌≡◌, ℕ, ◌*◌, ◌≤◌, length};
 ghost use Rattle.field.specs.Fields.{field_of};
 ghost use Rattle.field.specs.Field.{elements};
 ghost use Rattle.dag.specs.View.{interleaved};
+ghost use Rattle.dag.specs.Held.{HeldOf};
 ghost use Rattle.dag.specs.Nodes as Nodes;
 ghost use Rattle.dag.specs.Refusals.{outcome};
 ghost use Rattle.index.specs.Index.{half, NodeIndex};
@@ -193,7 +194,7 @@ fn normalize_check<'a>(
     work_room: usize,
 ) -> Result<Dag<'a>, Refusal>
     ensures checked { outcome result ≡ Calls.normalize_check (field_of prime) (interleaved list.now) n root result_room work_room }
-    ensures held { IfOk result (λ dag. (dag.prime ≡ prime) × (dag.list.now ≡ list.now) × (dag.n ≡ n)) }
+    ensures held { HeldOf prime list.now n result }
 {
     let dag = Dag::new(prime, list, n, root)?;
     dag::room_check(n, result_room)?;
