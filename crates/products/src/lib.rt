@@ -59,8 +59,8 @@ fn independent(prime: Prime, words: &[u64]) -> u64
     ensures { result ≡ Products.independent prime words.now (length words.now - 1) }
 {
     let mut sum: u64 = 0;
-    for i in 0..words.len().saturating_sub(1) {
-        sum = sum.wrapping_add(product(prime, words[i], words[i + 1]));
+    for pair in words.windows(2) {
+        sum = sum.wrapping_add(product(prime, pair[0], pair[1]));
     }
     sum
 }
