@@ -234,7 +234,7 @@ fn basis_front(
     requires { (point < builder.old.inner.count) × (col.prime ≡ builder.old.inner.prime) × Promises.Roots (field_of col.prime) col.entries.now roots.now }
     ensures { let c = col.entry in Runs.Entering (Runs.held builder.old) (λ field. Periodic.basis_front field c.entries.now point) (Runs.held builder.new) result }
 {
-    let scale = coefficients::size_inverse(col);
+    let scale = coefficients::size_inverse(col.prime, col.entries);
     let factors = basis_factors(builder, point, roots, col)?;
     let start = builder.constant(scale)?;
     let prefix = builder.chain::<MOST_ENTRIES>(start, &factors[..factors.len() - 1])?;
@@ -246,7 +246,7 @@ pub fn basis_value(builder: &mut PeriodicBuilder, col: Column, k: usize) -> Resu
     requires { col.prime ≡ builder.old.inner.prime }
     ensures { let c = col.entry in Runs.Entering (Runs.held builder.old) (λ field. Periodic.basis_value field c.entries.now k) (Runs.held builder.new) result }
 {
-    let roots = coefficients::roots(col);
+    let roots = coefficients::roots(col.prime, col.entries);
     let z = builder.z_power(k)?;
     basis_front(builder, z, &roots, col)
 }

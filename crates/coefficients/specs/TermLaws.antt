@@ -15,7 +15,7 @@ use Rattle.ring.specs.Power.{pow, pow_zero, pow_suc, pow_add, pow_mul}
 use Rattle.columns.specs.Columns.{log_length, count, others, places_from, support}
 use Rattle.dag.specs.Arrays.{up_to, padded}
 use Rattle.dag.specs.ArrayLaws.{length_up_to}
-use Rattle.coefficients.specs.Terms.{root_inverse, twiddle}
+use Rattle.coefficients.specs.Terms.{root_inverse, size_inverse, scaled_value, twiddle}
 use Rattle.coefficients.specs.Arrays.{placed, squares, copied, twiddles}
 
 up_to_cong : {A : Type 0} (f g : ℕ → A) (n : ℕ) → ((i : ℕ) → f i ≡ g i) → up_to f n ≡ up_to g n
@@ -125,11 +125,17 @@ module _ (field : Field) where
   pub square_next : (a x i r : ℕ) → x ≡ pow field.coordinates a (2 ^ i) → r ≡ field.coordinates.mul x x → r ≡ pow field.coordinates a (2 ^ (i + 1))
   square_next a x i r ex er = rw (add-one i, two-pow-succ i) (er ∙ (ap₂ field.coordinates.mul ex ex ∙ sym (pow_add (coordinate_laws field) a (2 ^ i) (2 ^ i))))
 
-  -- the twiddles of the term of entry j
-  pub twiddles_told : (c : List ℕ) (j v b L : ℕ) (row : List ℕ) → v ≡ root_inverse field c → b ≡ pow field.coordinates v j → L ≡ log_length c → row ≡ squares field.coordinates b L → row ≡ twiddles field c j
+  -- the twiddles of the term at place j
+  pub row_told : (c : List ℕ) (k j v b L : ℕ) (row : List ℕ) → j ≡ get_or (support c) k 0 → v ≡ root_inverse field c → b ≡ pow field.coordinates v j → L ≡ log_length c → row ≡ squares field.coordinates b L
+      → row ≡ twiddles field c k
   unfolding squares twiddles twiddle
-  twiddles_told c j v b L row ev eb eL er =
-      er ∙ (ap (λ n. squares field.coordinates b n) eL ∙ up_to_cong (λ i. pow field.coordinates b (2 ^ i)) (λ i. pow field.coordinates (root_inverse field c) (j * 2 ^ i)) (log_length c) one)
+  row_told c k j v b L row ej ev eb eL er =
+      er ∙ (ap (λ n. squares field.coordinates b n) eL ∙ ap (padded 0 7) (up_to_cong (λ i. pow field.coordinates b (2 ^ i)) (λ i. pow field.coordinates (root_inverse field c) (get_or (support c) k 0 * 2 ^ i)) (log_length c) one))
     where
-      one : (i : ℕ) → pow field.coordinates b (2 ^ i) ≡ pow field.coordinates (root_inverse field c) (j * 2 ^ i)
-      one i = rw (eb, ev) (sym (pow_mul (coordinate_laws field) (root_inverse field c) j (2 ^ i)))
+      one : (i : ℕ) → pow field.coordinates b (2 ^ i) ≡ pow field.coordinates (root_inverse field c) (get_or (support c) k 0 * 2 ^ i)
+      one i = rw (eb, ev, ej) (sym (pow_mul (coordinate_laws field) (root_inverse field c) (get_or (support c) k 0) (2 ^ i)))
+
+  -- the scaled value of the term at a place of the list ps
+  pub value_told : (c ps : List ℕ) (k s r : ℕ) → ps ≡ support c → s ≡ size_inverse field c → r ≡ field.coordinates.mul (get_or c (get_or ps k 0) 0) s → r ≡ scaled_value field c (get_or (support c) k 0)
+  unfolding scaled_value
+  value_told c ps k s r ep es er = er ∙ rw (ep, es)

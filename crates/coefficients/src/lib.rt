@@ -39,14 +39,10 @@ fn root_inverse(col: Column) -> u64
 }
 
 // The inverse of the number of rows.
-pub fn size_inverse(col: Column) -> u64
-    ensures { let c = col.entry in (result ≡ Terms.size_inverse (field_of c.prime) c.entries.now) × (result < modulus_of c.prime) }
+pub fn size_inverse(prime: Prime, col: &[u64]) -> u64
+    ensures { (result ≡ Terms.size_inverse (field_of prime) col.now) × (result < modulus_of prime) }
 {
-    felt::pow(
-        col.prime,
-        felt::half(col.prime),
-        columns::log_length(col.entries) as u64,
-    )
+    felt::pow(prime, felt::half(prime), columns::log_length(col) as u64)
 }
 
 // base^0, base^1, .., base^(n − 1).
@@ -64,13 +60,14 @@ fn powers(prime: Prime, base: u64, n: usize) -> ArrayVec<u64, MOST_ENTRIES>
 }
 
 // w^k for each row k.
-pub fn roots(col: Column) -> ArrayVec<u64, MOST_ENTRIES>
-    ensures { let c = col.entry in result.items ≡ Arrays.roots (field_of c.prime) c.entries.now }
+pub fn roots(prime: Prime, col: &[u64]) -> ArrayVec<u64, MOST_ENTRIES>
+    requires { length col.now ≤ 128 }
+    ensures { result.items ≡ Arrays.roots (field_of prime) col.now }
 {
     powers(
-        col.prime,
-        felt::two_adic_generator(col.prime, columns::log_length(col.entries)),
-        col.entries.len(),
+        prime,
+        felt::two_adic_generator(prime, columns::log_length(col)),
+        col.len(),
     )
 }
 
@@ -149,7 +146,7 @@ fn sums(col: Column) -> [u64; MOST_ENTRIES]
 pub fn dense(col: Column) -> ArrayVec<u64, MOST_ENTRIES>
     ensures { let c = col.entry in result.items ≡ Arrays.coefficients (field_of c.prime) c.entries.now }
 {
-    let scale = size_inverse(col);
+    let scale = size_inverse(col.prime, col.entries);
     let sums = sums(col);
     let mut coefficients = ArrayVec::new();
     for j in 0..col.entries.len() {
@@ -172,56 +169,43 @@ pub fn support<const N: usize>(col: &[u64]) -> ArrayVec<u64, N>
     places
 }
 
-// The powers base, base^2, base^4, .. below base^(2^log).
-fn squares(prime: Prime, base: u64, log: usize) -> ArrayVec<u64, MOST_TWIDDLES>
+// The powers base, base^2, base^4, .. below base^(2^log), then 0.
+fn squares(prime: Prime, base: u64, log: usize) -> [u64; MOST_TWIDDLES]
     requires { (base < modulus_of prime) × (log ≤ 7) }
-    ensures { result.items ≡ Arrays.squares (felt prime) base log }
+    ensures { result ≡ Arrays.squares (felt prime) base log }
 {
-    let mut squares = ArrayVec::new();
+    let mut row = [0u64; MOST_TWIDDLES];
     let mut power = base;
-    for _ in 0..log {
-        squares.push(power);
+    for i in 0..log {
+        row[i] = power;
         power = felt::mul(prime, power, power);
     }
-    squares
+    row
 }
 
-// A column with the inverses of w and of the number of its rows, from which its sparse terms are worked out.
-#[derive(Clone, Copy)]
-pub struct SparseTerms<'a> {
-    pub col: Column<'a>,
-    step: u64,
-    scale: u64,
-    ghost stepped: { (step ≡ Terms.root_inverse (field_of col.prime) col.entries.now) × (step < modulus_of col.prime) },
-    ghost scaled: { (scale ≡ Terms.size_inverse (field_of col.prime) col.entries.now) × (scale < modulus_of col.prime) },
+// The twiddles of a sparse column's terms, at these places.
+pub fn sparse_twiddles(col: Column, places: &[u64]) -> [[u64; MOST_TWIDDLES]; MOST_TERMS]
+    requires { Arrays.Places col.entries.now places.now }
+    ensures { let c = col.entry in result ≡ Arrays.sparse_twiddles (field_of c.prime) c.entries.now }
+{
+    let step = root_inverse(col);
+    let log = columns::log_length(col.entries);
+    let mut rows = [[0u64; MOST_TWIDDLES]; MOST_TERMS];
+    for (k, place) in places.iter().enumerate() {
+        rows[k] = squares(col.prime, felt::pow(col.prime, step, *place), log);
+    }
+    rows
 }
 
-impl<'a> SparseTerms<'a> {
-    // The terms of a column.
-    pub fn new(col: Column<'a>) -> SparseTerms<'a>
-        ensures { result.col ≡ col.entry }
-    {
-        SparseTerms {
-            col,
-            step: root_inverse(col),
-            scale: size_inverse(col),
-        }
+// The scaled values of a sparse column's terms, at these places.
+pub fn sparse_values(col: Column, places: &[u64]) -> ArrayVec<u64, MOST_TERMS>
+    requires { Arrays.Places col.entries.now places.now }
+    ensures { let c = col.entry in result.items ≡ Arrays.sparse_values (field_of c.prime) c.entries.now }
+{
+    let scale = size_inverse(col.prime, col.entries);
+    let mut values = ArrayVec::new();
+    for place in places {
+        values.push(felt::mul(col.prime, col.entries[*place as usize], scale));
     }
-
-    // The twiddles of the term of entry j.
-    pub fn twiddles(&self, j: usize) -> ArrayVec<u64, MOST_TWIDDLES>
-        ensures { let c = self.now.col in result.items ≡ Arrays.twiddles (field_of c.prime) c.entries.now j }
-    {
-        let prime = self.col.prime;
-        let base = felt::pow(prime, self.step, j as u64);
-        squares(prime, base, columns::log_length(self.col.entries))
-    }
-
-    // The scaled value of the term of entry j.
-    pub fn value(&self, j: usize) -> u64
-        requires { j < length self.now.col.entries.now }
-        ensures { let c = self.now.col in (result ≡ Terms.scaled_value (field_of c.prime) c.entries.now j) × (result < modulus_of c.prime) }
-    {
-        felt::mul(self.col.prime, self.col.entries[j], self.scale)
-    }
+    values
 }

@@ -1,15 +1,15 @@
 -- A column's value, from the parts that its code runs.
-use Rattle.std.specs.Prelude.{ℕ, true, List, ◌≡◌, get_or, length}
+use Rattle.std.specs.Prelude.{ℕ, true, List, [], ◌≡◌, get_or, length}
 use Rattle.field.specs.Fields.{Field}
 use Rattle.field.specs.Field.{modulus_of}
 use Rattle.field.specs.declared.Prime.{Prime}
-use Rattle.columns.specs.Columns.{log_length}
+use Rattle.columns.specs.Columns.{log_length, support}
 use Rattle.columns.specs.Prepare.{all_below}
-use Rattle.coefficients.specs.Terms.{dense, twiddle}
-use Rattle.coefficients.specs.Arrays.{coefficients, twiddles}
-use Rattle.periodic.specs.Periodic.{constants, sparse_factor}
-use Rattle.periodic.specs.SameLaws.{Same, same_constants, same_factor}
-use Rattle.periodic.specs.NumberLaws.{dense_at, length_dense, twiddle_at, length_twiddles}
+use Rattle.coefficients.specs.Terms.{dense, scaled_value, twiddle}
+use Rattle.coefficients.specs.Arrays.{coefficients, sparse_twiddles, sparse_values}
+use Rattle.periodic.specs.Periodic.{constants, sparse_sum}
+use Rattle.periodic.specs.SameLaws.{Same, same_constants, same_sum}
+use Rattle.periodic.specs.NumberLaws.{dense_at, length_dense, twiddle_at, value_at, length_values}
 
 -- numbers below the modulus, under the same prime
 pub all_below_later : {p q : Prime} (ns : List ℕ) → p ≡ q → all_below (modulus_of q) ns ≡ true → all_below (modulus_of p) ns ≡ true
@@ -23,9 +23,11 @@ module _ (field : Field) (c : List ℕ) where
       rw (length_dense field c numbers e)
       (same_constants field.elements (λ j. get_or numbers j 0) (dense field c) (length c) (λ j h. dense_at field c numbers e j h))
 
-  -- the factor of the term of entry j
-  pub factor_same : (zpow row : List ℕ) (j : ℕ) → row ≡ twiddles field c j
-      → Same (sparse_factor field.elements zpow (λ i. get_or row i 0) (length row)) (sparse_factor field.elements zpow (twiddle field c j) (log_length c))
-  factor_same zpow row j e =
-      rw (length_twiddles field c row j e)
-      (same_factor field.elements zpow (λ i. get_or row i 0) (twiddle field c j) (log_length c) (λ i h. twiddle_at field c row j e i h))
+  -- the sparse terms of a column
+  pub sparse_same : (zpow : List ℕ) (rows : List (List ℕ)) (values : List ℕ) (log : ℕ) → rows ≡ sparse_twiddles field c → values ≡ sparse_values field c → log ≡ log_length c
+      → Same (sparse_sum field.elements zpow (λ k i. get_or (get_or rows k []) i 0) log (λ k. get_or values k 0) (length values))
+      (sparse_sum field.elements zpow (λ i. twiddle field c (get_or (support c) i 0)) (log_length c) (λ i. scaled_value field c (get_or (support c) i 0)) (length (support c)))
+  sparse_same zpow rows values log er ev el =
+      rw (el, length_values field c values ev)
+      (same_sum field.elements zpow (λ k i. get_or (get_or rows k []) i 0) (λ i. twiddle field c (get_or (support c) i 0)) (log_length c) (λ k. get_or values k 0) (λ i. scaled_value field c (get_or (support c) i 0)) (length (support c))
+      (λ k h i j. twiddle_at field c rows k i er h j) (λ k h. value_at field c values k ev h))

@@ -10,15 +10,13 @@ ghost use Rattle.dag.specs.Store.{Sound};
 ghost use Rattle.dag.specs.WellFormed.{Fine};
 ghost use Rattle.index.specs.Index.{half, NodeIndex};
 ghost use Rattle.columns.specs.Prepare.{all_below};
-ghost use Rattle.columns.specs.Columns.{log_length};
-ghost use Rattle.coefficients.specs.Terms.{twiddle, scaled_value};
 ghost use Rattle.periodic.specs.Builder as Builder;
 ghost use Rattle.periodic.specs.Periodic as Periodic;
 ghost use Rattle.periodic.specs.Promises as Promises;
 
 use arrayvec::ArrayVec;
 use builder::{DagBuilder, Outcome};
-use coefficients::{MOST_TERMS, SparseTerms};
+use coefficients::{MOST_TERMS, MOST_TWIDDLES};
 use columns::{Column, MOST_ENTRIES};
 use dag::{Dag, NodeKind, Refusal};
 use field::{Prime, QuadFelt};
@@ -200,49 +198,55 @@ impl<'list, 'index, 'links> PeriodicBuilder<'list, 'index, 'links> {
     }
 
     // The product of 1 + twiddle · power over the powers of the column's point.
-    fn sparse_factor(&mut self, zpow: &[usize], twiddles: &[u64]) -> Result<usize, Refusal>
-        requires { Promises.AllInside self.old.inner.count zpow.now × (all_below (modulus_of self.old.inner.prime) twiddles.now ≡ true) × (length twiddles.now ≤ length zpow.now) }
-        ensures { Runs.Entering (Runs.held self.old) (λ field. Periodic.sparse_factor field.elements zpow.now (λ i. get_or twiddles.now i 0) (length twiddles.now)) (Runs.held self.new) result }
+    fn sparse_factor(
+        &mut self,
+        zpow: &[usize],
+        row: [u64; MOST_TWIDDLES],
+        log: usize,
+    ) -> Result<usize, Refusal>
+        requires { Promises.AllInside self.old.inner.count zpow.now × Promises.Row (field_of self.old.inner.prime) row log × (log ≤ length zpow.now) }
+        ensures { Runs.Entering (Runs.held self.old) (λ field. Periodic.sparse_factor field.elements zpow.now (λ i. get_or row i 0) log) (Runs.held self.new) result }
     {
         let mut factor = self.constant(1)?;
-        for i in 0..twiddles.len() {
-            factor = self.sparse_turn(twiddles[i], zpow[i], factor)?;
+        for i in 0..log {
+            factor = self.sparse_turn(row[i], zpow[i], factor)?;
         }
         Ok(factor)
     }
 
-    // The sparse term of entry j.
+    // A sparse term.
     fn sparse_term(
         &mut self,
         zpow: &[usize],
-        terms: &SparseTerms,
-        j: usize,
+        row: [u64; MOST_TWIDDLES],
+        log: usize,
+        value: u64,
     ) -> Result<usize, Refusal>
-        requires { Promises.AllInside self.old.inner.count zpow.now × Promises.Spans self.old.inner.prime terms.now.col.prime zpow.now terms.now.col.entries.now × (j < length terms.now.col.entries.now) }
-        ensures { let c = terms.now.col.entries.now in Runs.Entering (Runs.held self.old) (λ field. Periodic.sparse_term field.elements zpow.now (twiddle field c j) (log_length c) (scaled_value field c j)) (Runs.held self.new) result }
+        requires { Promises.AllInside self.old.inner.count zpow.now × Promises.Row (field_of self.old.inner.prime) row log × (log ≤ length zpow.now) × (value < modulus_of self.old.inner.prime) }
+        ensures { Runs.Entering (Runs.held self.old) (λ field. Periodic.sparse_term field.elements zpow.now (λ i. get_or row i 0) log value) (Runs.held self.new) result }
     {
-        let twiddles = terms.twiddles(j);
-        let factor = self.sparse_factor(zpow, &twiddles)?;
-        let scaled = self.constant(terms.value(j))?;
+        let factor = self.sparse_factor(zpow, row, log)?;
+        let scaled = self.constant(value)?;
         self.mul(scaled, factor)
     }
 
-    // The sum of the sparse terms of the entries at these places.
+    // The sum of the sparse terms of these twiddles and values.
     fn sparse_sum(
         &mut self,
         zpow: &[usize],
-        terms: &SparseTerms,
-        places: &[u64],
+        rows: [[u64; MOST_TWIDDLES]; MOST_TERMS],
+        log: usize,
+        values: &[u64],
     ) -> Result<usize, Refusal>
-        requires { Promises.AllInside self.old.inner.count zpow.now × Promises.Spans self.old.inner.prime terms.now.col.prime zpow.now terms.now.col.entries.now × Promises.AllInside (length terms.now.col.entries.now) places.now }
-        ensures { Runs.Entering (Runs.held self.old) (λ field. Promises.terms_at field terms.now.col.entries.now zpow.now places.now) (Runs.held self.new) result }
+        requires { Promises.AllInside self.old.inner.count zpow.now × Promises.Rows (field_of self.old.inner.prime) rows log values.now (length values.now) × (log ≤ length zpow.now) }
+        ensures { Runs.Entering (Runs.held self.old) (λ field. Periodic.sparse_sum field.elements zpow.now (λ k i. get_or (get_or rows k []) i 0) log (λ k. get_or values.now k 0) (length values.now)) (Runs.held self.new) result }
     {
-        if places.is_empty() {
+        if values.is_empty() {
             return self.constant(0);
         }
-        let mut sum = self.sparse_term(zpow, terms, places[0] as usize)?;
-        for k in 1..places.len() {
-            let term = self.sparse_term(zpow, terms, places[k] as usize)?;
+        let mut sum = self.sparse_term(zpow, rows[0], log, values[0])?;
+        for k in 1..values.len() {
+            let term = self.sparse_term(zpow, rows[k], log, values[k])?;
             sum = self.add(sum, term)?;
         }
         Ok(sum)
@@ -254,9 +258,12 @@ impl<'list, 'index, 'links> PeriodicBuilder<'list, 'index, 'links> {
         ensures { let c = col.entry in Runs.Entering (Runs.held self.old) (λ field. Periodic.sparse_value field c.entries.now k) (Runs.held self.new) result }
     {
         let places = coefficients::support::<MOST_TERMS>(col.entries);
+        let rows = coefficients::sparse_twiddles(col, &places);
+        let values = coefficients::sparse_values(col, &places);
+        let log = columns::log_length(col.entries);
         let z = self.z_power(k)?;
-        let zpow = self.powers(z, columns::log_length(col.entries))?;
-        self.sparse_sum(&zpow, &SparseTerms::new(col), &places)
+        let zpow = self.powers(z, log)?;
+        self.sparse_sum(&zpow, rows, log, &values)
     }
 
     // The value of a dense column whose point is ZK squared k times.

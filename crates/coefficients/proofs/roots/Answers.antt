@@ -9,5 +9,5 @@ use Rattle.coefficients.proofs.roots.Goals as goal
 pub returns : goal.returns
 unfolding Arrays.powers Arrays.roots Terms.root
 returns c =
-    c.powers.ensures ∙ ap (λ w. Arrays.powers (felt c.args.col.prime) w (length c.args.col.entries.now))
-    (c.two_adic_generator.ensures.0 ∙ ap (generator c.args.col.prime) c.log_length.ensures.0)
+    c.powers.ensures ∙ ap (λ w. Arrays.powers (felt c.args.prime) w (length c.args.col.now))
+    (c.two_adic_generator.ensures.0 ∙ ap (generator c.args.prime) c.log_length.ensures.0)

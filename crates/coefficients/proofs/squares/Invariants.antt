@@ -1,11 +1,11 @@
--- The invariant: the powers so far, and power is the next.
+-- The invariant: the places before i are filled, and power is the next entry.
 use Prim.Native.Nat.{◌^◌, ◌<◌}
 use mathlib.Core.Path.{◌≡◌}
 use Rattle.ring.specs.Power.{pow}
 use Rattle.field.specs.Field.{modulus_of, felt}
-use Rattle.dag.specs.Arrays.{up_to}
+use Rattle.dag.specs.Arrays as Padded
 use Rattle.coefficients.proofs.squares.Given as goal
 
-abbrev pub invariant-loop : goal.invariant-loop
-invariant-loop l =
-    (l.squares.items ≡ up_to (λ k. pow (felt l.prime) l.base (2 ^ k)) l.counter) × (l.power ≡ pow (felt l.prime) l.base (2 ^ l.counter)) × (l.power < modulus_of l.prime)
+abbrev pub invariant-loop-i : goal.invariant-loop-i
+invariant-loop-i l =
+    (l.row ≡ Padded.padded 0 7 (Padded.up_to (λ k. pow (felt l.prime) l.base (2 ^ k)) l.i)) × (l.power ≡ pow (felt l.prime) l.base (2 ^ l.i)) × (l.power < modulus_of l.prime)

@@ -1,7 +1,5 @@
 use Rattle.std.proofs.Common.{◌∙◌}
 use native.Mathlib.Omega.{arith}
-use Rattle.field.specs.Field.{modulus_of}
-use Rattle.columns.specs.ClassLaws.{below_at}
 use Rattle.periodic.specs.Periodic as Periodic
 use Rattle.periodic.specs.RunLaws.{long_first, then_long, then_enter, turn_long, enter_none, enter_next, enter_all, all_later, below_later, refused}
 use Rattle.periodic.proofs.PeriodicBuilder.sparse_factor.Goals as goal
@@ -15,7 +13,7 @@ loop-i-init c = enter_none _ _ _ c.in_ok-factor.ensures.told.inside
 
 pub sparse_turn-requires : goal.sparse_turn-requires
 sparse_turn-requires c = (
-  below_later (c.loop-i.invariant.ran.prime_is ∙ c.in_ok-factor.ensures.told.ran.prime_is) (below_at (modulus_of c.args.self.now.inner.prime) _ _ c.requires.1 c.loop-i-test.true),
+  below_later (c.loop-i.invariant.ran.prime_is ∙ c.in_ok-factor.ensures.told.ran.prime_is) (c.requires.1.low _ c.loop-i-test.true),
   (all_later c.loop-i.invariant.ran.longer (all_later c.in_ok-factor.ensures.told.ran.longer c.requires.0)).at _ (omega arith),
   c.loop-i.invariant.inside,
 )

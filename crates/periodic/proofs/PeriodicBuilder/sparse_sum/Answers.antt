@@ -5,7 +5,8 @@ use Rattle.std.proofs.Common.{length, sym, ◌∙◌, eqb-true}
 use Rattle.std.proofs.lemmas.Bool.{eqb-false}
 use Rattle.periodic.specs.Periodic as Periodic
 use Rattle.periodic.specs.SameLaws.{sum_none, sum_some}
-use Rattle.periodic.specs.RunLaws.{long_first, then_long, then_enter, then_entered, turn_long, enter_none, enter_next, enter_all, enter_as, long_as, all_later, refused}
+use Rattle.periodic.specs.NumberLaws.{row_later}
+use Rattle.periodic.specs.RunLaws.{long_first, then_long, then_enter, then_entered, turn_long, enter_none, enter_next, enter_all, enter_as, long_as, all_later, below_later, refused}
 use Rattle.periodic.proofs.PeriodicBuilder.sparse_sum.Goals as goal
 
 pub returns-then-is_empty : goal.returns-then-is_empty
@@ -18,14 +19,18 @@ pub loop-k-init : goal.loop-k-init
 loop-k-init c = enter_none _ _ _ c.in_ok-sum.ensures.told.inside
 
 pub sparse_term-requires : goal.sparse_term-requires
-sparse_term-requires c = (c.requires.0, c.requires.1, c.requires.2.at _ (omega (arith, eqb-false (length c.args.places.now) 0 (sym c.is_empty.ensures ∙ c.if-is_empty.false))))
+sparse_term-requires c =
+    let some = eqb-false (length c.args.values.now) 0 (sym c.is_empty.ensures ∙ c.if-is_empty.false) in
+    (c.requires.0, c.requires.1.low _ (omega (arith, some)), c.requires.2, c.requires.1.scaled _ (omega (arith, some)))
 
 pub sparse_term-requires-in-loop-k : goal.sparse_term-requires-in-loop-k
-sparse_term-requires-in-loop-k c = (
-  all_later c.loop-k.invariant.ran.longer (all_later c.in_ok-sum.ensures.told.ran.longer c.requires.0),
-  record { same = c.requires.1.same ∙ sym (c.loop-k.invariant.ran.prime_is ∙ c.in_ok-sum.ensures.told.ran.prime_is); long = c.requires.1.long },
-  c.requires.2.at _ c.loop-k-test.true,
-)
+sparse_term-requires-in-loop-k c =
+    let e = c.loop-k.invariant.ran.prime_is ∙ c.in_ok-sum.ensures.told.ran.prime_is in (
+      all_later c.loop-k.invariant.ran.longer (all_later c.in_ok-sum.ensures.told.ran.longer c.requires.0),
+      row_later _ _ e (c.requires.1.low _ c.loop-k-test.true),
+      c.requires.2,
+      below_later e (c.requires.1.scaled _ c.loop-k-test.true),
+    )
 
 pub returns-in_err-term : goal.returns-in_err-term
 unfolding Periodic.sum_turn
@@ -50,6 +55,6 @@ loop-k-preserved c =
 
 pub returns : goal.returns
 returns c =
-    let some = eqb-false (length c.args.places.now) 0 (sym c.is_empty.ensures ∙ c.if-is_empty.false) in
+    let some = eqb-false (length c.args.values.now) 0 (sym c.is_empty.ensures ∙ c.if-is_empty.false) in
     enter_as (sum_some _ _ _ _ _ some)
     (then_enter _ c.in_ok-sum.ensures.told.ran (enter_all _ _ _ (omega (arith, some)) (omega (arith, some)) c.loop-k.invariant))
