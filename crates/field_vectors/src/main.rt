@@ -34,8 +34,8 @@ fn word(s: &[u8], at: usize) -> u64
     ensures { result ≡ Vectors.digits s.now at 16 }
 {
     let mut n: u64 = 0;
-    for i in 0..16 {
-        n = n * 16 + nibble(s[at + i]);
+    for b in &s[at..at + 16] {
+        n = n * 16 + nibble(*b);
     }
     n
 }

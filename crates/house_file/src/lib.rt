@@ -28,8 +28,8 @@ pub fn number(file: &[u8], at: usize, k: usize) -> u64
     ensures { result ≡ File.number file.now at k }
 {
     let mut value = 0;
-    for i in 0..k {
-        value = value * 256 + u64::from(file[at + i]);
+    for byte in &file[at..at + k] {
+        value = value * 256 + u64::from(*byte);
     }
     value
 }
