@@ -244,6 +244,19 @@ fn request_outcome(prime: Prime, list: &[u64], n: usize, x: NodeKind) -> Outcome
     }
 }
 
+// The place of a request's result among the first n records, or the new record that it needs, by the list's index.
+#[tactic(auto, unfolding(crate::specs::Promises::resolved, crate::specs::Promises::found_or_new))]
+pub fn resolve(prime: Prime, list: &[u64], n: usize, links: &[u64], x: NodeKind) -> Outcome
+    requires { Promises.Request (field_of prime) (interleaved list.now) n x × NodeIndex (Nodes.nodes (interleaved list.now) n) links.now }
+    ensures { result ≡ Promises.resolved (field_of prime) (Nodes.nodes (interleaved list.now) n) n x }
+{
+    let outcome = request_outcome(prime, list, n, x);
+    match outcome {
+        Outcome::Place(_) => outcome,
+        Outcome::Node(y) => index::find(list, n, links, y).map_or(outcome, Outcome::Place),
+    }
+}
+
 // A list that is built: its first `count` records, and their index.
 #[derive(Drop)]
 pub struct DagBuilder<'list, 'index, 'links> {
@@ -275,20 +288,11 @@ impl<'list, 'index, 'links> DagBuilder<'list, 'index, 'links> {
     }
 
     // The place of a request's result, or the new record that it needs, by the index.
-    #[tactic(auto, unfolding(crate::specs::Promises::resolved, crate::specs::Promises::found_or_new))]
     pub fn resolve(&self, x: NodeKind) -> Outcome
         requires { Promises.Request (field_of self.now.prime) (interleaved self.now.list.now) self.now.count x × NodeIndex (Nodes.nodes (interleaved self.now.list.now) self.now.count) self.now.index.now.links.now }
         ensures { result ≡ Promises.resolved (field_of self.now.prime) (Nodes.nodes (interleaved self.now.list.now) self.now.count) self.now.count x }
     {
-        let outcome = request_outcome(self.prime, self.list, self.count, x);
-        match outcome {
-            Outcome::Place(_) => outcome,
-            Outcome::Node(y) => {
-                self.index
-                    .find(self.list, self.count, y)
-                    .map_or(outcome, Outcome::Place)
-            }
-        }
+        resolve(self.prime, self.list, self.count, self.index.as_slice(), x)
     }
 
     // Appends a new record and notes it in the index; answers its place.

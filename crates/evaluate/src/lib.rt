@@ -141,19 +141,20 @@ impl<const WIDTH: usize> Entries<'_, WIDTH> {
 
 // Entries, and the index of their keys.
 #[derive(Clone, Copy)]
-struct KeyedEntries<'a, 'index, 'links, const WIDTH: usize> {
+struct KeyedEntries<'a, 'links, const WIDTH: usize> {
     entries: Entries<'a, WIDTH>,
-    index: &'index PlaceIndex<'links>,
-    ghost lookup: { KeyIndex.Lookup WIDTH entries.words.now entries.count index.now.links.now },
+    links: &'links [u64],
+    ghost lookup: { KeyIndex.Lookup WIDTH entries.words.now entries.count links.now },
 }
 
-impl<const WIDTH: usize> KeyedEntries<'_, '_, '_, WIDTH> {
+impl<const WIDTH: usize> KeyedEntries<'_, '_, WIDTH> {
     // The last entry of a key, along its bucket; behind many others of the bucket by the plain search.
     fn find(&self, key: u64) -> Option<usize>
         ensures { result ≡ Places.entry_of WIDTH self.now.entries.words.now self.now.entries.count key }
     {
-        self.index.walk(
-            self.index.bucket(words_of_key(key)),
+        index::walk(
+            self.links,
+            index::bucket(self.links, words_of_key(key)),
             |i: usize| -> bool
                 requires { WIDTH * i < length self.now.entries.words.now }
                 ensures { result ≡ nat_eq (Places.key_at WIDTH self.entry.now.entries.words.now i) key }
@@ -246,7 +247,7 @@ fn evaluate_within<const VALUES: usize, const LINKS: usize>(
     let mut values = [QuadFelt::ZERO; VALUES];
     let keyed = KeyedEntries {
         entries,
-        index: &index,
+        links: index.as_slice(),
     };
     fill_values(dag, keyed, &mut values)?;
     Ok(value_at(&values, root))

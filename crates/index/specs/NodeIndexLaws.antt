@@ -63,9 +63,6 @@ module _ (l : List NodeKind) (links : List ℕ) (x : NodeKind) (d : NodeIndex l 
         indexed = rw (k, length_snoc l x) new;
       }
 
-pub noted_as : (links : List ℕ) (n t a b k : ℕ) {h : ℕ} {after : List ℕ} → after ≡ noted links n k → k ≡ bucket_of (half links) h → h ≡ hash t a b → after ≡ noted links n (bucket_of (half links) (hash t a b))
-noted_as links n t a b k e ek eh = e ∙ ap (noted links n) (ek ∙ ap (bucket_of (half links)) eh)
-
 -- the record at place i of a store, behind those before it
 pub index_next : (m : Bounds) (s : View) (n i : ℕ) (links after : List ℕ) → Sound m s n → i < n → n ≤ half links → NodeIndex (nodes s i) links
     → after ≡ noted links i (word_bucket (half links) s i)

@@ -37,6 +37,53 @@ pub fn bucket_of(buckets: usize, h: u64) -> usize
     (h * buckets as u64 / BASE) as usize
 }
 
+// The bucket of three words among those of an index.
+pub fn bucket(links: &[u64], w: Words) -> usize
+    requires { Index.Usable links.now }
+    ensures { (result ≡ Index.bucket_of (Index.half links.now) (Index.hash w.tag w.first w.second)) × (result < Index.half links.now) }
+{
+    bucket_of(links.len() / 2, hash(w))
+}
+
+// The greatest indexed place where a test holds, along bucket k; behind many others of the bucket by a search of the places below.
+pub fn walk<T: Fn(usize) -> bool, S: Fn(usize) -> Option<usize>>(
+    links: &[u64],
+    k: usize,
+    is_hit: T,
+    search: S,
+) -> Option<usize>
+    requires { (hit : ℕ → Bool) × (count : ℕ) × Sought hit count links.now k (T.pre is_hit) (T.post is_hit) (S.pre search) (S.post search) }
+    ensures { (hit : ℕ → Bool) (count : ℕ) → Sought hit count links.now k (T.pre is_hit) (T.post is_hit) (S.pre search) (S.post search) → result ≡ greatest hit count }
+{
+    let half = links.len() / 2;
+    let mut link = links[k];
+    for _ in 0..MOST_STEPS {
+        if link == 0 {
+            return None;
+        }
+        let i = (link - 1) as usize;
+        if is_hit(i) {
+            return Some(i);
+        }
+        link = links[half + i];
+    }
+    search(link as usize)
+}
+
+// The greatest place of a record equal to x among the first n, by their index.
+pub fn find(list: &[u64], n: usize, links: &[u64], x: NodeKind) -> Option<usize>
+    requires { Store.Records (interleaved list.now) n × Index.NodeIndex (Nodes.nodes (interleaved list.now) n) links.now }
+    ensures { result ≡ Lookup.lookup (Nodes.nodes (interleaved list.now) n) x n }
+{
+    let wanted = Words::from(x);
+    walk(
+        links,
+        bucket(links, wanted),
+        |i| dag::words_at(list, i) == wanted,
+        |below| dag::lookup(list, below, x),
+    )
+}
+
 // An index of places by a hash of the records there, in a lent store of links.
 #[derive(Drop)]
 pub struct PlaceIndex<'links> {
@@ -56,11 +103,11 @@ impl<'links> PlaceIndex<'links> {
         PlaceIndex { links }
     }
 
-    // The bucket of three words.
-    pub fn bucket(&self, w: Words) -> usize
-        ensures { (result ≡ Index.bucket_of (Index.half self.now.links.now) (Index.hash w.tag w.first w.second)) × (result < Index.half self.now.links.now) }
+    // The links, to be read.
+    pub fn as_slice(&self) -> &[u64]
+        ensures { result.now ≡ self.now.links.now }
     {
-        bucket_of(self.links.len() / 2, hash(w))
+        &*self.links
     }
 
     // Empties the index.
@@ -71,24 +118,15 @@ impl<'links> PlaceIndex<'links> {
         self.links.fill(0);
     }
 
-    // Notes place n in bucket k.
-    fn link(&mut self, n: usize, k: usize)
-        requires { (n < Index.half self.old.links.now) × (k < Index.half self.old.links.now) }
-        ensures same { SameLinks self.old self.new }
-        ensures noted { self.new.links.now ≡ Index.noted self.old.links.now n k }
-    {
-        self.links[self.links.len() / 2 + n] = self.links[k];
-        self.links[k] = n as u64 + 1;
-    }
-
     // Notes place n in the bucket of three words.
     pub fn note(&mut self, n: usize, w: Words)
         requires { n < Index.half self.old.links.now }
         ensures same { SameLinks self.old self.new }
         ensures noted { self.new.links.now ≡ Index.noted self.old.links.now n (Index.bucket_of (Index.half self.old.links.now) (Index.hash w.tag w.first w.second)) }
     {
-        let k = self.bucket(w);
-        self.link(n, k);
+        let k = bucket(self.as_slice(), w);
+        self.links[self.links.len() / 2 + n] = self.links[k];
+        self.links[k] = n as u64 + 1;
     }
 
     // Indexes the first n records of a list, and nothing else.
@@ -101,43 +139,5 @@ impl<'links> PlaceIndex<'links> {
         for i in 0..n {
             self.note(i, dag::words_at(list, i));
         }
-    }
-
-    // The greatest indexed place where a test holds, along bucket k; behind many others of the bucket by a search of the places below.
-    pub fn walk<T: Fn(usize) -> bool, S: Fn(usize) -> Option<usize>>(
-        &self,
-        k: usize,
-        is_hit: T,
-        search: S,
-    ) -> Option<usize>
-        requires { (hit : ℕ → Bool) × (count : ℕ) × Sought hit count self.now.links.now k (T.pre is_hit) (T.post is_hit) (S.pre search) (S.post search) }
-        ensures { (hit : ℕ → Bool) (count : ℕ) → Sought hit count self.now.links.now k (T.pre is_hit) (T.post is_hit) (S.pre search) (S.post search) → result ≡ greatest hit count }
-    {
-        let half = self.links.len() / 2;
-        let mut link = self.links[k];
-        for _ in 0..MOST_STEPS {
-            if link == 0 {
-                return None;
-            }
-            let i = (link - 1) as usize;
-            if is_hit(i) {
-                return Some(i);
-            }
-            link = self.links[half + i];
-        }
-        search(link as usize)
-    }
-
-    // The greatest place of a record equal to x among the first n of the list that is indexed.
-    pub fn find(&self, list: &[u64], n: usize, x: NodeKind) -> Option<usize>
-        requires { Store.Records (interleaved list.now) n × Index.NodeIndex (Nodes.nodes (interleaved list.now) n) self.now.links.now }
-        ensures { result ≡ Lookup.lookup (Nodes.nodes (interleaved list.now) n) x n }
-    {
-        let wanted = Words::from(x);
-        self.walk(
-            self.bucket(wanted),
-            |i| dag::words_at(list, i) == wanted,
-            |below| dag::lookup(list, below, x),
-        )
     }
 }

@@ -62,14 +62,20 @@ fn enter_planned(work: &mut DagBuilder, map: &[u64], x: NodeKind, plan: Option<R
 }
 
 // Replays a round's records into an empty list, each by its plan; answers the list's count where a rewrite fired.
-fn round(round: Round, work: &mut [u64], index: &mut PlaceIndex, map: &mut [u64]) -> Option<usize>
-    requires { let d = round.dag in (2 * d.n ≤ (interleaved work.old).room) × (d.n ≤ length map.old) × (2 * d.n ≤ half index.old.links.now) }
-    ensures { let d = round.entry.dag in Promises.RoundEnds (field_of d.prime) d.list.now d.n round.entry.fan.now work.new map.new result }
+fn round(
+    prime: Prime,
+    round: Round,
+    work: &mut [u64],
+    index: &mut PlaceIndex,
+    map: &mut [u64],
+) -> Option<usize>
+    requires { Promises.Rounding (field_of prime) round.list.now round.n round.fan.now work.old map.old × (2 * round.n ≤ half index.old.links.now) }
+    ensures { let r = round.entry in Promises.RoundEnds (field_of prime) r.list.now r.n r.fan.now work.new map.new result }
 {
-    let mut built = DagBuilder::new(round.dag.prime, work, index);
+    let mut built = DagBuilder::new(prime, work, index);
     let mut fired = false;
-    for i in 0..round.dag.n {
-        let x = round.dag.node(i);
+    for i in 0..round.n {
+        let x = dag::node_at(round.list, i);
         let plan = round.plan_of(i, x);
         let place = enter_planned(&mut built, map, x, plan);
         fired |= plan.is_some();
@@ -83,34 +89,30 @@ fn round(round: Round, work: &mut [u64], index: &mut PlaceIndex, map: &mut [u64]
 fn normalize_once(
     prime: Prime,
     res: &mut [u64],
-    n: usize,
-    roots: &Roots,
+    dag: &RootedDag,
     work: &mut [u64],
     scratch: &mut [u64],
 ) -> Option<RootedDag>
-    requires { Promises.Ready (field_of prime) res.old n roots.now (interleaved work.old).room × (8 * n ≤ length scratch.old) }
-    ensures { Promises.Once (field_of prime) res.old n roots.now res.new result }
+    requires { Promises.Ready (field_of prime) res.old dag.now.count dag.now.roots (interleaved work.old).room × (8 * dag.now.count ≤ length scratch.old) }
+    ensures { Promises.Once (field_of prime) res.old dag.now.count dag.now.roots res.new result }
 {
+    let n = dag.count;
     let (fan, rest) = scratch.split_at_mut(n);
     let (map, rest) = rest.split_at_mut(n);
     let (own, rest) = rest.split_at_mut(2 * n);
     fan.fill(0);
-    plan::fanout(res, n, roots, fan);
+    plan::fanout(res, n, &dag.roots, fan);
     let mut index = PlaceIndex::new(own);
     index.index_list(res, n);
-    let dag = Dag {
-        prime,
+    let read = Round {
         list: res,
         n,
-    };
-    let read = Round {
-        dag,
-        own: &index,
+        own: index.as_slice(),
         fan,
     };
     let mut built = PlaceIndex::new(&mut rest[..4 * n]);
-    let count = round(read, work, &mut built, map)?;
-    let new_roots = roots.renamed(map);
+    let count = round(prime, read, work, &mut built, map)?;
+    let new_roots = dag.roots.renamed(map);
     let mut reachable = [false; compact::MOST_MARKS];
     let size = compact::number_reachable(work, count, &new_roots, &mut reachable, own);
     if n <= size {
@@ -132,27 +134,16 @@ pub struct NormalEnd {
 // Rounds on the list in the result store, until one isn't kept, with a scratch store of so many words.
 fn normalize_within<const SCRATCH_WORDS: usize>(
     prime: Prime,
-    n: usize,
-    roots: Roots,
+    dag: RootedDag,
     res: &mut [u64],
     work: &mut [u64],
 ) -> NormalEnd
-    requires { Promises.Ready (field_of prime) res.old n roots (interleaved work.old).room × (8 * n ≤ SCRATCH_WORDS) × (SCRATCH_WORDS ≤ 8 * Nodes.most_records) }
-    ensures { Promises.Ended (field_of prime) res.old n roots res.new result }
+    requires { Promises.Ready (field_of prime) res.old dag.count dag.roots (interleaved work.old).room × (8 * dag.count ≤ SCRATCH_WORDS) × (SCRATCH_WORDS ≤ 8 * Nodes.most_records) }
+    ensures { Promises.Ended (field_of prime) res.old dag.count dag.roots res.new result }
 {
     let mut scratch = [0u64; SCRATCH_WORDS];
-    let mut end = NormalEnd {
-        dag: RootedDag { count: n, roots },
-        rounds: 0,
-    };
-    while let Some(kept) = normalize_once(
-        prime,
-        res,
-        end.dag.count,
-        &end.dag.roots,
-        work,
-        &mut scratch,
-    ) {
+    let mut end = NormalEnd { dag, rounds: 0 };
+    while let Some(kept) = normalize_once(prime, res, &end.dag, work, &mut scratch) {
         end.dag = kept;
         end.rounds += 1;
     }
@@ -166,20 +157,14 @@ const FEW_SCRATCH_WORDS: usize = 8 * FEW_RECORDS;
 const MOST_SCRATCH_WORDS: usize = 8 * MOST_RECORDS;
 
 // The rounds, with a scratch store for the list's length.
-fn normalize_sized(
-    prime: Prime,
-    n: usize,
-    roots: Roots,
-    res: &mut [u64],
-    work: &mut [u64],
-) -> NormalEnd
-    requires { Promises.Ready (field_of prime) res.old n roots (interleaved work.old).room }
-    ensures { Promises.Ended (field_of prime) res.old n roots res.new result }
+fn normalize_sized(prime: Prime, dag: RootedDag, res: &mut [u64], work: &mut [u64]) -> NormalEnd
+    requires { Promises.Ready (field_of prime) res.old dag.count dag.roots (interleaved work.old).room }
+    ensures { Promises.Ended (field_of prime) res.old dag.count dag.roots res.new result }
 {
-    if n <= FEW_RECORDS {
-        normalize_within::<FEW_SCRATCH_WORDS>(prime, n, roots, res, work)
+    if dag.count <= FEW_RECORDS {
+        normalize_within::<FEW_SCRATCH_WORDS>(prime, dag, res, work)
     } else {
-        normalize_within::<MOST_SCRATCH_WORDS>(prime, n, roots, res, work)
+        normalize_within::<MOST_SCRATCH_WORDS>(prime, dag, res, work)
     }
 }
 
@@ -208,7 +193,11 @@ fn normalize_ready(dag: Dag, roots: Roots, res: &mut [u64], work: &mut [u64]) ->
     ensures { Promises.Finished (field_of dag.entry.prime) dag.entry.list.now dag.entry.n roots res.old work.old result res.new work.new }
 {
     dag::copy_records(dag.list, dag.n, res);
-    let end = normalize_sized(dag.prime, dag.n, roots, res, work);
+    let list = RootedDag {
+        count: dag.n,
+        roots,
+    };
+    let end = normalize_sized(dag.prime, list, res, work);
     dag::blank_records(res, end.dag.count);
     dag::blank_from(work, 0);
     end

@@ -8,7 +8,7 @@ use Rattle.plan.specs.declared.Round.{Round}
 
 -- a round's records, and their fanouts
 abbrev pub records : Round → List NodeKind
-records r = nodes (interleaved r.dag.list.now) r.dag.n
+records r = nodes (interleaved r.list.now) r.n
 
 abbrev pub fanouts : Round → ℕ → ℕ
 fanouts r = read r.fan.now

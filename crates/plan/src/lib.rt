@@ -6,6 +6,7 @@ ghost use Rattle.dag.specs.View.{interleaved};
 ghost use Rattle.dag.specs.Nodes as Nodes;
 ghost use Rattle.dag.specs.Lookup as Lookup;
 ghost use Rattle.dag.specs.Roots.{roots_of};
+ghost use Rattle.dag.specs.Store as Store;
 ghost use Rattle.dag.specs.WellFormed.{Any, Fine};
 ghost use Rattle.index.specs.Index.{NodeIndex};
 ghost use Rattle.builder.specs.Promises.{read, operation};
@@ -14,8 +15,7 @@ ghost use Rattle.plan.specs.Plan as Plans;
 ghost use Rattle.plan.specs.Promises as Promises;
 
 use builder::AssociativeOp;
-use dag::{Dag, NodeKind, Roots};
-use index::PlaceIndex;
+use dag::{NodeKind, Roots};
 
 // What a round does with one record: two products that share a factor, with what is left of each; or a record that is there already in place of an inner one, with the operand that remains.
 #[derive(Clone, Copy)]
@@ -85,27 +85,29 @@ fn shared_factor(a: [usize; 2], b: [usize; 2]) -> Option<Rewrite>
     }
 }
 
-// What a round reads: its list, the index of the records, and each place's fanout.
+// What a round reads: its list of n records, the index of these, and each place's fanout.
 #[derive(Clone, Copy)]
-pub struct Round<'dag, 'a, 'links> {
-    pub dag: Dag<'dag>,
-    pub own: &'a PlaceIndex<'links>,
+pub struct Round<'a> {
+    pub list: &'a [u64],
+    pub n: usize,
+    pub own: &'a [u64],
     pub fan: &'a [u64],
-    pub ghost indexed: { NodeIndex (Nodes.nodes (interleaved dag.list.now) dag.n) own.now.links.now },
-    pub ghost fits: { dag.n ≤ length fan.now },
+    pub ghost room: { n ≤ (interleaved list.now).room },
+    pub ghost indexed: { NodeIndex (Nodes.nodes (interleaved list.now) n) own.now },
+    pub ghost fits: { n ≤ length fan.now },
 }
 
-impl Round<'_, '_, '_> {
+impl Round<'_> {
     ghost use Rattle.plan.specs.Held.{records, fanouts};
 
     // The operands of the record at place i, if it is the operation's, with fanout 1.
     #[tactic(auto, using(dag::specs::NodeLaws::at_nodes))]
     fn single(&self, op: AssociativeOp, i: usize) -> Option<[usize; 2]>
-        requires { (i < self.now.dag.n) }
+        requires { i < self.now.n }
         ensures { result ≡ Promises.single_at (operation op) (records self.now) (fanouts self.now) i }
     {
         if self.fan[i] == 1 {
-            operands_of(op, self.dag.node(i))
+            operands_of(op, dag::node_at(self.list, i))
         } else {
             None
         }
@@ -114,7 +116,7 @@ impl Round<'_, '_, '_> {
     // Two muls, each of fanout 1, that share a factor.
     #[tactic(auto, unfolding(crate::specs::Plan::common_factor))]
     fn common_factor(&self, a: usize, b: usize) -> Option<Rewrite>
-        requires { (a < self.now.dag.n) × (b < self.now.dag.n) }
+        requires { (a < self.now.n) × (b < self.now.n) }
         ensures { result ≡ Plans.common_factor (records self.now) (fanouts self.now) a b }
     {
         shared_factor(
@@ -126,9 +128,10 @@ impl Round<'_, '_, '_> {
     // The candidate's greatest place, if it stands before place i, with what remains.
     #[tactic(auto, unfolding(crate::specs::Plan::onto_before))]
     fn onto_before(&self, i: usize, candidate: NodeKind, remaining: usize) -> Option<Rewrite>
-        ensures { result ≡ Plans.onto_before i remaining (Lookup.lookup (records self.now) candidate self.now.dag.n) }
+        requires { Store.Records (interleaved self.now.list.now) self.now.n }
+        ensures { result ≡ Plans.onto_before i remaining (Lookup.lookup (records self.now) candidate self.now.n) }
     {
-        let existing = self.own.find(self.dag.list, self.dag.n, candidate)?;
+        let existing = index::find(self.list, self.n, self.own, candidate)?;
         (existing < i).then_some(Rewrite::Rotated {
             existing,
             remaining,
@@ -144,7 +147,7 @@ impl Round<'_, '_, '_> {
         inner: usize,
         other: usize,
     ) -> Option<Rewrite>
-        requires { (inner < self.now.dag.n) }
+        requires { Store.Records (interleaved self.now.list.now) self.now.n × (inner < self.now.n) }
         ensures { result ≡ Plans.existing_rotation (operation op) (records self.now) (fanouts self.now) i inner other }
     {
         let [x, y] = self.single(op, inner)?;
@@ -157,7 +160,7 @@ impl Round<'_, '_, '_> {
     // The first operand is tried as the inner one, then the second.
     #[tactic(auto, unfolding(crate::specs::Plan::either_rotation, crate::specs::Plan::or_else))]
     fn either_rotation(&self, op: AssociativeOp, i: usize, a: usize, b: usize) -> Option<Rewrite>
-        requires { (a < self.now.dag.n) × (b < self.now.dag.n) }
+        requires { Store.Records (interleaved self.now.list.now) self.now.n × (a < self.now.n) × (b < self.now.n) }
         ensures { result ≡ Plans.either_rotation (operation op) (records self.now) (fanouts self.now) i a b }
     {
         match self.existing_rotation(op, i, a, b) {
@@ -169,7 +172,7 @@ impl Round<'_, '_, '_> {
     // What a round does with the record x at place i.
     #[tactic(auto, unfolding(crate::specs::Plan::plan_of, crate::specs::Plan::or_else, dag::specs::WellFormed::Fine))]
     pub fn plan_of(&self, i: usize, x: NodeKind) -> Option<Rewrite>
-        requires { (i ≤ self.now.dag.n) × Fine Any i x }
+        requires { Store.Records (interleaved self.now.list.now) self.now.n × (i ≤ self.now.n) × Fine Any i x }
         ensures { result ≡ Plans.plan_of (records self.now) (fanouts self.now) i x }
     {
         match x {

@@ -21,7 +21,7 @@ index-requires g c = (
 pub invariant_of-keyed : goal.invariant_of-keyed
 invariant_of-keyed g c =
     record {
-      lookup = record { lent = (entries_pass (field_of c.args.dag.prime).bounds _ _ _ (omega arith) c.requires.passed).0; keyed = c.index.ensures.keyed };
+      lookup = record { lent = (entries_pass (field_of c.args.dag.prime).bounds _ _ _ (omega arith) c.requires.passed).0; keyed = rw c.as_slice.ensures c.index.ensures.keyed };
     }
 
 pub fill_values-requires-clause-fits : goal.fill_values-requires-clause-fits

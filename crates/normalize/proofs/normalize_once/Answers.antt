@@ -4,7 +4,7 @@ use Rattle.normalize.specs.OnceLaws as Rounded
 use Rattle.normalize.proofs.normalize_once.Goals as goal
 
 pub returns-in_err-count : goal.returns-in_err-count
-returns-in_err-count c = rw c.from_residual.ensures (Rounded.not_fired (field_of c.args.prime) {roots = c.args.roots.now} c.in_err-count.ensures c.fanout.ensures)
+returns-in_err-count c = rw c.from_residual.ensures (Rounded.not_fired (field_of c.args.prime) {roots = c.args.dag.now.roots} c.in_err-count.ensures c.fanout.ensures)
 
 pub number_reachable-size-requires : goal.number_reachable-size-requires
 number_reachable-size-requires c =

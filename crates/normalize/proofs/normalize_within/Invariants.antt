@@ -5,7 +5,7 @@ use Rattle.normalize.proofs.normalize_within.Given as goal
 
 abbrev pub invariant-loop-kept : goal.invariant-loop-kept
 invariant-loop-kept g l = record {
-  running : Running (field_of l.fn.prime) l.initial.res l.fn.n l.fn.roots l.res l.end.dag.count l.end.dag.roots l.end.rounds;
+  running : Running (field_of l.fn.prime) l.initial.res l.fn.dag.count l.fn.dag.roots l.res l.end.dag.count l.end.dag.roots l.end.rounds;
   words : length l.scratch ≡ length l.initial.scratch;
 }
 

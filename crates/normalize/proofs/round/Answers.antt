@@ -1,17 +1,10 @@
-use Rattle.std.proofs.Common.{ℕ, List, ◌*◌, ◌≤◌, ◌∙◌, ap, length, sym, arith}
+use Rattle.std.proofs.Common.{◌∙◌, ap, length, sym, arith}
 use Rattle.field.specs.Fields.{field_of}
-use Rattle.dag.specs.View.{interleaved}
 use Rattle.dag.specs.Nodes as Nodes
 use Rattle.dag.specs.NodeLaws.{at_nodes}
 use Rattle.builder.specs.HoldLaws.{same_stores, same_still}
 use Rattle.normalize.specs.TurnLaws as Turn
-use Rattle.plan.specs.declared.Round.{Round}
-use Rattle.normalize.specs.Promises.{Rounding}
 use Rattle.normalize.proofs.round.Goals as goal
-
--- what a round reads, beside stores with room
-rounding : (r : Round) {work map : List ℕ} → 2 * r.dag.n ≤ (interleaved work).room → r.dag.n ≤ length map → Rounding (field_of r.dag.prime) r.dag.list.now r.dag.n r.fan.now work map
-rounding r h k = record { sound = r.dag.sound; few = r.dag.most; fan_fits = r.fits; work_fits = h; map_fits = k }
 
 pub loop-i-init : goal.loop-i-init
 unfolding Nodes.nodes
@@ -23,27 +16,27 @@ pub plan_of-plan-requires : goal.plan_of-plan-requires
 plan_of-plan-requires c =
     let v = c.loop-i.invariant in
     let e = c.new-built.ensures.empty in
-    let g = Turn.rounding_still (field_of c.args.round.dag.prime) (rounding c.args.round c.requires.0 c.requires.1) _ _ (v.same.list_words ∙ ap length e.list_is) c.loop-i.auto.map in
-    (omega arith, Turn.fine_turn (field_of c.args.round.dag.prime) g v.held c.loop-i-test.true _ (c.node-x.ensures ∙ sym (at_nodes _ _ _ c.loop-i-test.true)))
+    let g = Turn.rounding_still (field_of c.args.prime) c.requires.0 _ _ (v.same.list_words ∙ ap length e.list_is) c.loop-i.auto.map in
+    ((_, c.requires.0.sound), omega arith, Turn.fine_turn (field_of c.args.prime) g v.held c.loop-i-test.true _ (c.node_at-x.ensures ∙ sym (at_nodes _ _ _ c.loop-i-test.true)))
 
 pub enter_planned-place-requires : goal.enter_planned-place-requires
 enter_planned-place-requires c =
     let v = c.loop-i.invariant in
     let e = c.new-built.ensures.empty in
-    let g = Turn.rounding_still (field_of c.args.round.dag.prime) (rounding c.args.round c.requires.0 c.requires.1) _ _ (v.same.list_words ∙ ap length e.list_is) c.loop-i.auto.map in
-    let h = Turn.round_count (field_of c.args.round.dag.prime) g v.held in (
-      (c.loop-i.i, rw (v.same.prime, e.prime_is) (Turn.turn_entering (field_of c.args.round.dag.prime) g v.held c.loop-i-test.true _ (c.node-x.ensures ∙ sym (at_nodes _ _ _ c.loop-i-test.true)) _ c.plan_of-plan.ensures)),
-      record { index = v.index; room = omega (arith, h, c.requires.2, c.loop-i-test.true, v.same.link_words, c.new-built.ensures.same_links.words) },
+    let g = Turn.rounding_still (field_of c.args.prime) c.requires.0 _ _ (v.same.list_words ∙ ap length e.list_is) c.loop-i.auto.map in
+    let h = Turn.round_count (field_of c.args.prime) g v.held in (
+      (c.loop-i.i, rw (v.same.prime, e.prime_is) (Turn.turn_entering (field_of c.args.prime) g v.held c.loop-i-test.true _ (c.node_at-x.ensures ∙ sym (at_nodes _ _ _ c.loop-i-test.true)) _ c.plan_of-plan.ensures)),
+      record { index = v.index; room = omega (arith, h, c.requires.1, c.loop-i-test.true, v.same.link_words, c.new-built.ensures.same_links.words) },
     )
 
 pub loop-i-preserved : goal.loop-i-preserved
 loop-i-preserved c =
     let v = c.loop-i.invariant in
     let e = c.new-built.ensures.empty in
-    let g = Turn.rounding_still (field_of c.args.round.dag.prime) (rounding c.args.round c.requires.0 c.requires.1) _ _ (v.same.list_words ∙ ap length e.list_is) c.loop-i.auto.map in
+    let g = Turn.rounding_still (field_of c.args.prime) c.requires.0 _ _ (v.same.list_words ∙ ap length e.list_is) c.loop-i.auto.map in
     let p = c.enter_planned-place.ensures in
     record {
       same = same_still _ _ _ v.same p.same;
-      held = Turn.turn_held (field_of c.args.round.dag.prime) g v.held c.loop-i-test.true _ (c.node-x.ensures ∙ sym (at_nodes _ _ _ c.loop-i-test.true)) _ c.plan_of-plan.ensures _ _ _ (rw (v.same.prime, e.prime_is) at p.planned) cc;
+      held = Turn.turn_held (field_of c.args.prime) g v.held c.loop-i-test.true _ (c.node_at-x.ensures ∙ sym (at_nodes _ _ _ c.loop-i-test.true)) _ c.plan_of-plan.ensures _ _ _ (rw (v.same.prime, e.prime_is) at p.planned) cc;
       index = p.index;
     }

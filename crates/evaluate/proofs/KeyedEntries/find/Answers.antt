@@ -8,7 +8,7 @@ pub walk-requires : goal.walk-requires
 walk-requires g c = (
   _,
   _,
-  seeks g.row.WIDTH c.args.self.now.entries.words.now c.args.self.now.entries.count c.args.self.now.index.now.links.now c.args.key c.args.self.now.lookup _ _ c.bucket.ensures.0 c.words_of_key.ensures
+  seeks g.row.WIDTH c.args.self.now.entries.words.now c.args.self.now.entries.count c.args.self.now.links.now c.args.key c.args.self.now.lookup _ _ c.bucket.ensures.0 c.words_of_key.ensures
       _ _ _ _ (λ i room. search rules) (λ i b p. search rules) (λ i lent. search rules) (λ i r p. search rules),
 )
 
@@ -16,5 +16,5 @@ pub returns : goal.returns
 unfolding entry_of
 returns g c =
     c.walk.ensures _ _
-    (seeks g.row.WIDTH c.args.self.now.entries.words.now c.args.self.now.entries.count c.args.self.now.index.now.links.now c.args.key c.args.self.now.lookup _ _ c.bucket.ensures.0 c.words_of_key.ensures
+    (seeks g.row.WIDTH c.args.self.now.entries.words.now c.args.self.now.entries.count c.args.self.now.links.now c.args.key c.args.self.now.lookup _ _ c.bucket.ensures.0 c.words_of_key.ensures
     _ _ _ _ (λ i room. search rules) (λ i b p. search rules) (λ i lent. search rules) (λ i r p. search rules))
