@@ -1,5 +1,5 @@
 -- The words of an answer: 0 and the accepted values, or the refusal's number and place; words that no value takes are 0.
-use Rattle.std.specs.Prelude.{ℕ, List, [], ◌∷◌, get_or, replicate, Result, Ok, Err}
+use Rattle.std.specs.Prelude.{ℕ, List, [], ◌∷◌, get_or, length, map, replicate, Result, Ok, Err}
 use Rattle.field.specs.declared.QuadFelt.{QuadFelt}
 use Rattle.dag.specs.Refusals.{number, place}
 use Rattle.dag.specs.declared.Refusal.{Refusal}
@@ -7,6 +7,10 @@ use Rattle.dag.specs.Roots.{roots_of}
 use Rattle.dag.specs.declared.RootedDag.{RootedDag}
 use Rattle.builder.specs.declared.Entered.{Entered}
 use Rattle.normalize.specs.declared.NormalEnd.{NormalEnd}
+use Rattle.dag.specs.Arrays.{padded}
+use Rattle.columns.specs.Columns.{form_number}
+use Rattle.columns.specs.Prepare.{most_columns}
+use Rattle.columns.specs.declared.Form.{Form}
 use Rattle.columns.specs.declared.Prepared.{Prepared}
 
 abbrev pub refused_words : Refusal → List ℕ
@@ -36,8 +40,13 @@ evaluate_words (Err r) = refused_words r
 abbrev pub refused_forms : Refusal → List ℕ
 refused_forms r = number r ∷ place r ∷ replicate 16 0
 
+-- the columns' forms as numbers, 0 past the last
+abbrev pub form_words : List Form → List ℕ
+form_words fs = padded 0 most_columns (map form_number fs)
+
+-- the number of columns, and their forms
 abbrev pub prepare_words : Result Prepared Refusal → List ℕ
-prepare_words (Ok p) = 0 ∷ p.count ∷ p.forms
+prepare_words (Ok p) = 0 ∷ length p.forms.items ∷ form_words p.forms.items
 prepare_words (Err r) = refused_forms r
 
 abbrev pub lower_words : Result ℕ Refusal → List ℕ

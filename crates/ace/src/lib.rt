@@ -2,7 +2,7 @@
 // answer's words.
 #![tactic(auto)]
 
-ghost use Rattle.std.specs.Prelude.{◌≡◌, ◌∷◌};
+ghost use Rattle.std.specs.Prelude.{◌≡◌, ◌≤◌, ◌∷◌, length};
 ghost use Rattle.std.specs.Option.{ok_or};
 ghost use Rattle.field.specs.Numbers.{numbered};
 ghost use Rattle.dag.specs.declared.Refusal.TheVariants as Refusal';
@@ -10,7 +10,7 @@ ghost use Rattle.ace.specs.Answers as Answers;
 ghost use Rattle.ace.specs.Calls as Calls;
 
 use builder::Entered;
-use columns::Prepared;
+use columns::{Form, Prepared};
 use dag::{Refusal, RootedDag, Words};
 use field::{Prime, QuadFelt};
 use normalize::NormalEnd;
@@ -72,22 +72,26 @@ fn evaluate_words(answer: Result<QuadFelt, Refusal>) -> [u64; 4]
     }
 }
 
-// Two words and a form for each column.
-fn form_words(first: u64, second: u64, forms: [u64; 16]) -> [u64; 18]
-    ensures { result ≡ first ∷ second ∷ forms }
+// Two words, and each column's form as a number, 0 past the last.
+fn form_words(first: u64, second: u64, forms: &[Form]) -> [u64; 18]
+    requires { length forms.now ≤ 16 }
+    ensures { result ≡ first ∷ second ∷ Answers.form_words forms.now }
 {
-    let mut words = [0u64; 18];
+    let mut words = [0; 18];
     words[0] = first;
     words[1] = second;
-    words[2..].copy_from_slice(&forms);
+    for (i, form) in forms.iter().enumerate() {
+        words[i + 2] = *form as u64;
+    }
     words
 }
 
 // The words of a refusal of Prepare.
+#[tactic(auto, unfolding(dag::specs::Arrays::padded))]
 fn refused_forms(r: Refusal) -> [u64; 18]
     ensures { result ≡ Answers.refused_forms r }
 {
-    form_words(r.number(), r.place() as u64, [0; 16])
+    form_words(r.number(), r.place() as u64, &[])
 }
 
 // The words of Prepare's answer.
@@ -95,10 +99,7 @@ fn prepare_words(answer: Result<Prepared, Refusal>) -> [u64; 18]
     ensures { result ≡ Answers.prepare_words answer }
 {
     match answer {
-        Ok(prepared) => {
-            let forms = prepared.forms;
-            form_words(0, prepared.count as u64, forms)
-        }
+        Ok(Prepared { forms }) => form_words(0, forms.len() as u64, &forms),
         Err(r) => refused_forms(r),
     }
 }

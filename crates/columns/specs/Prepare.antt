@@ -1,10 +1,11 @@
 -- Prepare: the tests of columns that are handed over, and the answer.
 use Rattle.std.specs.Prelude.{ℕ, ◌+◌, Bool, true, ◌&&◌, List, [], ◌∷◌, leb, ltb, get_or, length, take, drop, Result, Ok, Err}
-use Rattle.dag.specs.Arrays.{up_to, padded}
+use Rattle.dag.specs.Arrays.{up_to}
 use Rattle.dag.specs.Refusals.{Checked, first_refused, need, ◌then◌}
 use Rattle.dag.specs.declared.Refusal.{Refusal}
 use Rattle.dag.specs.declared.Refusal.TheVariants.{StoreTooShort, Malformed, TooManyColumns, ColumnLength}
-use Rattle.columns.specs.Columns.{is_power, column, form, form_number}
+use Rattle.columns.specs.Columns.{is_power, column, form}
+use Rattle.columns.specs.declared.Form.{Form}
 use Rattle.columns.specs.declared.Prepared.{Prepared}
 
 -- how many entries columns of these lengths have
@@ -41,13 +42,13 @@ prepare_check m ls es =
     then need (leb (total ls) (length es)) StoreTooShort
     then first_refused (entries_check m (columns ls es)) (length ls)
 
--- the columns' forms as numbers, 0 past the last
-unfoldable pub forms : ℕ → List (List ℕ) → List ℕ
-forms m cs = padded 0 most_columns (up_to (λ j. form_number (form m cs j)) (length cs))
+-- the columns' forms
+unfoldable pub forms : ℕ → List (List ℕ) → List Form
+forms m cs = up_to (form m cs) (length cs)
 
 -- the answer to columns that were tested
 unfoldable pub answer : ℕ → List (List ℕ) → Checked → Result Prepared Refusal
-answer m cs (Ok u) = Ok (record { count = length cs; forms = forms m cs })
+answer m cs (Ok u) = Ok (record { forms = record { items = forms m cs } })
 answer m cs (Err r) = Err r
 
 unfoldable pub prepare : ℕ → List ℕ → List ℕ → Result Prepared Refusal

@@ -8,8 +8,9 @@ use Rattle.dag.specs.declared.Refusal.{Refusal}
 use Rattle.dag.specs.declared.Refusal.TheVariants.{StoreTooShort, Malformed, TooManyColumns, ColumnLength}
 use Rattle.columns.specs.Columns.{is_power, column}
 use Rattle.columns.specs.Prepare.{total, columns, all_below, length_check, entries_check, most_columns, prepare_check, forms, answer, prepare}
+use Rattle.columns.specs.declared.Prepared.{Prepared}
 use Rattle.columns.specs.LogLaws.{power_pos, power_le}
-use Rattle.columns.specs.ColumnLaws.{length_columns, column_length}
+use Rattle.columns.specs.ColumnLaws.{column_length}
 use Rattle.columns.specs.Promises.{Column, Handed, Tested}
 
 -- one length, and one column
@@ -107,13 +108,11 @@ pub prepare_refused : (m : ℕ) (ls es : List ℕ) (r : Refusal) → prepare_che
 unfolding prepare answer
 prepare_refused m ls es r e = rw e
 
-pub prepare_good : (m : ℕ) (ls es : List ℕ) → prepare_check m ls es ≡ Ok tt → Ok (record { count = length ls; forms = forms m (columns ls es) }) ≡ prepare m ls es
+pub prepare_good : (m : ℕ) (ls es : List ℕ) (p : Prepared) → prepare_check m ls es ≡ Ok tt → p.forms.items ≡ forms m (columns ls es) → Ok p ≡ prepare m ls es
 unfolding prepare answer
-prepare_good m ls es good = rw (good, length_columns ls es)
+prepare_good m ls es p good e = rw (good, ← e)
 
--- a test at each column, the tests in their order, and the answer
+-- a test at each column, and the tests in their order
 pub ruleset at_each = (length_good, length_bad, entries_good, entries_bad, first_none, first_next, first_stop, first_all)
 
 pub ruleset in_order = (lengths_small, handed, tested, check_few, check_lengths, check_store, check_entries)
-
-pub ruleset answers = (prepare_refused, prepare_good)

@@ -1,6 +1,6 @@
 -- Savings and forms, from what is worked out for each column.
 use Prim.Native.Nat.{ℕ, zero, suc, ◌+◌, ◌*◌, ◌^◌, ◌≤◌, ◌<◌}
-use Rattle.std.specs.Prelude.{Bool, ◌&&◌, List, [], ◌∷◌, ◌≡◌, leb, ltb, eqb, get_or, length, sum, map, filter, drop, replicate, ◌++◌}
+use Rattle.std.specs.Prelude.{Bool, ◌&&◌, List, [], ◌∷◌, ◌≡◌, leb, ltb, eqb, get_or, length, sum, map, filter, ◌++◌}
 use Rattle.std.specs.List.{zip}
 use Rattle.std.proofs.lemmas.List.Sums.{sum_by-cons}
 use Rattle.std.proofs.Math.Bool.{true, false, cond, and-false}
@@ -9,9 +9,8 @@ use Rattle.std.proofs.Common.{sym, ◌∙◌, ap, arith, add-one}
 use borrow.Author.Tests.{lt-ltb, le-ltb, lt-leb, le-leb}
 use Rattle.dag.specs.CaseLaws.{cond_elim}
 use Rattle.columns.specs.Columns.{column, gain, is_among, saving, savings, goes_over, is_sparse, form}
-use Rattle.columns.specs.Prepare.{columns, most_columns}
-use Rattle.std.proofs.lemmas.List.{drop-replicate}
-use Rattle.dag.specs.Arrays.{up_to, padded}
+use Rattle.columns.specs.Prepare.{columns}
+use Rattle.dag.specs.Arrays.{up_to}
 use Rattle.columns.specs.Promises.{Handed, added, gains, savings_each, counted, Small, savings_of}
 use Rattle.columns.specs.ColumnLaws.{length_columns, column_length}
 use Rattle.dag.specs.ArrayLaws.{length_up_to, get_or_up_to}
@@ -19,14 +18,10 @@ use Rattle.columns.specs.CostLaws.{gain_small}
 use Rattle.columns.specs.PrepareLaws.{column_short}
 use Rattle.columns.specs.declared.Form.TheVariants.{Sparse, Dense, Basis}
 
--- a list made place by place, and one laid over a blank array
-pub up_next : (f : ℕ → ℕ) (ws vs : List ℕ) (j v : ℕ) → ws ≡ up_to f j → vs ≡ ws ++ (v ∷ []) → v ≡ f j → vs ≡ up_to f (j + 1)
+-- a list made place by place
+pub up_next : {A : Type 0} (f : ℕ → A) (ws vs : List A) (j : ℕ) (v : A) → ws ≡ up_to f j → vs ≡ ws ++ (v ∷ []) → v ≡ f j → vs ≡ up_to f (j + 1)
 unfolding up_to
 up_next f ws vs j v h e q = rw (e, h, q, add-one j) refl
-
-pub laid_over : (ws vs : List ℕ) (n : ℕ) → vs ≡ ws → n ≡ length ws → vs ++ drop n (replicate most_columns 0) ≡ padded 0 most_columns ws
-unfolding padded
-laid_over ws vs n e k = rw (e, k) (ap (λ l. ws ++ l) (drop-replicate {X = ℕ} (length ws) most_columns 0))
 
 -- the savings of period P, as a sum over the columns
 module _ (P : ℕ) where

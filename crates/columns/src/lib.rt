@@ -7,7 +7,7 @@ ghost use Rattle.dag.specs.Refusals as Refusals;
 ghost use Rattle.columns.specs.Columns as Spec;
 ghost use Rattle.columns.specs.Prepare as Prepare;
 ghost use Rattle.columns.specs.Promises as Promises;
-ghost use Rattle.dag.specs.Arrays.{up_to, padded};
+ghost use Rattle.dag.specs.Arrays.{up_to};
 
 use arrayvec::ArrayVec;
 use dag::Refusal;
@@ -23,18 +23,18 @@ const MOST_LOG: usize = 7;
 pub const MOST_ENTRIES: usize = 128;
 
 // How a column is evaluated in the circuit.
-#[derive(Clone, Copy, PartialEq, Eq)]
+#[derive(Clone, Copy, Default, PartialEq, Eq)]
 pub enum Form {
+    #[default]
     Sparse,
     Dense,
     Basis,
 }
 
-// Prepare's answer: the number of columns, and each column's form as a number, 0 past the last.
-#[derive(Clone, Copy, PartialEq, Eq)]
+// Prepare's answer: each column's form.
+#[derive(Drop)]
 pub struct Prepared {
-    pub count: usize,
-    pub forms: [u64; MOST_COLUMNS],
+    pub forms: ArrayVec<Form, MOST_COLUMNS>,
 }
 
 // The greatest k up to `most` with 2^k at most n, else 0.
@@ -54,7 +54,7 @@ pub fn is_power(most: usize, n: u64) -> bool
     n == 1 << log_within(most, n)
 }
 
-// How often v stands in a list.
+// How often v stands in a list, by a loop that the compiler vectorises.
 #[tactic(auto, using(crate::specs::CountLaws::count_more, crate::specs::CountLaws::count_all), unfolding(crate::specs::Columns::count))]
 fn count(list: &[u64], v: u64) -> usize
     ensures { result ≡ Spec.count v list.now }
@@ -297,15 +297,15 @@ impl<'a> Layout<'a> {
     }
 
     // f at each column.
-    fn each<F: Fn(usize) -> u64>(&self, f: F) -> ArrayVec<u64, MOST_COLUMNS>
+    fn each<T: Copy + Default, F: Fn(usize) -> T>(&self, f: F) -> ArrayVec<T, MOST_COLUMNS>
         requires { (j : ℕ) → j < length self.now.lengths.now → F.pre f j }
-        ensures { (g : ℕ → ℕ) → ((j r : ℕ) → j < length self.now.lengths.now → F.post f j r → r ≡ g j) → result.items ≡ up_to g (length self.now.lengths.now) }
+        ensures { (g : ℕ → T) → ((j : ℕ) (r : T) → j < length self.now.lengths.now → F.post f j r → r ≡ g j) → result.items ≡ up_to g (length self.now.lengths.now) }
     {
-        let mut words = ArrayVec::new();
+        let mut list = ArrayVec::new();
         for j in 0..self.lengths.len() {
-            words.push(f(j));
+            list.push(f(j));
         }
-        words
+        list
     }
 
     // What each column adds to its period's savings, where the columns save `gains`.
@@ -452,25 +452,21 @@ impl<'a> Weighed<'a> {
         self.columns.layout().form(&self.gains, &self.savings, j)
     }
 
-    // The columns' forms as numbers, 0 past the last.
-    fn forms(&self) -> [u64; MOST_COLUMNS]
-        ensures { result ≡ Prepare.forms (Held.modulus self.now.columns) (Held.columns self.now.columns) }
+    // Each column's form.
+    fn forms(&self) -> ArrayVec<Form, MOST_COLUMNS>
+        ensures { result.items ≡ Prepare.forms (Held.modulus self.now.columns) (Held.columns self.now.columns) }
     {
-        let numbers = self.columns.layout().each(|j| self.form(j) as u64);
-        let mut forms = [0; 16];
-        forms[..numbers.len()].copy_from_slice(&numbers);
-        forms
+        self.columns.layout().each(|j| self.form(j))
     }
 }
 
 // Prepare: the tests, and each column's form.
-#[tactic(auto, using(crate::specs::PrepareLaws::answers))]
+#[tactic(auto, using(crate::specs::PrepareLaws::prepare_refused))]
 pub fn prepare(prime: Prime, lengths: &[u64], entries: &[u64]) -> Result<Prepared, Refusal>
     ensures { result ≡ Prepare.prepare (modulus_of prime) lengths.now entries.now }
 {
     let columns = Columns::new(prime, lengths, entries)?;
     Ok(Prepared {
-        count: lengths.len(),
         forms: Weighed::new(columns).forms(),
     })
 }

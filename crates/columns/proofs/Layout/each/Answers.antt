@@ -5,7 +5,7 @@ use Rattle.columns.proofs.Layout.each.Goals as goal
 
 pub loop-j-init : goal.loop-j-init
 unfolding Arrays.up_to
-loop-j-init g c = (ap length c.new-words.ensures, λ f h. c.new-words.ensures)
+loop-j-init g c = (ap length c.new-list.ensures, λ f h. c.new-list.ensures)
 
 pub loop-j-preserved : goal.loop-j-preserved
 loop-j-preserved g c = (

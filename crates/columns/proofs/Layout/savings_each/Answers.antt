@@ -1,4 +1,4 @@
-use Rattle.std.proofs.Common.{◌≡◌, ℕ, ◌∙◌, cond, get_or, sym, ap, rules}
+use Rattle.std.proofs.Common.{◌≡◌, ◌∙◌, cond, get_or, sym, ap, rules}
 use Rattle.dag.specs.Arrays.{up_to}
 use Rattle.columns.specs.Columns as Columns
 use Rattle.columns.specs.Prepare as Prepare
