@@ -5,7 +5,8 @@ ghost use Rattle.std.specs.Prelude.{◌≡◌, Some};
 ghost use Rattle.recorded_calls.specs.Calls.{name, shape, shape_of};
 ghost use Rattle.recorded_calls.specs.Promises.{Asked};
 
-use recorded::{Reads, Writes, follow, number};
+use ace::{ace_build, ace_compact, ace_evaluate, ace_lower, ace_normalize, ace_prepare, ace_step};
+use recorded::{Cursor, Reads, Writes};
 use std::fmt;
 
 // A call.
@@ -75,144 +76,28 @@ impl Call {
         }
     }
 
-    // A call on the case at a place, with its stores lent: whether its answer is the one recorded at `said`.
-    pub fn ask(self, s: &[u8], at: usize, said: usize, read: Reads, written: &mut Writes) -> bool
-        ensures { Asked self s.now at said read.entry written.old result written.new }
+    // A call on the case at a place, in the stores r that it reads and w that it writes: whether its answer is the one recorded at `said`.
+    #[tactic(auto, unfolding(crate::specs::Calls::outcome))]
+    pub fn ask(self, case: Cursor, said: usize, r: Reads, w: &mut Writes) -> bool
+        ensures { Asked self case.entry.stream.now case.entry.at said r.entry w.old result w.new }
     {
+        let said = case.to(said);
+        let n = |k: u64| case.number(k);
+        let m = |k: u64| case.number(k) as usize;
+        let mut answer = [0; 4];
         match self {
-            Call::Step => step(s, at, said, read, written),
-            Call::Build => build(s, at, said, read, written),
-            Call::Compact => compact(s, at, said, read, written),
-            Call::Normalize => normalize(s, at, said, read, written),
-            Call::Evaluate => evaluate(s, at, said, read, written),
-            Call::Prepare => prepare(s, at, said, read, written),
-            Call::Lower => lower(s, at, said, read, written),
+            Call::Step => ace_step(n(0), w.a, m(1), n(2), n(3), n(4), &mut answer),
+            Call::Build => ace_build(n(0), r.a, m(1), m(2), w.a, w.b, &mut answer),
+            Call::Compact => ace_compact(n(0), r.a, m(1), m(2), w.a, &mut answer),
+            Call::Normalize => ace_normalize(n(0), r.a, m(1), m(2), w.a, w.b, &mut answer),
+            Call::Evaluate => ace_evaluate(n(0), r.a, m(1), m(2), r.b, m(3), &mut answer),
+            Call::Prepare => {
+                let mut answer = [0; 18];
+                ace_prepare(n(0), r.a, r.b, &mut answer);
+                return said.follow(&answer);
+            }
+            Call::Lower => ace_lower(n(0), r.a, m(1), r.b, r.c, n(2), w.a, w.b, w.c, &mut answer),
         }
+        said.follow(&answer)
     }
-}
-
-// Step on the case at a place.
-#[tactic(auto, unfolding(crate::specs::Calls::outcome))]
-fn step(s: &[u8], at: usize, said: usize, read: Reads, written: &mut Writes) -> bool
-    ensures { Asked Call.Step s.now at said read.entry written.old result written.new }
-{
-    let n = |k: u64| number(s, at, k);
-    let mut answer = [0; 4];
-    ace::ace_step(
-        n(0),
-        written.a,
-        n(1) as usize,
-        n(2),
-        n(3),
-        n(4),
-        &mut answer,
-    );
-    follow(s, said, &answer)
-}
-
-// Build on the case at a place.
-#[tactic(auto, unfolding(crate::specs::Calls::outcome))]
-fn build(s: &[u8], at: usize, said: usize, read: Reads, written: &mut Writes) -> bool
-    ensures { Asked Call.Build s.now at said read.entry written.old result written.new }
-{
-    let n = |k: u64| number(s, at, k);
-    let mut answer = [0; 4];
-    ace::ace_build(
-        n(0),
-        read.a,
-        n(1) as usize,
-        n(2) as usize,
-        written.a,
-        written.b,
-        &mut answer,
-    );
-    follow(s, said, &answer)
-}
-
-// Compact on the case at a place.
-#[tactic(auto, unfolding(crate::specs::Calls::outcome))]
-fn compact(s: &[u8], at: usize, said: usize, read: Reads, written: &mut Writes) -> bool
-    ensures { Asked Call.Compact s.now at said read.entry written.old result written.new }
-{
-    let n = |k: u64| number(s, at, k);
-    let mut answer = [0; 4];
-    ace::ace_compact(
-        n(0),
-        read.a,
-        n(1) as usize,
-        n(2) as usize,
-        written.a,
-        &mut answer,
-    );
-    follow(s, said, &answer)
-}
-
-// Normalize on the case at a place.
-#[tactic(auto, unfolding(crate::specs::Calls::outcome))]
-fn normalize(s: &[u8], at: usize, said: usize, read: Reads, written: &mut Writes) -> bool
-    ensures { Asked Call.Normalize s.now at said read.entry written.old result written.new }
-{
-    let n = |k: u64| number(s, at, k);
-    let mut answer = [0; 4];
-    ace::ace_normalize(
-        n(0),
-        read.a,
-        n(1) as usize,
-        n(2) as usize,
-        written.a,
-        written.b,
-        &mut answer,
-    );
-    follow(s, said, &answer)
-}
-
-// Evaluate on the case at a place.
-#[tactic(auto, unfolding(crate::specs::Calls::outcome))]
-fn evaluate(s: &[u8], at: usize, said: usize, read: Reads, written: &mut Writes) -> bool
-    ensures { Asked Call.Evaluate s.now at said read.entry written.old result written.new }
-{
-    let n = |k: u64| number(s, at, k);
-    let mut answer = [0; 4];
-    ace::ace_evaluate(
-        n(0),
-        read.a,
-        n(1) as usize,
-        n(2) as usize,
-        read.b,
-        n(3) as usize,
-        &mut answer,
-    );
-    follow(s, said, &answer)
-}
-
-// Prepare on the case at a place.
-#[tactic(auto, unfolding(crate::specs::Calls::outcome))]
-fn prepare(s: &[u8], at: usize, said: usize, read: Reads, written: &mut Writes) -> bool
-    ensures { Asked Call.Prepare s.now at said read.entry written.old result written.new }
-{
-    let mut answer = [0; 18];
-    ace::ace_prepare(number(s, at, 0), read.a, read.b, &mut answer);
-    follow(s, said, &answer)
-}
-
-// Lower on the case at a place.
-#[tactic(auto, unfolding(crate::specs::Calls::outcome))]
-fn lower(s: &[u8], at: usize, said: usize, read: Reads, written: &mut Writes) -> bool
-    ensures { Asked Call.Lower s.now at said read.entry written.old result written.new }
-{
-    let n = |k: u64| number(s, at, k);
-    let mut answer = [0; 4];
-    ace::ace_lower(
-        n(0),
-        read.a,
-        n(1) as usize,
-        read.b,
-        read.c,
-        n(2),
-        written.a,
-        written.b,
-        written.c,
-        &mut answer,
-    );
-    follow(s, said, &answer)
 }

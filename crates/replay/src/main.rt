@@ -8,7 +8,7 @@ ghost use Rattle.recorded_calls.specs.Promises as Promises;
 ghost use Rattle.replay.specs.Cases as Cases;
 ghost use Rattle.replay.specs.Report as Report;
 
-use recorded::{Reads, Trio, Writes, fit, hold_all, laid, past, places, skip, word};
+use recorded::{Cursor, Reads, Trio, Writes};
 use recorded_calls::Call;
 use std::io;
 use std::io::{Read, Write};
@@ -32,20 +32,20 @@ struct Parts {
 
 // The parts of the case at a place.
 #[tactic(auto, unfolding(crate::specs::Cases::parts_of))]
-fn parts_of(call: Call, s: &[u8], at: usize) -> Parts
-    ensures { result ≡ Cases.parts_of call s.now at }
+fn parts_of(call: Call, case: Cursor) -> Parts
+    ensures { result ≡ Cases.parts_of call case.entry.stream.now case.entry.at }
 {
     let h = call.shape();
-    let read = skip(s, at, h.numbers);
-    let written = past(s, read, 1, h.read);
-    let said = past(s, written, 1, h.written);
-    let after = skip(s, said, h.answer);
+    let read = case.skip(h.numbers);
+    let written = read.past(1, h.read);
+    let said = written.past(1, h.written);
+    let after = said.skip(h.answer);
     Parts {
-        read: places(s, read, 1, h.read),
-        written: places(s, written, 1, h.written),
-        said,
-        held: places(s, after, 0, h.written),
-        next: past(s, after, 0, h.written),
+        read: read.places(1, h.read),
+        written: written.places(1, h.written),
+        said: said.at,
+        held: after.places(0, h.written),
+        next: after.past(0, h.written).at,
     }
 }
 
@@ -53,79 +53,64 @@ fn parts_of(call: Call, s: &[u8], at: usize) -> Parts
 #[derive(Clone, Copy)]
 struct Case<'a> {
     call: Call,
-    stream: &'a [u8],
-    at: usize,
+    start: Cursor<'a>,
     parts: Parts,
-    ghost parted: { parts ≡ Cases.parts_of call stream.now at },
+    ghost parted: { parts ≡ Cases.parts_of call start.stream.now start.at },
 }
 
 impl<'a> Case<'a> {
     // The case at a place.
-    fn new(call: Call, stream: &'a [u8], at: usize) -> Case<'a>
+    fn new(call: Call, start: Cursor<'a>) -> Case<'a>
         ensures call { result.call ≡ call }
-        ensures stream { result.stream.now ≡ stream.now }
-        ensures at { result.at ≡ at }
+        ensures stream { result.start.stream.now ≡ start.entry.stream.now }
+        ensures at { result.start.at ≡ start.entry.at }
     {
-        let parts = parts_of(call, stream, at);
-        Case {
-            call,
-            stream,
-            at,
-            parts,
-        }
+        let parts = parts_of(call, start);
+        Case { call, start, parts }
     }
 
     // Whether the case has room in the arrays that it is lent from.
     #[tactic(auto, unfolding(crate::specs::Cases::room))]
     fn has_room(self) -> bool
-        ensures { result ≡ Cases.room self.entry.stream.now self.entry.parts }
+        ensures { result ≡ Cases.room self.entry.start.stream.now self.entry.parts }
     {
-        fit(self.stream, self.parts.read, READ as u64)
-            && fit(self.stream, self.parts.written, WRITTEN as u64)
+        self.start.fit(self.parts.read, READ as u64)
+            && self.start.fit(self.parts.written, WRITTEN as u64)
     }
 
     // Whether the case is answered as recorded, with the stores that its call reads laid.
     fn answered_with(self, read: Reads) -> bool
-        requires laid { Promises.read read ≡ Cases.laid self.stream.now self.parts.read }
-        requires room { Cases.HasRoom self.stream.now self.parts }
-        ensures { result ≡ Cases.answered self.entry.call self.entry.stream.now self.entry.at self.entry.parts }
+        requires laid { Promises.read read ≡ Cases.laid self.start.stream.now self.parts.read }
+        requires room { Cases.HasRoom self.start.stream.now self.parts }
+        ensures { result ≡ Cases.answered self.entry.call self.entry.start.stream.now self.entry.start.at self.entry.parts }
     {
-        let Case {
-            call,
-            stream: s,
-            at,
-            parts,
-        } = self;
+        let Case { call, start, parts } = self;
         let mut a = [0; WRITTEN];
         let mut b = [0; WRITTEN];
         let mut c = [0; WRITTEN];
         let mut written = Writes {
-            a: laid(s, parts.written.a, &mut a),
-            b: laid(s, parts.written.b, &mut b),
-            c: laid(s, parts.written.c, &mut c),
+            a: start.to(parts.written.a).laid(&mut a),
+            b: start.to(parts.written.b).laid(&mut b),
+            c: start.to(parts.written.c).laid(&mut c),
         };
-        let told = call.ask(s, at, parts.said, read, &mut written);
+        let told = call.ask(start, parts.said, read, &mut written);
         let Writes { a, b, c } = written;
-        told && hold_all(s, parts.held, a, b, c)
+        told && start.hold_all(parts.held, a, b, c)
     }
 
     // Whether the case is answered as recorded.
     fn answered(self) -> bool
-        requires { Cases.HasRoom self.stream.now self.parts }
-        ensures { result ≡ Cases.answered self.entry.call self.entry.stream.now self.entry.at self.entry.parts }
+        requires { Cases.HasRoom self.start.stream.now self.parts }
+        ensures { result ≡ Cases.answered self.entry.call self.entry.start.stream.now self.entry.start.at self.entry.parts }
     {
-        let Case {
-            stream: s,
-            parts,
-            ..
-        } = self;
+        let Case { start, parts, .. } = self;
         let mut a = [0; READ];
         let mut b = [0; READ];
         let mut c = [0; READ];
         let read = Reads {
-            a: laid(s, parts.read.a, &mut a),
-            b: laid(s, parts.read.b, &mut b),
-            c: laid(s, parts.read.c, &mut c),
+            a: start.to(parts.read.a).laid(&mut a),
+            b: start.to(parts.read.b).laid(&mut b),
+            c: start.to(parts.read.c).laid(&mut c),
         };
         self.answered_with(read)
     }
@@ -133,7 +118,7 @@ impl<'a> Case<'a> {
     // Whether the case has room and is answered as recorded.
     #[tactic(auto, unfolding(crate::specs::Cases::same))]
     fn same(self) -> bool
-        ensures { result ≡ Cases.same self.entry.call self.entry.stream.now self.entry.at }
+        ensures { result ≡ Cases.same self.entry.call self.entry.start.stream.now self.entry.start.at }
     {
         self.has_room() && self.answered()
     }
@@ -161,7 +146,7 @@ fn tell<W: Write>(output: &mut W, call: Call, s: &[u8], cases: u64) -> io::Resul
     let mut matched = 0;
     let mut at = 0;
     for i in 0..cases {
-        let case = Case::new(call, s, at);
+        let case = Case::new(call, Cursor { stream: s, at });
         let same = case.same();
         matched += u64::from(same);
         if !same {
@@ -217,15 +202,19 @@ fn section<R: Read, W: Write>(
 ) -> io::Result<bool> {
     let mut head = [0u8; 24];
     streams::read_full(input, &mut head)?;
-    let Some(call) = call_of(word(&head, 0)) else {
+    let head = Cursor {
+        stream: &head,
+        at: 0,
+    };
+    let Some(call) = call_of(head.word()) else {
         return Ok(false);
     };
-    let words = word(&head, 2);
+    let words = head.number(2);
     if words > buffer.len() as u64 / 8 {
         return Ok(false);
     }
     let store = &mut buffer[..8 * words as usize];
-    read_cases(input, output, call, word(&head, 1), store)?;
+    read_cases(input, output, call, head.number(1), store)?;
     Ok(true)
 }
 
