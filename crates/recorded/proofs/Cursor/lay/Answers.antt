@@ -5,4 +5,7 @@ use Rattle.recorded.proofs.Cursor.lay.Goals as goal
 
 pub returns : goal.returns
 unfolding stored
-returns c = rw (← c.requires, ← c.skip-packed.ensures.at, ← c.skip-packed.ensures.stream) (fill_by_all (given c.skip-packed.result.stream.now c.skip-packed.result.at) c.loop-i.store _ 0 c.loop-i.auto.store (search rules))
+returns c =
+    let packed = c.skip-packed.result in
+    rw (← c.requires, ← c.skip-packed.ensures.at, ← c.skip-packed.ensures.stream)
+    (fill_by_all (given packed.stream.now packed.at) c.loop-i.store _ 0 c.loop-i.auto.store (search rules))
