@@ -1,6 +1,6 @@
 -- What a field number gives, once its field is known.
 use Rattle.std.specs.Prelude.{◌≡◌, ℕ, refl, Option, Some, None}
-use Rattle.std.proofs.Common.{sym, ◌∙◌, ap, ne_eqb}
+use Rattle.std.proofs.Common.{ap, ne_eqb}
 use Rattle.field.specs.Numbers.{numbered, named, in_field}
 use Rattle.field.specs.declared.Prime.{Prime}
 use Rattle.field.specs.declared.Prime.TheVariants.{Goldilocks, BabyBear}
@@ -24,11 +24,3 @@ module _ {A : Type 0} (number : ℕ) (unknown : A) (known : Prime → A) where
 
   pub by_unknown : numbered number ≡ None → in_field number unknown known ≡ unknown
   by_unknown e = ap (λ (i : Option Prime). named i unknown known) e
-
-  -- k is what the number names
-  module _ {k : Option Prime} (e : k ≡ numbered number) where
-    pub in_known : {prime : Prime} {x : A} → k ≡ Some prime → x ≡ known prime → x ≡ in_field number unknown known
-    in_known h g = g ∙ sym (by_known (sym e ∙ h))
-
-    pub in_unknown : {x : A} → k ≡ None → x ≡ unknown → x ≡ in_field number unknown known
-    in_unknown h g = g ∙ sym (by_unknown (sym e ∙ h))

@@ -24,16 +24,12 @@ use Rattle.normalize.specs.CallLaws.{passed}
 use Rattle.normalize.specs.Promises.{Passed}
 use Rattle.normalize.specs.declared.NormalEnd.{NormalEnd}
 use Rattle.dag.specs.Refusals.{Checked, unless_refused}
-use Rattle.text.specs.Promises.{Laid}
 use Rattle.house_file.specs.File.{most_filed, file_count, file_root, file_view, held_check, read_answer, read_list}
 use Rattle.house_file.specs.declared.Filed.{Filed}
 use Rattle.house_file.specs.Promises as FileContracts
 use Rattle.house_file.specs.FileLaws.{filed_room, room_enough, read_refused, Read, read_done, read_agrees, passed as file-passed}
 use Rattle.listing.specs.Listing.{listed, refused_line, words_listing, listing}
 use Rattle.listing.specs.Promises.{answer_text, Tells}
-
-pub laid_as : {s a b u : List ℕ} {r : ℕ} → a ≡ b → Laid s a u r → Laid s b u r
-laid_as e w = rw (← e) w
 
 pub single : (l : List ℕ) → length l ≡ 1 → l ≡ get_or l 0 0 ∷ []
 single [] e = absurd (omega arith)

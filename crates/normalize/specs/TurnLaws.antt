@@ -1,5 +1,5 @@
 -- A round's turn: the record at place i planned and entered.
-use Rattle.std.specs.Prelude.{Bool, true, false, cond, ◌||◌, Option, Some, None, ℕ, ◌+◌, ◌<◌, ◌≤◌, List, ◌≡◌, length, set}
+use Rattle.std.specs.Prelude.{Bool, false, ◌||◌, Option, Some, None, ℕ, ◌+◌, ◌<◌, ◌≤◌, List, ◌≡◌, length, set}
 use Rattle.std.proofs.Math.Path.{refl, ap, ap₂}
 use Rattle.std.proofs.Common.{◌∙◌, add-one}
 use native.Mathlib.Omega.{arith}
@@ -21,7 +21,7 @@ use Rattle.normalize.specs.Rounds.{planned, round, fired}
 use Rattle.plan.specs.PlanLaws.{plan_fine}
 use Rattle.normalize.specs.RoundLaws.{round_replayed, round_length}
 use Rattle.plan.specs.Promises.{PlanFine}
-use Rattle.normalize.specs.Promises.{Entering, held, Planned, Rounding, RoundHeld, RoundEnds}
+use Rattle.normalize.specs.Promises.{Entering, held, Planned, Rounding, RoundHeld}
 use Rattle.plan.specs.declared.Rewrite.{Rewrite}
 use Rattle.plan.specs.declared.Rewrite.TheVariants.{Factored, Rotated}
 
@@ -103,8 +103,3 @@ module _ (field : Field) where
                   q.sound (q.list_is ∙ ap (λ b. b.list) (same ∙ here)) (q.place_is ∙ ap (λ b. b.place) (same ∙ here)) (let f = g.map_fits in omega arith);
               fired_is = eu ∙ ap₂ (λ a b. a || fires b) h.fired_is (ep ∙ ap (plan_of (nodes (interleaved s) n) (read fan) i) ex);
             })
-
-  -- the last turn is behind it
-  pub round_ends : (s : List ℕ) (n : ℕ) (fan work map : List ℕ) (count : ℕ) (t : Bool) (r : Option ℕ) → RoundHeld field s n fan n work map count t → r ≡ cond t (Some count) None → RoundEnds field s n fan work map r
-  round_ends s n fan work map count true r h e = rw e (record { fired_is = h.fired_is; holds = h.holds })
-  round_ends s n fan work map count false r h e = rw e (record { fired_is = h.fired_is; holds = tt })

@@ -71,7 +71,3 @@ module _ {A : Type 0} (f : A → A → A) (comm : (a b : A) → f a b ≡ f b a)
   -- (x y) z = (x z) y
   pub right_comm : (x y z : A) → f (f x y) z ≡ f (f x z) y
   right_comm x y z = assoc x y z ∙ ap (λ (n : A). f x n) (comm y z) ∙ sym (assoc x z y)
-
-  -- (x y) z = (y z) x
-  pub rotate : (x y z : A) → f (f x y) z ≡ f (f y z) x
-  rotate x y z = assoc x y z ∙ comm x (f y z)
