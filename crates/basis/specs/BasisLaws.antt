@@ -58,7 +58,7 @@ module _ (field : Field) where
       record {
         at = λ k h. rw e (get_or_up_to (root field c) 0 (length c) k h);
         low = λ k h. rw (e, get_or_up_to (root field c) 0 (length c) k h) (low_pow (coordinate_laws field) (field.generator (log_length c)) k);
-        many = omega (arith, ap length e, length_up_to (root field c) (length c));
+        many = ap length e ∙ length_up_to (root field c) (length c);
       }
 
   -- the factor of row k

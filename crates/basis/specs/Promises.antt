@@ -49,7 +49,7 @@ module _ (field : Field) where
   pub record Roots (c rs : List ℕ) : Type 0 where
     pub at : (k : ℕ) → k < length c → get_or rs k 0 ≡ root field c k
     pub low : (k : ℕ) → k < length c → get_or rs k 0 < modulus field
-    pub many : length c ≤ length rs
+    pub many : length rs ≡ length c
 
   -- a value and the offset of a column
   pub record Class (c : List ℕ) (d v : ℕ) : Type 0 where

@@ -178,8 +178,8 @@ fn basis_factors(
     ensures { let c = col.entry in Runs.Listing (Runs.held builder.old) (λ field. Periodic.factors field c.entries.now point) (Runs.held builder.new) (length c.entries.now) result }
 {
     let mut factors = ArrayVec::new();
-    for k in 0..col.entries.len() {
-        let factor = basis_factor(builder, point, roots[k])?;
+    for root in roots {
+        let factor = basis_factor(builder, point, *root)?;
         factors.push(factor);
     }
     Ok(factors)

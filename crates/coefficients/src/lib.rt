@@ -149,8 +149,8 @@ pub fn dense(col: Column) -> ArrayVec<u64, MOST_ENTRIES>
     let scale = size_inverse(col.prime, col.entries);
     let sums = sums(col);
     let mut coefficients = ArrayVec::new();
-    for j in 0..col.entries.len() {
-        coefficients.push(felt::mul(col.prime, sums[j], scale));
+    for sum in &sums[..col.entries.len()] {
+        coefficients.push(felt::mul(col.prime, *sum, scale));
     }
     coefficients
 }

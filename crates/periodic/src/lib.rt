@@ -31,6 +31,9 @@ pub const LIST_WORDS: usize = dag::RECORD_WORDS * dag::MOST_RECORDS;
 // The words of its index.
 pub const LINK_WORDS: usize = 2 * dag::MOST_RECORDS;
 
+// So many powers of a column's point there are at most.
+const MOST_POWERS: usize = MOST_TWIDDLES + 1;
+
 // A list that is built in stores for the longest, and refused where it would be longer.
 #[derive(Drop)]
 pub struct PeriodicBuilder<'list, 'index, 'links> {
@@ -126,7 +129,7 @@ impl<'list, 'index, 'links> PeriodicBuilder<'list, 'index, 'links> {
     }
 
     // z and its squares, k + 1 in all.
-    fn powers(&mut self, z: usize, k: usize) -> Result<ArrayVec<usize, 8>, Refusal>
+    fn powers(&mut self, z: usize, k: usize) -> Result<ArrayVec<usize, MOST_POWERS>, Refusal>
         requires { (z < self.old.inner.count) × (k < 8) }
         ensures { Runs.Listing (Runs.held self.old) (λ field. Periodic.powers field.elements z k) (Runs.held self.new) (k + 1) result }
     {

@@ -1,5 +1,6 @@
+use Prim.Native.Nat.{◌<◌}
 use native.Mathlib.Omega.{arith}
-use Rattle.std.proofs.Common.{rules, sym, ◌∙◌}
+use Rattle.std.proofs.Common.{length, rules, sym, ◌∙◌}
 use Rattle.field.specs.Fields.{field_of}
 use Rattle.periodic.specs.Periodic as Periodic
 use Rattle.periodic.specs.SameLaws.{same_is}
@@ -7,30 +8,33 @@ use Rattle.periodic.specs.RunLaws.{list_none, list_next, list_long, list_all, no
 use Rattle.basis.specs.BasisLaws.{factor_at}
 use Rattle.basis.proofs.basis_factors.Goals as goal
 
-pub loop-k-init : goal.loop-k-init
-loop-k-init c = list_none _ _ _ _ c.new-factors.ensures (none_inside _)
-
-pub bounds-roots-k : goal.bounds-roots-k
-bounds-roots-k c = omega (arith, c.requires.2.many)
+pub loop-root-init : goal.loop-root-init
+loop-root-init c = list_none _ _ _ _ c.new-factors.ensures (none_inside _)
 
 pub basis_factor-requires : goal.basis_factor-requires
-basis_factor-requires c = (omega (arith, c.requires.0, c.loop-k.invariant.ran.longer), below_later (c.loop-k.invariant.ran.prime_is ∙ sym c.requires.1) (c.requires.2.low _ c.loop-k-test.true))
+basis_factor-requires c = (
+  omega (arith, c.requires.0, c.loop-root.invariant.ran.longer),
+  below_later (c.loop-root.invariant.ran.prime_is ∙ sym c.requires.1) (c.requires.2.low _ (omega (arith, c.requires.2.many, c.loop-root-test.true))),
+)
 
 pub returns-in_err-factor : goal.returns-in_err-factor
 unfolding Periodic.factors
 returns-in_err-factor c =
+    let inside : c.loop-root.root-index < length c.args.col.entries.now = omega (arith, c.requires.2.many, c.loop-root-test.true) in
     refused_list _ _ c.from_residual.ensures
-    (list_long _ _ _ _ c.loop-k-test.true c.loop-k.invariant
-    (long_like (c.loop-k.invariant.ran.prime_is ∙ sym c.requires.1) (same_is (factor_at (field_of c.args.col.prime) _ _ _ _ c.requires.2 c.loop-k-test.true)) c.in_err-factor.ensures.told))
+    (list_long _ _ _ _ inside c.loop-root.invariant
+    (long_like (c.loop-root.invariant.ran.prime_is ∙ sym c.requires.1) (same_is (factor_at (field_of c.args.col.prime) _ _ _ _ c.requires.2 inside)) c.in_err-factor.ensures.told))
 
-pub loop-k-preserved : goal.loop-k-preserved
-loop-k-preserved c =
-    list_next _ _ _ _ _ c.loop-k.invariant
-    (entered_like (c.loop-k.invariant.ran.prime_is ∙ sym c.requires.1) (same_is (factor_at (field_of c.args.col.prime) _ _ _ _ c.requires.2 c.loop-k-test.true)) c.in_ok-factor.ensures.told) c.push.ensures.items
+pub loop-root-preserved : goal.loop-root-preserved
+loop-root-preserved c =
+    let inside : c.loop-root.root-index < length c.args.col.entries.now = omega (arith, c.requires.2.many, c.loop-root-test.true) in
+    list_next _ _ _ _ _ c.loop-root.invariant
+    (entered_like (c.loop-root.invariant.ran.prime_is ∙ sym c.requires.1) (same_is (factor_at (field_of c.args.col.prime) _ _ _ _ c.requires.2 inside)) c.in_ok-factor.ensures.told)
+    c.push.ensures.items
 
 pub returns : goal.returns
 unfolding Periodic.factors
-returns c = list_all _ _ _ _ (omega arith) c.loop-k-test.false (omega arith) c.loop-k.invariant
+returns c = list_all _ _ _ _ (omega (arith, c.requires.2.many)) (omega (arith, c.requires.2.many, c.loop-root-test.false)) (omega (arith, c.requires.2.many)) c.loop-root.invariant
 
 pub push-requires : goal.push-requires
-push-requires c = (search rules, omega (arith, c.args.col.tested.short, c.loop-k.invariant.many))
+push-requires c = (search rules, omega (arith, c.args.col.tested.short, c.loop-root.invariant.many, c.requires.2.many))

@@ -1,7 +1,7 @@
-use mathlib.Core.Path.{refl}
-use native.Mathlib.Nat.{lt_of_lt_of_le}
+use Prim.Native.Nat.{◌<◌}
 use native.Mathlib.Omega.{arith}
-use Rattle.std.proofs.Common.{rules}
+use Rattle.std.proofs.Common.{length, rules}
+use Rattle.std.proofs.lemmas.List.{length-take-le, get_or-take}
 use Rattle.field.specs.Fields.{field_of}
 use Rattle.dag.specs.Arrays.{up_to}
 use Rattle.coefficients.specs.Arrays as Arrays
@@ -9,19 +9,26 @@ use Rattle.coefficients.specs.SplitLaws.{dense_told}
 use Rattle.coefficients.specs.TermLaws.{up_to_next, up_to_all, up_to_short}
 use Rattle.coefficients.proofs.dense.Goals as goal
 
-pub loop-j-init : goal.loop-j-init
+pub loop-sum-init : goal.loop-sum-init
 unfolding up_to
-loop-j-init c = c.new-coefficients.ensures
+loop-sum-init c = c.new-coefficients.ensures
 
 pub push-requires : goal.push-requires
-push-requires c = (search rules, up_to_short _ _ _ _ c.loop-j.invariant (lt_of_lt_of_le c.loop-j-test.true c.args.col.tested.short))
+push-requires c =
+    let taken = length-take-le (length c.args.col.entries.now) c.sums-sums.result (omega (arith, c.args.col.tested.short)) in
+    (search rules, up_to_short _ _ _ _ c.loop-sum.invariant (omega (arith, taken, c.loop-sum-test.true, c.args.col.tested.short)))
 
-pub loop-j-preserved : goal.loop-j-preserved
-loop-j-preserved c =
-    up_to_next _ _ _ _ _ c.loop-j.invariant
-    (dense_told (field_of c.args.col.prime) _ c.args.col.tested _ _ _ _ _ c.loop-j-test.true c.sums-sums.ensures refl c.size_inverse-scale.ensures.0 c.mul.ensures.0)
+pub loop-sum-preserved : goal.loop-sum-preserved
+loop-sum-preserved c =
+    let taken = length-take-le (length c.args.col.entries.now) c.sums-sums.result (omega (arith, c.args.col.tested.short)) in
+    let inside : c.loop-sum.sum-index < length c.args.col.entries.now = omega (arith, taken, c.loop-sum-test.true) in
+    up_to_next _ _ _ _ _ c.loop-sum.invariant
+    (dense_told (field_of c.args.col.prime) _ c.args.col.tested _ _ _ _ _ inside c.sums-sums.ensures
+    (get_or-take (length c.args.col.entries.now) c.sums-sums.result c.loop-sum.sum-index 0 inside) c.size_inverse-scale.ensures.0 c.mul.ensures.0)
     c.push.ensures.items
 
 pub returns : goal.returns
 unfolding Arrays.coefficients
-returns c = up_to_all _ _ _ _ c.loop-j.invariant (omega arith) c.loop-j-test.false
+returns c =
+    let taken = length-take-le (length c.args.col.entries.now) c.sums-sums.result (omega (arith, c.args.col.tested.short)) in
+    up_to_all _ _ _ _ c.loop-sum.invariant (omega (arith, taken)) (omega (arith, taken, c.loop-sum-test.false))
