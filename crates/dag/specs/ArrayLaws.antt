@@ -40,6 +40,9 @@ module _ {A : Type 0} where
       (ap (λ i. set (padded z n (up_to f j)) i (f j)) (sym (length_up_to f j)) ∙ padded_set z n (up_to f j) (f j) (rw (length_up_to f j) h))
 
   -- filled to the end
+  pub fill_all : (z : A) (n : ℕ) (f : ℕ → A) (s : List A) (j k l : ℕ) → s ≡ padded z n (up_to f j) → j ≤ k → k ≤ j → l ≡ k → s ≡ padded z n (up_to f l)
+  fill_all z n f s j k l e h i q = let r : j ≡ l = omega arith in e ∙ ap (λ x. padded z n (up_to f x)) r
+
   pub get_or_up_to : (f : ℕ → A) (d : A) (n i : ℕ) → i < n → get_or (up_to f n) i d ≡ f i
   unfolding up_to
   get_or_up_to f d zero i h = absurd (omega arith)
