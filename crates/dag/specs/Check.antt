@@ -1,11 +1,13 @@
 -- The list check, with the bounds of coordinates left open.
-use Rattle.std.specs.Prelude.{ℕ, Bool, true, cond, ◌&&◌, leb, ltb, eqb}
+use Rattle.std.specs.Prelude.{ℕ, Bool, true, cond, ◌&&◌, List, length, leb, ltb, eqb}
+use Rattle.std.specs.List.{list_all}
 use Rattle.field.specs.Fields.{Bounds}
 use Rattle.dag.specs.View.{View}
 use Rattle.dag.specs.Keys.{is_key}
 use Rattle.dag.specs.Nodes.{most_records}
+use Rattle.dag.specs.Roots.{most_roots}
 use Rattle.dag.specs.Refusals.{need, ◌then◌, first_refused, Checked}
-use Rattle.dag.specs.declared.Refusal.TheVariants.{CountOutOfRange, StoreTooShort, UnknownTag, Malformed, OperandNotEarlier, RootOutside}
+use Rattle.dag.specs.declared.Refusal.TheVariants.{CountOutOfRange, StoreTooShort, UnknownTag, Malformed, OperandNotEarlier, RootOutside, RootCount}
 
 -- an element's coordinates in lowest form
 abbrev pub lowest : Bounds → ℕ → ℕ → Bool
@@ -45,13 +47,19 @@ records_check m s = first_refused (check_at m s)
 unfoldable pub room_check : ℕ → ℕ → Checked
 room_check needed room = need (leb needed room) StoreTooShort
 
--- the tests of a list of at least `least` records without a root: 1, 2, then the records
+-- the tests of a list of at least `least` records without roots: 1, 2, then the records
 unfoldable pub rootless_check : Bounds → ℕ → View → ℕ → Checked
 rootless_check m least s n =
     need (leb least n && leb n most_records) CountOutOfRange
     then room_check n s.room
     then records_check m s n
 
--- the list check: n from 1, and last the root, 6
-unfoldable pub list_check : Bounds → View → ℕ → ℕ → Checked
-list_check m s n root = rootless_check m 1 s n then need (ltb root n) RootOutside
+-- the tests of a list's roots: one to eight, else 46; each below n, else 6
+unfoldable pub roots_check : ℕ → List ℕ → Checked
+roots_check n roots =
+    need (leb 1 (length roots) && leb (length roots) most_roots) RootCount
+    then need (list_all (λ root. ltb root n) roots) RootOutside
+
+-- the list check: n from 1, and last the roots
+unfoldable pub list_check : Bounds → View → ℕ → List ℕ → Checked
+list_check m s n roots = rootless_check m 1 s n then roots_check n roots

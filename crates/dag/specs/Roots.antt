@@ -14,7 +14,8 @@ roots_of r = r.places.items
 unfoldable pub roots_from : List ℕ → Roots
 roots_from is = record { places = record { items = is } }
 
--- roots of a list of n records
+-- the roots of a list of n records: one to eight of its places
 pub record Inside (n : ℕ) (r : Roots) : Type 0 where
+  pub some : 0 < length (roots_of r)
   pub few : length (roots_of r) ≤ most_roots
   pub below : (j : ℕ) → j < length (roots_of r) → get_or (roots_of r) j 0 < n

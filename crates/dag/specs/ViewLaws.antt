@@ -61,9 +61,9 @@ module _ (u v : View) where
     unfolding rootless_check
     alike_rootless m least = rw (a.rooms, agree_checks m n a.words)
 
-    pub alike_list : (m : Bounds) (root : ℕ) → list_check m u n root ≡ list_check m v n root
+    pub alike_list : (m : Bounds) (roots : List ℕ) → list_check m u n roots ≡ list_check m v n roots
     unfolding list_check
-    alike_list m root = rw (alike_rootless m 1)
+    alike_list m roots = rw (alike_rootless m 1)
 
 -- stores with room for n records that agree in these
 pub alike : (u v : View) (n : ℕ) → n ≤ u.room → n ≤ v.room → Agree u v n → Alike u v n

@@ -8,7 +8,6 @@ use native.Mathlib.Omega.{arith}
 use Rattle.std.proofs.Math.ListN.{length, take, drop, replicate, length-append, length-drop}
 use Rattle.std.proofs.lemmas.List.{set_at}
 use Rattle.std.proofs.Math.Seq.{take_at, append_snoc, ext_get_or, length-take-le}
-use borrow.Author.Tests.{le-leb, lt-ltb}
 use Rattle.field.specs.Fields.{Bounds, Within}
 use Rattle.dag.specs.View.{interleaved}
 use Rattle.dag.specs.ViewLaws.{room_words, words_room}
@@ -17,7 +16,8 @@ use Rattle.dag.specs.Nodes.{tag, first, second, record_at, nodes, at, words, wor
 use Rattle.dag.specs.NodeLaws.{decode_words, length_nodes, at_nodes, length_snoc}
 use Rattle.dag.specs.Check.{check_at, records_check, rootless_check, list_check}
 use Rattle.dag.specs.CheckLaws.{passes, fine_passes}
-use Rattle.dag.specs.PassLaws.{enough_room}
+use Rattle.dag.specs.PassLaws.{rootless_passes, list_passes}
+use Rattle.dag.specs.Roots.{roots_from, Inside}
 use Rattle.dag.specs.Store.{put, front, behind, written, stored, copied, copied_records, blanked_behind, Sound}
 use Rattle.dag.specs.StoreLaws.{words_snoc, length_words, front_words}
 use Rattle.dag.specs.WellFormed.{WellFormed}
@@ -77,13 +77,11 @@ module _ (t : List ℕ) where
 
     -- the store passes the tests of a list of at least `least` records
     pub words_rootless : (least : ℕ) → least ≤ length l → length l ≤ most_records → rootless_check m least (interleaved (words_of l ++ t)) (length l) ≡ Ok tt
-    unfolding rootless_check
-    words_rootless least h k = simp (le-leb least (length l) h, le-leb (length l) most_records k, enough_room _ _ sound_words.room, sound_words.good)
+    words_rootless least h k = rootless_passes m least _ (length l) sound_words h k
 
     -- the store passes the list check
-    pub words_pass : (root : ℕ) → root < length l → length l ≤ most_records → list_check m (interleaved (words_of l ++ t)) (length l) root ≡ Ok tt
-    unfolding list_check
-    words_pass root h k = rw (words_rootless 1 (omega arith) k, lt-ltb root (length l) h)
+    pub words_pass : (roots : List ℕ) → Inside (length l) (roots_from roots) → length l ≤ most_records → list_check m (interleaved (words_of l ++ t)) (length l) roots ≡ Ok tt
+    words_pass roots inside k = list_passes m _ (length l) roots sound_words k inside
 
 -- three words stored one after the other
 set_three : (p ys : List ℕ) (a b c x y z n : ℕ) → length p ≡ n
@@ -154,7 +152,7 @@ module _ (s : List ℕ) (l : List NodeKind) where
     unfolding stored filled
     stored_rootless = words_rootless (replicate (length s - length (words_of l)) blank) m l f
 
-    pub stored_pass : (root : ℕ) → root < length l → length l ≤ most_records → list_check m (interleaved (stored s l)) (length l) root ≡ Ok tt
+    pub stored_pass : (roots : List ℕ) → Inside (length l) (roots_from roots) → length l ≤ most_records → list_check m (interleaved (stored s l)) (length l) roots ≡ Ok tt
     unfolding stored filled
     stored_pass = words_pass (replicate (length s - length (words_of l)) blank) m l f
 

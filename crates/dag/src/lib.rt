@@ -12,7 +12,7 @@ ghost use Rattle.dag.specs.Check as Check;
 ghost use Rattle.dag.specs.Store as Store;
 ghost use Rattle.dag.specs.Lookup as Lookup;
 ghost use Rattle.dag.specs.WellFormed as Well;
-ghost use Rattle.dag.specs.Roots.{roots_of, roots_from, Inside};
+ghost use Rattle.dag.specs.Roots.{most_roots, roots_of, roots_from, Inside};
 
 use arrayvec::ArrayVec;
 use field::{Prime, QuadFelt, felt};
@@ -86,6 +86,7 @@ pub enum Refusal {
     FileVersion,
     FileCount,
     FileLength,
+    RootCount,
     FieldNumber,
 }
 
@@ -111,6 +112,7 @@ impl Refusal {
             Refusal::FileVersion => 22,
             Refusal::FileCount => 23,
             Refusal::FileLength => 24,
+            Refusal::RootCount => 46,
             Refusal::FieldNumber => 49,
         }
     }
@@ -247,7 +249,7 @@ pub fn room_check(needed: usize, room: usize) -> Result<(), Refusal>
     Ok(())
 }
 
-// The tests of a list of at least `least` records without a root: 1, 2, then the records.
+// The tests of a list of at least `least` records without roots: 1, 2, then the records.
 #[tactic(auto, unfolding(crate::specs::Check::rootless_check))]
 pub fn rootless_check(prime: Prime, list: &[u64], n: usize, least: usize) -> Result<(), Refusal>
     ensures { result ≡ Check.rootless_check (field_of prime).bounds least (interleaved list.now) n }
@@ -259,16 +261,27 @@ pub fn rootless_check(prime: Prime, list: &[u64], n: usize, least: usize) -> Res
     records_check(prime, list, n)
 }
 
-// The list check, with a root.
-#[tactic(auto, unfolding(crate::specs::Check::list_check))]
-pub fn list_check(prime: Prime, list: &[u64], n: usize, root: usize) -> Result<(), Refusal>
-    ensures { result ≡ Check.list_check (field_of prime).bounds (interleaved list.now) n root }
+// The tests of a list's roots: 46, 6.
+#[tactic(auto, unfolding(crate::specs::Check::roots_check))]
+fn roots_check(n: usize, roots: &[u64]) -> Result<(), Refusal>
+    ensures { result ≡ Check.roots_check n roots.now }
 {
-    rootless_check(prime, list, n, 1)?;
-    if n <= root {
+    if roots.is_empty() || MOST_ROOTS < roots.len() {
+        return Err(Refusal::RootCount);
+    }
+    if !roots.iter().all(|root| (*root as usize) < n) {
         return Err(Refusal::RootOutside);
     }
     Ok(())
+}
+
+// The list check, with its roots.
+#[tactic(auto, unfolding(crate::specs::Check::list_check))]
+pub fn list_check(prime: Prime, list: &[u64], n: usize, roots: &[u64]) -> Result<(), Refusal>
+    ensures { result ≡ Check.list_check (field_of prime).bounds (interleaved list.now) n roots.now }
+{
+    rootless_check(prime, list, n, 1)?;
+    roots_check(n, roots)
 }
 
 // The record that three words stand for.
@@ -377,22 +390,17 @@ impl NodeKind {
 }
 
 impl Roots {
-    // A list's one root.
+    // The roots that these words are.
     #[tactic(auto, unfolding(crate::specs::Roots::roots_from))]
-    pub fn one(root: usize) -> Roots
-        ensures { result ≡ roots_from (root ∷ []) }
+    pub fn of(words: &[u64]) -> Roots
+        requires { length words.now ≤ most_roots }
+        ensures { result ≡ roots_from words.now }
     {
         let mut places = ArrayVec::new();
-        places.push(root);
+        for word in words {
+            places.push(*word as usize);
+        }
         Roots { places }
-    }
-
-    // The first root, 0 where there is none.
-    #[tactic(auto, unfolding(crate::specs::Roots::roots_of))]
-    pub fn first(&self) -> u64
-        ensures { result ≡ get_or (roots_of self.now) 0 0 }
-    {
-        self.places.first().map_or(0, |root| *root as u64)
     }
 
     // The roots' new places.
@@ -437,15 +445,15 @@ impl<'a> Dag<'a> {
     ghost use Rattle.dag.specs.Held.{HeldOf};
 
     // The list, if it passes the list check.
-    pub fn new(prime: Prime, list: &'a [u64], n: usize, root: usize) -> Result<Dag<'a>, Refusal>
-        ensures checked { Refusals.outcome result ≡ Check.list_check (field_of prime).bounds (interleaved list.now) n root }
+    pub fn new(prime: Prime, list: &'a [u64], n: usize, roots: &[u64]) -> Result<Dag<'a>, Refusal>
+        ensures checked { Refusals.outcome result ≡ Check.list_check (field_of prime).bounds (interleaved list.now) n roots.now }
         ensures held { HeldOf prime list.now n result }
     {
-        list_check(prime, list, n, root)?;
+        list_check(prime, list, n, roots)?;
         Ok(Dag { prime, list, n })
     }
 
-    // The list, if it passes the list check without a root; it may be empty.
+    // The list, if it passes the list check without roots; it may be empty.
     pub fn rootless(prime: Prime, list: &'a [u64], n: usize) -> Result<Dag<'a>, Refusal>
         ensures checked { Refusals.outcome result ≡ Check.rootless_check (field_of prime).bounds 0 (interleaved list.now) n }
         ensures held { HeldOf prime list.now n result }

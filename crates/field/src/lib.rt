@@ -29,7 +29,7 @@ pub fn numbered(number: u64) -> Option<Prime>
 }
 
 // The element c0 + c1·u.
-#[derive(Clone, Copy, PartialEq, Eq)]
+#[derive(Clone, Copy, Default, PartialEq, Eq)]
 pub struct QuadFelt {
     pub c0: u64,
     pub c1: u64,

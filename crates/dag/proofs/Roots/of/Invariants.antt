@@ -1,0 +1,6 @@
+-- The invariant: the words so far are roots.
+use Rattle.std.proofs.Common.{◌≡◌, take}
+use Rattle.dag.proofs.Roots.of.Given as goal
+
+abbrev pub invariant-loop-word : goal.invariant-loop-word
+invariant-loop-word l = l.places.items ≡ take l.word-index l.words
