@@ -11,7 +11,7 @@ use Rattle.dag.specs.Check.{room_check, list_check}
 use Rattle.dag.specs.CheckLaws.{then_good}
 use Rattle.dag.specs.PassLaws.{room_enough, rooted}
 use Rattle.dag.specs.Roots.{roots_of, roots_from, Inside}
-use Rattle.dag.specs.RootLaws.{roots_from_lem, roots_agree, inside_one}
+use Rattle.dag.specs.RootLaws.{roots_from_lem, roots_agree}
 use Rattle.dag.specs.Store.{Sound, stored, blanked_behind}
 use Rattle.dag.specs.WordLaws.{blanked_stored}
 use Rattle.dag.specs.declared.Roots.{Roots}
@@ -25,16 +25,16 @@ use Rattle.builder.specs.Promises.{read, Holds, Ready, Finished}
 use Rattle.dag.specs.declared.RootedDag.{RootedDag}
 
 module _ (field : Field) where
-  pub ready : (s : View) (n root result_room map_words : ℕ) → build_check field s n root result_room map_words ≡ Ok tt → Ready n (roots_from (root ∷ [])) result_room map_words
+  pub ready : (s : View) (n : ℕ) (roots : List ℕ) (result_room map_words : ℕ) → build_check field s n roots result_room map_words ≡ Ok tt → Ready n (roots_from roots) result_room map_words
   unfolding build_check build_stores
-  ready s n root result_room map_words e =
-      let both = then_good (list_check field.bounds s n root) (build_stores n result_room map_words) e in
-      let list = rooted field.bounds s n root both.0 in
+  ready s n roots result_room map_words e =
+      let both = then_good (list_check field.bounds s n roots) (build_stores n result_room map_words) e in
+      let list = rooted field.bounds s n roots both.0 in
       let stores = then_good (room_check n result_room) (room_check n map_words) both.1 in
       record {
         result_room_lem = room_enough n result_room stores.0;
         map_room = room_enough n map_words stores.1;
-        inside = inside_one n root list.inside;
+        inside = list.inside;
       }
 
   module _ (s : View) (n : ℕ) (roots : Roots) (result map : List ℕ) (sound : Sound field.bounds s n) (inside : Inside n roots) where
@@ -58,18 +58,18 @@ module _ (field : Field) where
             ∙ (get_or-append (take n places) (replicate (length places - n) blank) 0 i (rw (length-take-le n places (omega arith)) k)
             ∙ (get_or-take n places i 0 k ∙ place_read field (replay field.elements (nodes s n) n) n after places count h i k))
 
-  pub record Called (s : View) (n root : ℕ) (result map : List ℕ) (a : Result RootedDag Refusal) (after places : List ℕ) : Type 0 where
-    pub answer : a ≡ build_answer field s n root (interleaved result).room (length map)
-    pub list_is : after ≡ build_result field s n root result (length map)
-    pub places_are : places ≡ build_map field s n root (interleaved result).room map
+  pub record Called (s : View) (n : ℕ) (roots : List ℕ) (result map : List ℕ) (a : Result RootedDag Refusal) (after places : List ℕ) : Type 0 where
+    pub answer : a ≡ build_answer field s n roots (interleaved result).room (length map)
+    pub list_is : after ≡ build_result field s n roots result (length map)
+    pub places_are : places ≡ build_map field s n roots (interleaved result).room map
 
-  module _ (s : View) (n root : ℕ) (result map : List ℕ) where
-    pub build_refused : (r : Refusal) → build_check field s n root (interleaved result).room (length map) ≡ Err r → Called s n root result map (Err r) result map
+  module _ (s : View) (n : ℕ) (roots : List ℕ) (result map : List ℕ) where
+    pub build_refused : (r : Refusal) → build_check field s n roots (interleaved result).room (length map) ≡ Err r → Called s n roots result map (Err r) result map
     unfolding build_answer build_result build_map
     build_refused r e = record { answer = rw e; list_is = rw e; places_are = rw e }
 
-    pub build_done : (a : RootedDag) (after places : List ℕ) → build_check field s n root (interleaved result).room (length map) ≡ Ok tt
-        → Finished (replay field.elements (nodes s n) n) (roots_from (root ∷ [])) result map a after places → Called s n root result map (Ok a) after places
+    pub build_done : (a : RootedDag) (after places : List ℕ) → build_check field s n roots (interleaved result).room (length map) ≡ Ok tt
+        → Finished (replay field.elements (nodes s n) n) (roots_from roots) result map a after places → Called s n roots result map (Ok a) after places
     unfolding build_answer build_result build_map
     build_done a after places e h =
-        record { answer = rw e (ap Ok (rw (roots_from_lem (root ∷ [])) at h.answer)); list_is = rw e h.list_is; places_are = rw e h.places_are }
+        record { answer = rw e (ap Ok (rw (roots_from_lem roots) at h.answer)); list_is = rw e h.list_is; places_are = rw e h.places_are }

@@ -1,5 +1,6 @@
 -- Step and Build: the answer, and every word of every lent store, on all inputs.
-use Rattle.std.specs.Prelude.{ℕ, Bool, ◌&&◌, ◌||◌, Result, Ok, Err, List, [], ◌∷◌, leb, ltb, length}
+use Rattle.std.specs.Prelude.{ℕ, Bool, ◌&&◌, ◌||◌, Result, Ok, Err, List, leb, ltb, length}
+use mathlib.Core.List as Lists
 use Rattle.field.specs.Fields.{Field}
 use Rattle.dag.specs.View.{View, interleaved}
 use Rattle.dag.specs.Nodes.{most_records, decode, nodes, filled}
@@ -50,21 +51,21 @@ module _ (field : Field) where
       unless_refused (step_whole_check (interleaved s) n t a b) (λ r. s) (written s (stepped (interleaved s) n t a b).list)
 
   -- Build's tests: the list check, then the stores
-  unfoldable pub build_check : View → ℕ → ℕ → ℕ → ℕ → Checked
-  build_check s n root result_room map_words = list_check field.bounds s n root then build_stores n result_room map_words
+  unfoldable pub build_check : View → ℕ → List ℕ → ℕ → ℕ → Checked
+  build_check s n roots result_room map_words = list_check field.bounds s n roots then build_stores n result_room map_words
 
-  -- the count, and the place that the root's request got
-  unfoldable pub build_answer : View → ℕ → ℕ → ℕ → ℕ → Result RootedDag Refusal
-  build_answer s n root result_room map_words =
+  -- the count, and the place that each root's request got
+  unfoldable pub build_answer : View → ℕ → List ℕ → ℕ → ℕ → Result RootedDag Refusal
+  build_answer s n roots result_room map_words =
       let r = replay field.elements (nodes s n) n in
-      unless_refused (build_check s n root result_room map_words) Err (Ok (record { count = length r.list; roots = roots_from (place_of r root ∷ []) }))
+      unless_refused (build_check s n roots result_room map_words) Err (Ok (record { count = length r.list; roots = roots_from (Lists.map (place_of r) roots) }))
 
   -- the list built, blanks behind it
-  unfoldable pub build_result : View → ℕ → ℕ → List ℕ → ℕ → List ℕ
-  build_result s n root result map_words =
-      unless_refused (build_check s n root (interleaved result).room map_words) (λ r. result) (stored result (replay field.elements (nodes s n) n).list)
+  unfoldable pub build_result : View → ℕ → List ℕ → List ℕ → ℕ → List ℕ
+  build_result s n roots result map_words =
+      unless_refused (build_check s n roots (interleaved result).room map_words) (λ r. result) (stored result (replay field.elements (nodes s n) n).list)
 
   -- each request's result place, blanks behind them
-  unfoldable pub build_map : View → ℕ → ℕ → ℕ → List ℕ → List ℕ
-  build_map s n root result_room map =
-      unless_refused (build_check s n root result_room (length map)) (λ r. map) (filled (length map) (replay field.elements (nodes s n) n).map)
+  unfoldable pub build_map : View → ℕ → List ℕ → ℕ → List ℕ → List ℕ
+  build_map s n roots result_room map =
+      unless_refused (build_check s n roots result_room (length map)) (λ r. map) (filled (length map) (replay field.elements (nodes s n) n).map)

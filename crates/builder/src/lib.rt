@@ -396,20 +396,21 @@ fn build_check<'a>(
     prime: Prime,
     list: &'a [u64],
     n: usize,
-    root: usize,
+    roots: &[u64],
     result_room: usize,
     map_words: usize,
 ) -> Result<Dag<'a>, Refusal>
-    ensures checked { Refusals.outcome result ≡ Calls.build_check (field_of prime) (interleaved list.now) n root result_room map_words }
+    ensures checked { Refusals.outcome result ≡ Calls.build_check (field_of prime) (interleaved list.now) n roots.now result_room map_words }
     ensures held { HeldOf prime list.now n result }
 {
-    let dag = Dag::new(prime, list, n, root)?;
+    let dag = Dag::new(prime, list, n, roots)?;
     dag::room_check(n, result_room)?;
     dag::room_check(n, map_words)?;
     Ok(dag)
 }
 
-// Build past its tests, with an index of so many links.
+// Build past its tests, with an index of so many links, in a frame of its own.
+#[inline(never)]
 fn build_with<const LINKS: usize>(
     dag: Dag,
     roots: &Roots,
@@ -442,19 +443,19 @@ fn build_sized(dag: Dag, roots: &Roots, res: &mut [u64], map: &mut [u64]) -> Roo
     }
 }
 
-// Build: a list of requests with a root, one after the other into an empty list.
+// Build: a list of requests with roots, one after the other into an empty list.
 pub fn build(
     prime: Prime,
     list: &[u64],
     n: usize,
-    root: usize,
+    roots: &[u64],
     res: &mut [u64],
     map: &mut [u64],
 ) -> Result<RootedDag, Refusal>
-    ensures answer { result ≡ Calls.build_answer (field_of prime) (interleaved list.now) n root (interleaved res.old).room (length map.old) }
-    ensures res { res.new ≡ Calls.build_result (field_of prime) (interleaved list.now) n root res.old (length map.old) }
-    ensures map { map.new ≡ Calls.build_map (field_of prime) (interleaved list.now) n root (interleaved res.old).room map.old }
+    ensures answer { result ≡ Calls.build_answer (field_of prime) (interleaved list.now) n roots.now (interleaved res.old).room (length map.old) }
+    ensures res { res.new ≡ Calls.build_result (field_of prime) (interleaved list.now) n roots.now res.old (length map.old) }
+    ensures map { map.new ≡ Calls.build_map (field_of prime) (interleaved list.now) n roots.now (interleaved res.old).room map.old }
 {
-    let dag = build_check(prime, list, n, root, dag::room(res), map.len())?;
-    Ok(build_sized(dag, &Roots::one(root), res, map))
+    let dag = build_check(prime, list, n, roots, dag::room(res), map.len())?;
+    Ok(build_sized(dag, &Roots::of(roots), res, map))
 }

@@ -1,5 +1,5 @@
 -- From the marks in an array to the compacted list, and what Compact answers.
-use Rattle.std.specs.Prelude.{ℕ, ◌≤◌, ◌<◌, Bool, false, List, [], ◌∷◌, ◌++◌, map, Ok, Err, ◌≡◌, length, drop, replicate}
+use Rattle.std.specs.Prelude.{ℕ, ◌≤◌, ◌<◌, Bool, false, List, ◌++◌, map, Ok, Err, ◌≡◌, length, drop, replicate}
 use Rattle.std.proofs.Common.{◌∙◌, arith}
 use Rattle.std.proofs.Math.Path.{ap}
 use Rattle.std.proofs.Math.ListN.{get_or}
@@ -9,7 +9,7 @@ use Rattle.dag.specs.View.{View, interleaved}
 use Rattle.dag.specs.Nodes.{nodes}
 use Rattle.dag.specs.NodeLaws.{length_nodes}
 use Rattle.dag.specs.Roots.{roots_of, roots_from, Inside}
-use Rattle.dag.specs.RootLaws.{roots_from_lem, roots_agree, inside_one}
+use Rattle.dag.specs.RootLaws.{roots_from_lem, roots_agree}
 use Rattle.dag.specs.Check.{list_check}
 use Rattle.dag.specs.CheckLaws.{then_good}
 use Rattle.dag.specs.PassLaws.{room_enough, rooted}
@@ -27,9 +27,6 @@ use Rattle.dag.specs.WordLaws.{length_written, written_stored}
 use Rattle.compact.specs.Promises.{most_marks, Unmarked, Markable, Numbered, Writing}
 use Rattle.compact.specs.Calls.{compacted, kept_of, compact_stores, compact_check, compact_answer, compact_result}
 use Rattle.dag.specs.declared.RootedDag.{RootedDag}
-
-abbrev pub kept_of_lem : ℕ → Roots → RootedDag
-kept_of_lem count roots = record { count = count; roots = roots }
 
 module _ (s : View) (n : ℕ) (roots : Roots) (k : ℕ) (g : Markable s n roots k) (m : List Bool) (e : m ≡ sweep (nodes s n) n (marked (replicate k false) (roots_of roots))) where
   same : Same m (marks (nodes s n) (roots_of roots))
@@ -82,49 +79,49 @@ numbered s n roots m reach map after r g u fits er el ec ea es =
     )
 
 module _ (field : Field) where
-  module _ (s : View) (n root : ℕ) (result : List ℕ) where
+  module _ (s : View) (n : ℕ) (roots : List ℕ) (result : List ℕ) where
     -- where Compact refuses
-    module _ (r : Refusal) (e : compact_check field s n root (interleaved result).room ≡ Err r) where
-      pub answer_refused : Err r ≡ compact_answer field s n root (interleaved result).room
+    module _ (r : Refusal) (e : compact_check field s n roots (interleaved result).room ≡ Err r) where
+      pub answer_refused : Err r ≡ compact_answer field s n roots (interleaved result).room
       unfolding compact_answer
       answer_refused = rw e
 
-      pub result_refused : result ≡ compact_result field s n root result
+      pub result_refused : result ≡ compact_result field s n roots result
       unfolding compact_result
       result_refused = rw e
 
     -- where Compact accepts
-    module _ (e : compact_check field s n root (interleaved result).room ≡ Ok tt) where
-      pub tests : (list_check field.bounds s n root ≡ Ok tt) × (compact_stores n (interleaved result).room ≡ Ok tt)
+    module _ (e : compact_check field s n roots (interleaved result).room ≡ Ok tt) where
+      pub tests : (list_check field.bounds s n roots ≡ Ok tt) × (compact_stores n (interleaved result).room ≡ Ok tt)
       unfolding compact_check
-      tests = then_good (list_check field.bounds s n root) (compact_stores n (interleaved result).room) e
+      tests = then_good (list_check field.bounds s n roots) (compact_stores n (interleaved result).room) e
 
-      pub room : length (compacted s n (root ∷ [])).list ≤ (interleaved result).room
+      pub room : length (compacted s n roots).list ≤ (interleaved result).room
       unfolding compacted
-      room = omega (arith, room_enough n (interleaved result).room tests.1, compact_short (nodes s n) (root ∷ []), length_nodes s n)
+      room = omega (arith, room_enough n (interleaved result).room tests.1, compact_short (nodes s n) roots, length_nodes s n)
 
-      module _ (roots : Roots) (q : roots ≡ roots_from (root ∷ [])) where
-        roots_are : roots_of roots ≡ root ∷ []
-        roots_are = rw (q, roots_from_lem (root ∷ []))
+      module _ (rs : Roots) (q : rs ≡ roots_from roots) where
+        roots_are : roots_of rs ≡ roots
+        roots_are = rw (q, roots_from_lem roots)
 
-        pub may_compact : Inside n roots × (length (compacted s n (roots_of roots)).list ≤ (interleaved result).room)
-        may_compact = (rw q (inside_one n root (rooted field.bounds s n root tests.0).inside), rw roots_are room)
+        pub may_compact : Inside n rs × (length (compacted s n (roots_of rs)).list ≤ (interleaved result).room)
+        may_compact = (rw q (rooted field.bounds s n roots tests.0).inside, rw roots_are room)
 
-        module _ (k : RootedDag) (f : k ≡ kept_of (compacted s n (roots_of roots))) where
-          pub answer_done : Ok k ≡ compact_answer field s n root (interleaved result).room
+        module _ (k : RootedDag) (f : k ≡ kept_of (compacted s n (roots_of rs))) where
+          pub answer_done : Ok k ≡ compact_answer field s n roots (interleaved result).room
           unfolding compact_answer
           answer_done = rw (e, f, roots_are)
 
-          count_is : k.count ≡ length (compacted s n (root ∷ [])).list
+          count_is : k.count ≡ length (compacted s n roots).list
           unfolding kept_of
           count_is = rw (f, roots_are)
 
-          module _ (mid : List ℕ) (w : mid ≡ written result (compacted s n (roots_of roots)).list) where
+          module _ (mid : List ℕ) (w : mid ≡ written result (compacted s n (roots_of rs)).list) where
             pub may_blank : k.count ≤ (interleaved mid).room
             may_blank =
-                rw (count_is, same_room mid result (ap length (w ∙ ap (λ is. written result (compacted s n is).list) roots_are) ∙ length_written result (compacted s n (root ∷ [])).list room))
+                rw (count_is, same_room mid result (ap length (w ∙ ap (λ is. written result (compacted s n is).list) roots_are) ∙ length_written result (compacted s n roots).list room))
                 room
 
-            pub result_done : (after : List ℕ) → after ≡ blanked_behind mid k.count → after ≡ compact_result field s n root result
+            pub result_done : (after : List ℕ) → after ≡ blanked_behind mid k.count → after ≡ compact_result field s n roots result
             unfolding compact_result
-            result_done after g = g ∙ rw (e, w, roots_are, count_is) (written_stored result (compacted s n (root ∷ [])).list room)
+            result_done after g = g ∙ rw (e, w, roots_are, count_is) (written_stored result (compacted s n roots).list room)

@@ -1,5 +1,5 @@
 -- Compact: the answer, and every word of the result store, on all inputs.
-use Rattle.std.specs.Prelude.{ℕ, List, [], ◌∷◌, Result, Ok, Err, length}
+use Rattle.std.specs.Prelude.{ℕ, List, Result, Ok, Err, length}
 use Rattle.field.specs.Fields.{Field}
 use Rattle.dag.specs.View.{View, interleaved}
 use Rattle.dag.specs.Nodes.{nodes}
@@ -25,15 +25,15 @@ compact_stores n result_room = room_check n result_room
 
 module _ (field : Field) where
   -- Compact's tests: the list check, then the result store
-  unfoldable pub compact_check : View → ℕ → ℕ → ℕ → Checked
-  compact_check s n root result_room = list_check field.bounds s n root then compact_stores n result_room
+  unfoldable pub compact_check : View → ℕ → List ℕ → ℕ → Checked
+  compact_check s n roots result_room = list_check field.bounds s n roots then compact_stores n result_room
 
-  -- count and root
-  unfoldable pub compact_answer : View → ℕ → ℕ → ℕ → Result RootedDag Refusal
-  compact_answer s n root result_room =
-      unless_refused (compact_check s n root result_room) Err (Ok (kept_of (compacted s n (root ∷ []))))
+  -- count and roots
+  unfoldable pub compact_answer : View → ℕ → List ℕ → ℕ → Result RootedDag Refusal
+  compact_answer s n roots result_room =
+      unless_refused (compact_check s n roots result_room) Err (Ok (kept_of (compacted s n roots)))
 
   -- the compacted list, blanks behind it
-  unfoldable pub compact_result : View → ℕ → ℕ → List ℕ → List ℕ
-  compact_result s n root result =
-      unless_refused (compact_check s n root (interleaved result).room) (λ r. result) (stored result (compacted s n (root ∷ [])).list)
+  unfoldable pub compact_result : View → ℕ → List ℕ → List ℕ → List ℕ
+  compact_result s n roots result =
+      unless_refused (compact_check s n roots (interleaved result).room) (λ r. result) (stored result (compacted s n roots).list)

@@ -4,7 +4,8 @@ use Rattle.std.proofs.Common.{ap, ap₂, inl, inr, arith}
 use Rattle.ring.specs.Ring.{Ops}
 use Rattle.field.specs.declared.QuadFelt.{QuadFelt}
 use Rattle.dag.specs.Nodes.{operands, rename}
-use Rattle.dag.specs.Roots.{roots_of, Inside}
+use Rattle.dag.specs.Roots.{roots_of, roots_from, Inside}
+use Rattle.dag.specs.RootLaws.{roots_from_lem}
 use Rattle.dag.specs.WellFormed.{Fine}
 use Rattle.dag.specs.declared.NodeKind.{NodeKind}
 use Rattle.dag.specs.declared.NodeKind.TheVariants.{Input, Constant, Add, Sub, Mul, Neg}
@@ -31,9 +32,6 @@ below_cons n j is h k i p = go (in_cons p)
 pub below_nil : (n : ℕ) → AllBelow n []
 below_nil n i p = absurd (in_nil p)
 
-pub one_below : (n i : ℕ) → i < n → AllBelow n (i ∷ [])
-one_below n i h = below_cons n i [] h (below_nil n)
-
 below_each : (n : ℕ) (is : List ℕ) → ((j : ℕ) → j < length is → get_or is j 0 < n) → AllBelow n is
 below_each n [] h = below_nil n
 below_each n (i ∷ is) h = below_cons n i is (h 0 (omega arith)) (below_each n is (λ j k. h (suc j) (omega arith)))
@@ -46,6 +44,9 @@ below_at n (i ∷ is) h (suc j) k = below_at n is (λ m p. h m (there p)) j (ome
 -- roots of a list of n records are below n
 pub inside_below : (n : ℕ) (r : Roots) → Inside n r → AllBelow n (roots_of r)
 inside_below n r h = below_each n (roots_of r) h.below
+
+pub roots_below : (n : ℕ) (roots : List ℕ) → Inside n (roots_from roots) → AllBelow n roots
+roots_below n roots h = rw (roots_from_lem roots) at (inside_below n (roots_from roots) h)
 
 -- a record's operands come before it
 pub operands_below : (Low : QuadFelt → Type 0) (n : ℕ) (x : NodeKind) → Fine Low n x → AllBelow n (operands x)

@@ -17,6 +17,9 @@ ghost use Rattle.compact.specs.Calls as Calls;
 use dag::{Dag, FEW_RECORDS, MOST_RECORDS, Refusal, RootedDag, Roots};
 use field::Prime;
 
+// The records of the shortest lists.
+const FEWEST_RECORDS: usize = 64;
+
 // The most marks: one for each record of a round's list.
 pub const MOST_MARKS: usize = 8192;
 
@@ -103,7 +106,8 @@ pub fn write_numbered(
     roots.renamed(remap)
 }
 
-// Writes what the roots reach, renamed, to the start of the result store; at most so many records.
+// Writes what the roots reach, renamed, to the start of the result store; at most so many records. In a frame of its own.
+#[inline(never)]
 #[tactic(auto, unfolding(crate::specs::Calls::kept_of))]
 fn compact_within<const RECORDS: usize>(dag: Dag, roots: &Roots, res: &mut [u64]) -> RootedDag
     requires { Inside dag.n roots.now × (dag.n ≤ RECORDS) × (RECORDS ≤ Nodes.most_records) × (length (reached dag roots.now).list ≤ (interleaved res.old).room) }
@@ -126,7 +130,9 @@ fn compact_sized(dag: Dag, roots: &Roots, res: &mut [u64]) -> RootedDag
     ensures value { result ≡ Calls.kept_of (reached dag.entry roots.now) }
     ensures res_after { res.new ≡ written res.old (reached dag.entry roots.now).list }
 {
-    if dag.n <= FEW_RECORDS {
+    if dag.n <= FEWEST_RECORDS {
+        compact_within::<FEWEST_RECORDS>(dag, roots, res)
+    } else if dag.n <= FEW_RECORDS {
         compact_within::<FEW_RECORDS>(dag, roots, res)
     } else {
         compact_within::<MOST_RECORDS>(dag, roots, res)
@@ -139,30 +145,30 @@ fn compact_check<'a>(
     prime: Prime,
     list: &'a [u64],
     n: usize,
-    root: usize,
+    roots: &[u64],
     result_room: usize,
 ) -> Result<Dag<'a>, Refusal>
-    ensures checked { outcome result ≡ Calls.compact_check (field_of prime) (interleaved list.now) n root result_room }
+    ensures checked { outcome result ≡ Calls.compact_check (field_of prime) (interleaved list.now) n roots.now result_room }
     ensures held { HeldOf prime list.now n result }
 {
-    let dag = Dag::new(prime, list, n, root)?;
+    let dag = Dag::new(prime, list, n, roots)?;
     dag::room_check(n, result_room)?;
     Ok(dag)
 }
 
-// Compact: the records that the root reaches, in order, into the result store.
+// Compact: the records that the roots reach, in order, into the result store.
 pub fn compact(
     prime: Prime,
     list: &[u64],
     n: usize,
-    root: usize,
+    roots: &[u64],
     res: &mut [u64],
 ) -> Result<RootedDag, Refusal>
-    ensures answer { result ≡ Calls.compact_answer (field_of prime) (interleaved list.now) n root (interleaved res.old).room }
-    ensures store { res.new ≡ Calls.compact_result (field_of prime) (interleaved list.now) n root res.old }
+    ensures answer { result ≡ Calls.compact_answer (field_of prime) (interleaved list.now) n roots.now (interleaved res.old).room }
+    ensures store { res.new ≡ Calls.compact_result (field_of prime) (interleaved list.now) n roots.now res.old }
 {
-    let dag = compact_check(prime, list, n, root, dag::room(res))?;
-    let kept = compact_sized(dag, &Roots::one(root), res);
+    let dag = compact_check(prime, list, n, roots, dag::room(res))?;
+    let kept = compact_sized(dag, &Roots::of(roots), res);
     dag::blank_records(res, kept.count);
     Ok(kept)
 }

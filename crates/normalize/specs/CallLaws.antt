@@ -1,14 +1,13 @@
 -- Normalise: the rounds in its stores, from the copied list to the answer.
-use Rattle.std.specs.Prelude.{ℕ, zero, suc, pred, ◌+◌, ◌*◌, ◌-◌, ◌<◌, ◌≤◌, Bool, true, false, Some, None, Result, Ok, Err, List, [], ◌∷◌, ◌≡◌, length, replicate}
+use Rattle.std.specs.Prelude.{ℕ, zero, suc, pred, ◌+◌, ◌*◌, ◌-◌, ◌<◌, ◌≤◌, Bool, true, false, Some, None, Result, Ok, Err, List, ◌≡◌, length, replicate}
 use Rattle.std.proofs.Math.Path.{refl, ap}
 use Rattle.std.proofs.Common.{sym, ◌∙◌, ap₂, add-one, arith}
 use Rattle.std.proofs.Math.Nat.{sub-zero}
 use Rattle.field.specs.Fields.{Field, field_of, element_laws}
-use Rattle.dag.specs.View.{View, interleaved}
+use Rattle.dag.specs.View.{interleaved}
 use Rattle.dag.specs.Nodes.{most_records, nodes, blank}
 use Rattle.dag.specs.NodeLaws.{length_nodes}
-use Rattle.dag.specs.Refusals.{Checked, unless_refused}
-use Rattle.dag.specs.Roots.{most_roots, roots_of, roots_from}
+use Rattle.dag.specs.Roots.{roots_of, roots_from, Inside}
 use Rattle.dag.specs.RootLaws.{roots_from_lem, roots_exact, inside_from}
 use Rattle.dag.specs.Check.{room_check, list_check}
 use Rattle.dag.specs.CheckLaws.{then_good}
@@ -20,23 +19,19 @@ use Rattle.dag.specs.declared.Roots.{Roots}
 use Rattle.dag.specs.declared.Refusal.{Refusal}
 use Rattle.dag.specs.declared.RootedDag.{RootedDag}
 use Rattle.builder.specs.OutcomeLaws.{list_fine}
-use Rattle.compact.specs.OperandLaws.{one_below, below_at, inside_below}
+use Rattle.compact.specs.OperandLaws.{below_at, inside_below}
 use Rattle.compact.specs.Promises.{AllBelow}
 use Rattle.dag.specs.WordLaws.{nodes_written, sound_written, copied_written, blanked_stored}
 use Rattle.normalize.specs.Rounds.{rounded, is_kept, rounds_from, normalize}
 use Rattle.normalize.specs.RoundLaws.{rounded_inside, rounded_many}
 use Rattle.normalize.specs.RepeatLaws.{kept_shorter, given_back}
-use Rattle.normalize.specs.Calls.{normalize_stores, answer_of, normalize_check, normalized, normalize_answer, normalize_result, normalize_work}
-use Rattle.normalize.specs.Promises.{WellRooted, Ready, Once, Running, Ended, Passed, Finished}
+use Rattle.normalize.specs.Calls.{normalize_stores, normalize_check, normalized, normalize_answer, normalize_result, normalize_work}
+use Rattle.normalize.specs.Promises.{Ready, Once, Running, Ended, Passed, Finished}
 use Rattle.normalize.specs.declared.NormalEnd.{NormalEnd}
 
--- places below n, as roots
-well_rooted : (n : ℕ) (is : List ℕ) → AllBelow n is → 0 < length is → length is ≤ most_roots → WellRooted n (roots_from is)
-well_rooted n is low some few = record { inside = inside_from n is few (below_at n is low); some = rw (roots_from_lem is) some }
-
 -- a list that passed its tests, with its roots, is ready for the rounds
-pub dag_ready : (dag : Dag) {roots : Roots} {k : ℕ} → WellRooted dag.n roots → 2 * dag.n ≤ k → Ready (field_of dag.prime) dag.list.now dag.n roots k
-dag_ready dag rooted room = record { sound = dag.sound; few = dag.most; rooted = rooted; room = room }
+pub dag_ready : (dag : Dag) {roots : Roots} {k : ℕ} → Inside dag.n roots → 2 * dag.n ≤ k → Ready (field_of dag.prime) dag.list.now dag.n roots k
+dag_ready dag inside room = record { sound = dag.sound; few = dag.most; inside = inside; room = room }
 
 module _ (field : Field) where
   -- a round that is kept
@@ -77,7 +72,7 @@ module _ (field : Field) where
   running_begins {s} {n} {roots} h =
       record {
         sound = h.sound;
-        rooted = h.rooted;
+        inside = h.inside;
         lost = omega arith;
         rounds = ap (λ f. rounds_from field.elements f (nodes (interleaved s) n) (roots_of roots) 0) (length_nodes (interleaved s) n);
       }
@@ -85,7 +80,7 @@ module _ (field : Field) where
   -- the rounds so far, and one round more
   module _ {s : List ℕ} {n : ℕ} {roots : Roots} {result : List ℕ} {count : ℕ} {rs : Roots} {k : ℕ} (h : Running field s n roots result count rs k) where
     pub running_ready : (k : ℕ) → n ≤ most_records → 2 * n ≤ k → Ready field result count rs k
-    running_ready k few room = let a = h.lost in record { sound = h.sound; few = omega arith; rooted = h.rooted; room = omega arith }
+    running_ready k few room = let a = h.lost in record { sound = h.sound; few = omega arith; inside = h.inside; room = omega arith }
 
     -- a round that is kept
     module _ {after : List ℕ} {q : RootedDag} (o : Once field result count rs after (Some q)) where
@@ -98,13 +93,13 @@ module _ (field : Field) where
       pub fewer : q.count < count
       fewer = let a = kept_shorter field.elements (nodes (interleaved result) count) (roots_of rs) kept in let b = new_count in let d = length_nodes (interleaved result) count in omega arith
 
-      still_rooted : WellRooted q.count q.roots
-      still_rooted =
-          let a = h.rooted in
+      still_inside : Inside q.count q.roots
+      still_inside =
+          let a = h.inside in
           let l = rounded field.elements (nodes (interleaved result) count) (roots_of rs) in
-          let low = rounded_inside field.elements (element_laws field) (nodes (interleaved result) count) (list_fine field (interleaved result) count h.sound) (roots_of rs) (rw (length_nodes (interleaved result) count) (inside_below count rs a.inside)) in
+          let low = rounded_inside field.elements (element_laws field) (nodes (interleaved result) count) (list_fine field (interleaved result) count h.sound) (roots_of rs) (rw (length_nodes (interleaved result) count) (inside_below count rs a)) in
           let many : length l.roots ≡ length (roots_of rs) = rounded_many field.elements (nodes (interleaved result) count) (roots_of rs) in
-          rw (o.left.roots_are, new_count) (well_rooted (length l.list) l.roots low (omega (arith, many, a.some)) (omega (arith, many, a.inside.few)))
+          rw (o.left.roots_are, new_count) (inside_from (length l.list) l.roots (omega (arith, many, a.some)) (omega (arith, many, a.few)) (below_at _ _ low))
 
       pub running_on : Running field s n roots after q.count q.roots (k + 1)
       running_on =
@@ -114,7 +109,7 @@ module _ (field : Field) where
           let l = rounded field.elements (nodes (interleaved result) count) (roots_of rs) in
           record {
             sound = o.left.sound;
-            rooted = still_rooted;
+            inside = still_inside;
             lost = omega arith;
             rounds =
                 h.rounds
@@ -135,17 +130,17 @@ module _ (field : Field) where
           rounds_are = sym (ap (λ m. m.rounds) z);
         }
 
-  pub passed : (s : List ℕ) (n root result_room work_room : ℕ) → normalize_check field (interleaved s) n root result_room work_room ≡ Ok tt
-      → Passed field s n (roots_from (root ∷ [])) result_room work_room
+  pub passed : (s : List ℕ) (n : ℕ) (roots : List ℕ) (result_room work_room : ℕ) → normalize_check field (interleaved s) n roots result_room work_room ≡ Ok tt
+      → Passed field s n (roots_from roots) result_room work_room
   unfolding normalize_check
-  passed s n root result_room work_room e =
-      let both = then_good (list_check field.bounds (interleaved s) n root) (normalize_stores n result_room work_room) e in
-      let list = rooted field.bounds (interleaved s) n root both.0 in
+  passed s n roots result_room work_room e =
+      let both = then_good (list_check field.bounds (interleaved s) n roots) (normalize_stores n result_room work_room) e in
+      let list = rooted field.bounds (interleaved s) n roots both.0 in
       let stores = then_good (room_check n result_room) (room_check (2 * n) work_room) both.1 in
       record {
         sound = list.list.sound;
         few = list.list.most;
-        rooted = well_rooted n (root ∷ []) (one_below n root list.inside) (omega arith) (omega arith);
+        inside = list.inside;
         result_room_lem = room_enough n result_room stores.0;
         work_room_lem = room_enough (2 * n) work_room stores.1;
       }
@@ -158,7 +153,7 @@ module _ (field : Field) where
     pub copied_ready : Ready field t n roots work_room
     copied_ready =
         let sound : Sound field.bounds (interleaved t) n = rw is_written (rw (length_nodes (interleaved s) n) at (sound_written field.bounds d (nodes (interleaved s) n) (list_fine field (interleaved s) n h.sound))) in
-        record { sound = sound; few = h.few; rooted = h.rooted; room = h.room }
+        record { sound = sound; few = h.few; inside = h.inside; room = h.room }
 
     copied_normalized : normalized field (interleaved t) n (roots_of roots) ≡ normalized field (interleaved s) n (roots_of roots)
     unfolding normalized
@@ -178,38 +173,19 @@ module _ (field : Field) where
           work_is = eb ∙ rw (sub-zero (length last), ew);
         }
 
-  -- what the answer says of the tests
-  module _ (s : View) (n root result_room work_room : ℕ) where
-    pub answer_passed : (a : NormalEnd) → Ok a ≡ normalize_answer field s n root result_room work_room
-        → (normalize_check field s n root result_room work_room ≡ Ok tt) × (a ≡ answer_of (normalized field s n (root ∷ [])))
-    unfolding normalize_answer
-    answer_passed a = go (normalize_check field s n root result_room work_room)
-      where
-        go : (c : Checked) → Ok a ≡ unless_refused c Err (Ok (answer_of (normalized field s n (root ∷ [])))) → (c ≡ Ok tt) × (a ≡ answer_of (normalized field s n (root ∷ [])))
-        go (Ok u) e = (refl, cc)
-        go (Err r) e = cc
+  pub record Called (s : List ℕ) (n : ℕ) (roots : List ℕ) (result work : List ℕ) (a : Result NormalEnd Refusal) (after blanked : List ℕ) : Type 0 where
+    pub answer : a ≡ normalize_answer field (interleaved s) n roots (interleaved result).room (interleaved work).room
+    pub list_is : after ≡ normalize_result field (interleaved s) n roots result (interleaved work).room
+    pub work_is : blanked ≡ normalize_work field (interleaved s) n roots (interleaved result).room work
 
-    pub answer_refused : (r : Refusal) → Err r ≡ normalize_answer field s n root result_room work_room → normalize_check field s n root result_room work_room ≡ Err r
-    unfolding normalize_answer
-    answer_refused r = go (normalize_check field s n root result_room work_room)
-      where
-        go : (c : Checked) → Err r ≡ unless_refused c Err (Ok (answer_of (normalized field s n (root ∷ [])))) → c ≡ Err r
-        go (Ok u) e = cc
-        go (Err q) e = cc
-
-  pub record Called (s : List ℕ) (n root : ℕ) (result work : List ℕ) (a : Result NormalEnd Refusal) (after blanked : List ℕ) : Type 0 where
-    pub answer : a ≡ normalize_answer field (interleaved s) n root (interleaved result).room (interleaved work).room
-    pub list_is : after ≡ normalize_result field (interleaved s) n root result (interleaved work).room
-    pub work_is : blanked ≡ normalize_work field (interleaved s) n root (interleaved result).room work
-
-  module _ (s : List ℕ) (n root : ℕ) (result work : List ℕ) where
-    pub normalize_refused : (r : Refusal) → normalize_check field (interleaved s) n root (interleaved result).room (interleaved work).room ≡ Err r → Called s n root result work (Err r) result work
+  module _ (s : List ℕ) (n : ℕ) (roots : List ℕ) (result work : List ℕ) where
+    pub normalize_refused : (r : Refusal) → normalize_check field (interleaved s) n roots (interleaved result).room (interleaved work).room ≡ Err r → Called s n roots result work (Err r) result work
     unfolding normalize_answer normalize_result normalize_work
     normalize_refused r e = record { answer = rw e; list_is = rw e; work_is = rw e }
 
-    pub normalize_done : (a : NormalEnd) (after blanked : List ℕ) → normalize_check field (interleaved s) n root (interleaved result).room (interleaved work).room ≡ Ok tt
-        → Finished field s n (roots_from (root ∷ [])) result work a after blanked → Called s n root result work (Ok a) after blanked
+    pub normalize_done : (a : NormalEnd) (after blanked : List ℕ) → normalize_check field (interleaved s) n roots (interleaved result).room (interleaved work).room ≡ Ok tt
+        → Finished field s n (roots_from roots) result work a after blanked → Called s n roots result work (Ok a) after blanked
     unfolding normalize_answer normalize_result normalize_work
     normalize_done a after blanked e h =
-        let one = roots_from_lem (root ∷ []) in
+        let one = roots_from_lem roots in
         record { answer = rw e (ap Ok (rw one at h.answer)); list_is = rw e (rw one at h.list_is); work_is = rw e h.work_is }

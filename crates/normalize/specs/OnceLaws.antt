@@ -70,14 +70,14 @@ module _ (field : Field) where
       new_roots : roots_of new ≡ map (place_of r) (roots_of roots)
       new_roots =
           rw (en, roots_from_lem (map (read places) (roots_of roots)))
-          (roots_agree n roots ready.rooted.inside (read places) (place_of r) place_is)
+          (roots_agree n roots ready.inside (read places) (place_of r) place_is)
 
       -- the round's list may be compacted
       pub markable : Markable (interleaved work) count new most_marks
       markable =
           let a = round_short in
           let f = ready.few in
-          record { sound = (field.bounds, h.holds.sound); inside = rw en (inside_renamed (read places) n count roots ready.rooted.inside place_below); fits = omega arith }
+          record { sound = (field.bounds, h.holds.sound); inside = rw en (inside_renamed (read places) n count roots ready.inside place_below); fits = omega arith }
 
       is_rounded : compacted (interleaved work) count (roots_of new) ≡ rounded field.elements (nodes (interleaved s) n) (roots_of roots)
       unfolding compacted rounded r
@@ -103,7 +103,7 @@ module _ (field : Field) where
         kept_once less {after} er ea =
             let b = length_nodes (interleaved s) n in
             let lst = (rounded field.elements (nodes (interleaved s) n) (roots_of roots)).list in
-            let fine = rounded_well_formed field.elements (element_laws field) (nodes (interleaved s) n) w (roots_of roots) (rw (length_nodes (interleaved s) n) (inside_below n roots ready.rooted.inside)) in
+            let fine = rounded_well_formed field.elements (element_laws field) (nodes (interleaved s) n) w (roots_of roots) (rw (length_nodes (interleaved s) n) (inside_below n roots ready.inside)) in
             let wr : after ≡ written s lst = ea ∙ ap (λ c. written s c.list) is_rounded in
             record {
               kept_is = rw (← fired_is) (sym (lt-ltb (length lst) (length (nodes (interleaved s) n)) (let a = size_is in omega arith)));

@@ -19,11 +19,6 @@ use Rattle.normalize.specs.Calls.{answer_of, normalized}
 use Rattle.dag.specs.declared.RootedDag.{RootedDag}
 use Rattle.normalize.specs.declared.NormalEnd.{NormalEnd}
 
--- at least one root, all of a list of n records
-pub record WellRooted (n : ℕ) (roots : Roots) : Type 0 where
-  pub inside : Inside n roots
-  pub some : 0 < length (roots_of roots)
-
 -- the list's index, with room for two records more
 pub record Linked (work : List ℕ) (count : ℕ) (links : List ℕ) : Type 0 where
   pub index : NodeIndex (nodes (interleaved work) count) links
@@ -75,7 +70,7 @@ module _ (field : Field) where
   pub record Ready (s : List ℕ) (n : ℕ) (roots : Roots) (work_room : ℕ) : Type 0 where
     pub sound : Sound field.bounds (interleaved s) n
     pub few : n ≤ most_records
-    pub rooted : WellRooted n roots
+    pub inside : Inside n roots
     pub room : 2 * n ≤ work_room
 
   -- what a round that is kept leaves of a store that was s
@@ -92,7 +87,7 @@ module _ (field : Field) where
   -- the rounds so far: the list in the result store, its roots rs, and k rounds kept
   pub record Running (s : List ℕ) (n : ℕ) (roots : Roots) (result : List ℕ) (count : ℕ) (rs : Roots) (k : ℕ) : Type 0 where
     pub sound : Sound field.bounds (interleaved result) count
-    pub rooted : WellRooted count rs
+    pub inside : Inside count rs
     pub lost : k + count ≤ n
     pub rounds : normalized field (interleaved s) n (roots_of roots) ≡ rounds_from field.elements count (nodes (interleaved result) count) (roots_of rs) k
 
@@ -108,7 +103,7 @@ module _ (field : Field) where
   pub record Passed (s : List ℕ) (n : ℕ) (roots : Roots) (result_room work_room : ℕ) : Type 0 where
     pub sound : Sound field.bounds (interleaved s) n
     pub few : n ≤ most_records
-    pub rooted : WellRooted n roots
+    pub inside : Inside n roots
     pub result_room_lem : n ≤ result_room
     pub work_room_lem : 2 * n ≤ work_room
 

@@ -8,7 +8,7 @@ use native.Mathlib.Omega.{arith}
 use Rattle.ring.specs.Ring.{Ops, Laws}
 use Rattle.field.specs.declared.QuadFelt.{QuadFelt}
 use Rattle.dag.specs.Nodes.{at, rename, like}
-use Rattle.dag.specs.RootLaws.{length_map}
+use Rattle.std.proofs.lemmas.List.{length-map}
 use Rattle.dag.specs.WellFormed.{Fine, WellFormed}
 use Rattle.dag.specs.WellFormedLaws.{fine_like}
 use Rattle.dag.specs.declared.NodeKind.{NodeKind}
@@ -175,4 +175,4 @@ pub rounded_many : (F : Ops QuadFelt) (l : List NodeKind) (roots : List ℕ) →
 unfolding rounded compact
 rounded_many F l roots =
     let r = round F l (fanout l roots) (length l) in
-    length_map (rank (marks r.list (map (place_of r) roots))) (map (place_of r) roots) ∙ length_map (place_of r) roots
+    length-map (map (place_of r) roots) (rank (marks r.list (map (place_of r) roots))) ∙ length-map roots (place_of r)

@@ -8,6 +8,7 @@ ghost use Rattle.dag.specs.View.{interleaved};
 ghost use Rattle.dag.specs.Held.{HeldOf};
 ghost use Rattle.dag.specs.Nodes as Nodes;
 ghost use Rattle.dag.specs.Refusals.{outcome};
+ghost use Rattle.dag.specs.Roots.{Inside};
 ghost use Rattle.index.specs.Index.{half, NodeIndex};
 ghost use Rattle.builder.specs.Promises.{SameStores};
 ghost use Rattle.normalize.specs.Rounds as Rounds;
@@ -131,7 +132,8 @@ pub struct NormalEnd {
     pub rounds: usize,
 }
 
-// Rounds on the list in the result store, until one isn't kept, with a scratch store of so many words.
+// Rounds on the list in the result store, until one isn't kept, with a scratch store of so many words, in a frame of its own.
+#[inline(never)]
 fn normalize_within<const SCRATCH_WORDS: usize>(
     prime: Prime,
     dag: RootedDag,
@@ -174,14 +176,14 @@ fn normalize_check<'a>(
     prime: Prime,
     list: &'a [u64],
     n: usize,
-    root: usize,
+    roots: &[u64],
     result_room: usize,
     work_room: usize,
 ) -> Result<Dag<'a>, Refusal>
-    ensures checked { outcome result ≡ Calls.normalize_check (field_of prime) (interleaved list.now) n root result_room work_room }
+    ensures checked { outcome result ≡ Calls.normalize_check (field_of prime) (interleaved list.now) n roots.now result_room work_room }
     ensures held { HeldOf prime list.now n result }
 {
-    let dag = Dag::new(prime, list, n, root)?;
+    let dag = Dag::new(prime, list, n, roots)?;
     dag::room_check(n, result_room)?;
     dag::room_check(2 * n, work_room)?;
     Ok(dag)
@@ -189,7 +191,7 @@ fn normalize_check<'a>(
 
 // Normalise past its tests.
 fn normalize_ready(dag: Dag, roots: Roots, res: &mut [u64], work: &mut [u64]) -> NormalEnd
-    requires { Promises.WellRooted dag.n roots × (dag.n ≤ (interleaved res.old).room) × (2 * dag.n ≤ (interleaved work.old).room) }
+    requires { Inside dag.n roots × (dag.n ≤ (interleaved res.old).room) × (2 * dag.n ≤ (interleaved work.old).room) }
     ensures { Promises.Finished (field_of dag.entry.prime) dag.entry.list.now dag.entry.n roots res.old work.old result res.new work.new }
 {
     dag::copy_records(dag.list, dag.n, res);
@@ -208,14 +210,14 @@ pub fn normalize(
     prime: Prime,
     list: &[u64],
     n: usize,
-    root: usize,
+    roots: &[u64],
     res: &mut [u64],
     work: &mut [u64],
 ) -> Result<NormalEnd, Refusal>
-    ensures answer { result ≡ Calls.normalize_answer (field_of prime) (interleaved list.now) n root (interleaved res.old).room (interleaved work.old).room }
-    ensures res { res.new ≡ Calls.normalize_result (field_of prime) (interleaved list.now) n root res.old (interleaved work.old).room }
-    ensures work { work.new ≡ Calls.normalize_work (field_of prime) (interleaved list.now) n root (interleaved res.old).room work.old }
+    ensures answer { result ≡ Calls.normalize_answer (field_of prime) (interleaved list.now) n roots.now (interleaved res.old).room (interleaved work.old).room }
+    ensures res { res.new ≡ Calls.normalize_result (field_of prime) (interleaved list.now) n roots.now res.old (interleaved work.old).room }
+    ensures work { work.new ≡ Calls.normalize_work (field_of prime) (interleaved list.now) n roots.now (interleaved res.old).room work.old }
 {
-    let dag = normalize_check(prime, list, n, root, dag::room(res), dag::room(work))?;
-    Ok(normalize_ready(dag, Roots::one(root), res, work))
+    let dag = normalize_check(prime, list, n, roots, dag::room(res), dag::room(work))?;
+    Ok(normalize_ready(dag, Roots::of(roots), res, work))
 }
