@@ -1,17 +1,19 @@
 -- What lists and entries that pass Evaluate's tests are known to be, and what Evaluate then answers.
-use Rattle.std.specs.Prelude.{ℕ, ◌*◌, ◌≤◌, ◌<◌, List, Some, Ok, Err, ◌≡◌, leb, length, replicate}
+use Rattle.std.specs.Prelude.{ℕ, ◌*◌, ◌≤◌, ◌<◌, List, map, Some, Ok, Err, ◌≡◌, leb, get_or, length, replicate}
 use Rattle.std.proofs.Common.{◌∙◌, arith}
 use Rattle.std.proofs.Math.Path.{ap}
-use borrow.Author.Tests.{leb-true, le-leb, lt-ltb}
+use borrow.Author.Tests.{leb-true}
 use Rattle.std.proofs.lemmas.List.{length-replicate}
 use Rattle.field.specs.Fields.{Field, Bounds}
 use Rattle.field.specs.declared.QuadFelt.{QuadFelt}
 use Rattle.dag.specs.View.{View}
-use Rattle.dag.specs.Nodes.{most_records, nodes, at}
+use Rattle.dag.specs.Nodes.{nodes, at}
 use Rattle.dag.specs.Refusals.{first_refused, need, ◌then◌}
-use Rattle.dag.specs.Check.{list_check, rootless_check, room_check}
+use Rattle.dag.specs.Check.{list_check}
 use Rattle.dag.specs.CheckLaws.{first_good, then_good, need_good}
-use Rattle.dag.specs.Store.{Sound}
+use Rattle.dag.specs.PassLaws.{rooted}
+use Rattle.dag.specs.Roots.{roots_of, roots_from}
+use Rattle.dag.specs.RootLaws.{map_agree}
 use Rattle.dag.specs.BlankLaws.{all_zero}
 use Rattle.dag.specs.declared.Refusal.{Refusal}
 use Rattle.dag.specs.declared.Refusal.TheVariants.{StoreTooShort, TooManyEntries, Unassigned}
@@ -19,11 +21,11 @@ use Rattle.dag.specs.declared.NodeKind.TheVariants.{Input}
 use Rattle.meaning.specs.Values.{value}
 use Rattle.evaluate.specs.Entries.{Lent, most_entries, entry_check, entries_check, entry_of, has_entry, inputs_check}
 use Rattle.evaluate.specs.EntryLaws.{Last, found_last}
-use Rattle.evaluate.specs.Calls.{entry_words, element_of, given, evaluate_check, evaluate_answer}
+use Rattle.evaluate.specs.Calls.{entry_words, element_of, given, values_from, evaluate_check, evaluate_answer}
 use Rattle.index.specs.Index.{half}
 use Rattle.evaluate.specs.KeyIndex.{Keyed}
 use Rattle.evaluate.specs.KeyIndexLaws.{keyed_none}
-use Rattle.evaluate.specs.Promises.{Passed, Sized}
+use Rattle.evaluate.specs.Promises.{at_place, Passed, Sized, Filled}
 
 -- a new index
 module _ {values links n m : ℕ} (z : Sized values links n m) where
@@ -52,53 +54,50 @@ entries_most m e n q =
     let one = then_good (need (leb n most_entries) TooManyEntries) (need (leb (entry_words * n) (length e)) StoreTooShort then first_refused (entry_check m entry_words e) n) q in
     leb-true n most_entries (need_good (leb n most_entries) TooManyEntries one.0)
 
--- a list that is sound passes with a root inside it
-pub list_passes : (m : Bounds) (s : View) (n root : ℕ) → Sound m s n → n ≤ most_records → root < n → list_check m s n root ≡ Ok tt
-unfolding list_check rootless_check room_check
-list_passes m s n root h most inside =
-    rw (le-leb 1 n (omega arith), le-leb n most_records most, le-leb n s.room h.room, h.good, lt-ltb root n inside)
-
 module _ (field : Field) where
-  module _ (s : View) (n root : ℕ) (a : List ℕ) (m : ℕ) where
+  module _ (s : View) (n : ℕ) (roots a : List ℕ) (m : ℕ) where
     -- where Evaluate refuses
-    pub answer_refused : (r : Refusal) → evaluate_check field s n root a m ≡ Err r → Err r ≡ evaluate_answer field s n root a m
+    pub answer_refused : (r : Refusal) → evaluate_check field s n roots a m ≡ Err r → Err r ≡ evaluate_answer field s n roots a m
     unfolding evaluate_answer
     answer_refused r e = rw e
 
-    pub list_refused : (r : Refusal) → list_check field.bounds s n root ≡ Err r → Err r ≡ evaluate_answer field s n root a m
+    pub list_refused : (r : Refusal) → list_check field.bounds s n roots ≡ Err r → Err r ≡ evaluate_answer field s n roots a m
     unfolding evaluate_check
     list_refused r e = answer_refused r (rw e)
 
     -- where the list passes
-    module _ (list : list_check field.bounds s n root ≡ Ok tt) where
-      pub entries_refused : (r : Refusal) → entries_check field.bounds entry_words a m ≡ Err r → Err r ≡ evaluate_answer field s n root a m
+    module _ (list : list_check field.bounds s n roots ≡ Ok tt) where
+      pub entries_refused : (r : Refusal) → entries_check field.bounds entry_words a m ≡ Err r → Err r ≡ evaluate_answer field s n roots a m
       unfolding evaluate_check
       entries_refused r e = answer_refused r (rw (list, e))
 
       -- and the entries pass
       module _ (passed : Passed field a m) where
-        inputs_left : evaluate_check field s n root a m ≡ inputs_check (entry_of entry_words a m) (nodes s n) n
+        inputs_left : evaluate_check field s n roots a m ≡ inputs_check (entry_of entry_words a m) (nodes s n) n
         unfolding evaluate_check
         inputs_left = rw (list, passed)
 
-        pub inputs_refused : (r : Refusal) → inputs_check (entry_of entry_words a m) (nodes s n) n ≡ Err r → Err r ≡ evaluate_answer field s n root a m
+        pub inputs_refused : (r : Refusal) → inputs_check (entry_of entry_words a m) (nodes s n) n ≡ Err r → Err r ≡ evaluate_answer field s n roots a m
         inputs_refused r e = answer_refused r (inputs_left ∙ e)
 
-        pub inputs_value : inputs_check (entry_of entry_words a m) (nodes s n) n ≡ Ok tt → (v : QuadFelt) → v ≡ value field.elements (given a m) (nodes s n) root → Ok v ≡ evaluate_answer field s n root a m
-        unfolding evaluate_answer
-        inputs_value e v q = rw (q, inputs_left ∙ e)
+        pub inputs_value : inputs_check (entry_of entry_words a m) (nodes s n) n ≡ Ok tt → (values : List QuadFelt) → Filled field s n a m values n
+            → Ok (values_from (map (at_place values) roots)) ≡ evaluate_answer field s n roots a m
+        unfolding evaluate_answer roots_of roots_from
+        inputs_value e values filled =
+            let inside = (rooted field.bounds s n roots list).inside in
+            rw (map_agree (at_place values) (value field.elements (given a m) (nodes s n)) roots (λ j h. filled (get_or roots j 0) (inside.below j h)), inputs_left ∙ e)
 
     -- where Evaluate accepts
-    module _ (e : evaluate_check field s n root a m ≡ Ok tt) where
-      tests : (list_check field.bounds s n root ≡ Ok tt) × (entries_check field.bounds entry_words a m ≡ Ok tt) × (inputs_check (entry_of entry_words a m) (nodes s n) n ≡ Ok tt)
+    module _ (e : evaluate_check field s n roots a m ≡ Ok tt) where
+      tests : (list_check field.bounds s n roots ≡ Ok tt) × (entries_check field.bounds entry_words a m ≡ Ok tt) × (inputs_check (entry_of entry_words a m) (nodes s n) n ≡ Ok tt)
       unfolding evaluate_check
       tests =
-          let one = then_good (list_check field.bounds s n root) (entries_check field.bounds entry_words a m then inputs_check (entry_of entry_words a m) (nodes s n) n) e in
+          let one = then_good (list_check field.bounds s n roots) (entries_check field.bounds entry_words a m then inputs_check (entry_of entry_words a m) (nodes s n) n) e in
           let two = then_good (entries_check field.bounds entry_words a m) (inputs_check (entry_of entry_words a m) (nodes s n) n) one.1 in
           (one.0, two.0, two.1)
 
-      -- it answers the root's value under its assignment
-      pub accepted_value : evaluate_answer field s n root a m ≡ Ok (value field.elements (given a m) (nodes s n) root)
+      -- it answers each root's value under its assignment
+      pub accepted_value : evaluate_answer field s n roots a m ≡ Ok (values_from (map (value field.elements (given a m) (nodes s n)) roots))
       unfolding evaluate_answer
       accepted_value = rw e
 

@@ -1,11 +1,14 @@
 // `eval_dag`: assignments and Evaluate.
 #![tactic(auto)]
 
+ghost use mathlib.Core.List as Lists;
 ghost use Rattle.std.specs.Prelude.{◌≡◌, ℕ, ◌+◌, ◌*◌, ◌^◌, ◌<◌, ◌≤◌, Ok, option_map, length, nat_eq};
 ghost use Rattle.field.specs.Fields.{field_of};
 ghost use Rattle.dag.specs.View.{interleaved};
 ghost use Rattle.dag.specs.Nodes as Nodes;
 ghost use Rattle.dag.specs.Refusals as Refusals;
+ghost use Rattle.dag.specs.Check as Check;
+ghost use Rattle.dag.specs.Roots.{most_roots, roots_from, Inside};
 ghost use Rattle.index.specs.Index as Index;
 ghost use Rattle.index.specs.Promises.{SameLinks};
 ghost use Rattle.evaluate.specs.Entries as Places;
@@ -14,7 +17,8 @@ ghost use Rattle.evaluate.specs.KeyIndex as KeyIndex;
 ghost use Rattle.evaluate.specs.Calls as Calls;
 ghost use Rattle.evaluate.specs.Promises as Promises;
 
-use dag::{Dag, MOST_RECORDS, NodeKind, Refusal, Words};
+use arrayvec::ArrayVec;
+use dag::{Dag, MOST_RECORDS, MOST_ROOTS, NodeKind, Refusal, Words};
 use field::{Prime, QuadFelt};
 use index::PlaceIndex;
 
@@ -176,6 +180,12 @@ impl<const WIDTH: usize> KeyedEntries<'_, '_, WIDTH> {
     }
 }
 
+// The roots' values, in their order.
+#[derive(Drop)]
+pub struct RootValues {
+    pub values: ArrayVec<QuadFelt, MOST_ROOTS>,
+}
+
 // The words of a key's record.
 fn words_of_key(key: u64) -> Words
     ensures { result ≡ Nodes.three (NodeKind.Input key) }
@@ -230,16 +240,30 @@ fn fill_values(
     Ok(())
 }
 
-// Evaluate behind the tests of its words, with stores for so many values, and links for the index.
+// The values of the roots among those of all records.
+#[tactic(auto, unfolding(dag::specs::Roots::roots_of, dag::specs::Roots::roots_from, crate::specs::Calls::values_from))]
+fn root_values(values: &[QuadFelt], roots: &[u64]) -> RootValues
+    requires { Inside (length values.now) (roots_from roots.now) }
+    ensures { result ≡ Calls.values_from (Lists.map (Promises.at_place values.now) roots.now) }
+{
+    let mut chosen = ArrayVec::new();
+    for root in roots {
+        chosen.push(value_at(values, *root as usize));
+    }
+    RootValues { values: chosen }
+}
+
+// Evaluate behind the tests of its words, with stores for so many values, and links for the index, in a frame of its own.
+#[inline(never)]
 fn evaluate_within<const VALUES: usize, const LINKS: usize>(
     dag: Dag,
-    root: usize,
+    roots: &[u64],
     entries: Entries<ENTRY_WORDS>,
-) -> Result<QuadFelt, Refusal>
-    requires inside { root < dag.n }
+) -> Result<RootValues, Refusal>
+    requires rooted { Check.list_check (field_of dag.prime).bounds (interleaved dag.list.now) dag.n roots.now ≡ Ok tt }
     requires passed { Promises.Passed (field_of dag.prime) entries.words.now entries.count }
     requires sized { Promises.Sized VALUES LINKS dag.n entries.count }
-    ensures { let d = dag.entry in result ≡ Calls.evaluate_answer (field_of d.prime) (interleaved d.list.now) d.n root entries.entry.words.now entries.entry.count }
+    ensures { let d = dag.entry in result ≡ Calls.evaluate_answer (field_of d.prime) (interleaved d.list.now) d.n roots.now entries.entry.words.now entries.entry.count }
 {
     let mut links = [0u64; LINKS];
     let mut index = PlaceIndex::new(&mut links);
@@ -250,42 +274,46 @@ fn evaluate_within<const VALUES: usize, const LINKS: usize>(
         links: index.as_slice(),
     };
     fill_values(dag, keyed, &mut values)?;
-    Ok(value_at(&values, root))
+    Ok(root_values(&values, roots))
 }
 
 // The same, with stores for the lengths of the list and of the assignment.
-fn evaluate_sized(dag: Dag, root: usize, entries: Entries<ENTRY_WORDS>) -> Result<QuadFelt, Refusal>
-    requires inside { root < dag.n }
+fn evaluate_sized(
+    dag: Dag,
+    roots: &[u64],
+    entries: Entries<ENTRY_WORDS>,
+) -> Result<RootValues, Refusal>
+    requires rooted { Check.list_check (field_of dag.prime).bounds (interleaved dag.list.now) dag.n roots.now ≡ Ok tt }
     requires passed { Promises.Passed (field_of dag.prime) entries.words.now entries.count }
-    ensures { let d = dag.entry in result ≡ Calls.evaluate_answer (field_of d.prime) (interleaved d.list.now) d.n root entries.entry.words.now entries.entry.count }
+    ensures { let d = dag.entry in result ≡ Calls.evaluate_answer (field_of d.prime) (interleaved d.list.now) d.n roots.now entries.entry.words.now entries.entry.count }
 {
     let most = dag.n.max(entries.count);
     if most <= FEW {
-        evaluate_within::<FEW, FEW_LINKS>(dag, root, entries)
+        evaluate_within::<FEW, FEW_LINKS>(dag, roots, entries)
     } else if most <= MANY {
-        evaluate_within::<MANY, MANY_LINKS>(dag, root, entries)
+        evaluate_within::<MANY, MANY_LINKS>(dag, roots, entries)
     } else {
-        evaluate_within::<MOST_RECORDS, MOST_LINKS>(dag, root, entries)
+        evaluate_within::<MOST_RECORDS, MOST_LINKS>(dag, roots, entries)
     }
 }
 
-// Evaluate: the root's value under an assignment.
+// Evaluate: each root's value under an assignment.
 #[tactic(auto, using(crate::specs::CallLaws::list_refused, crate::specs::CallLaws::entries_refused))]
 pub fn evaluate(
     prime: Prime,
     list: &[u64],
     n: usize,
-    root: usize,
+    roots: &[u64],
     assignment: &[u64],
     m: usize,
-) -> Result<QuadFelt, Refusal>
-    ensures { result ≡ Calls.evaluate_answer (field_of prime) (interleaved list.now) n root assignment.now m }
+) -> Result<RootValues, Refusal>
+    ensures { result ≡ Calls.evaluate_answer (field_of prime) (interleaved list.now) n roots.now assignment.now m }
 {
     let entries = Entries::<ENTRY_WORDS> {
         words: assignment,
         count: m,
     };
-    let dag = Dag::new(prime, list, n, root)?;
+    let dag = Dag::new(prime, list, n, roots)?;
     entries.check(prime)?;
-    evaluate_sized(dag, root, entries)
+    evaluate_sized(dag, roots, entries)
 }

@@ -1,11 +1,13 @@
--- `evaluate::evaluate_within` meets its contract: the inputs pass or refuse, and the root has its value.
-use Rattle.std.proofs.Common.{◌∙◌, arith}
+-- `evaluate::evaluate_within` meets its contract: the inputs pass or refuse, and the roots have their values.
+use Rattle.std.proofs.Common.{arith}
 use Rattle.std.proofs.lemmas.List.{length-replicate}
 use Rattle.std.proofs.lemmas.Result.{err_from_is_err_and}
 use Rattle.field.specs.Fields.{field_of}
 use Rattle.field.specs.declared.QuadFelt.{QuadFelt}
 use Rattle.dag.specs.BranchLaws.{told}
-use Rattle.evaluate.specs.CallLaws.{links_room, links_keyed, entries_pass, list_passes, inputs_refused, inputs_value}
+use Rattle.dag.specs.PassLaws.{rooted}
+use Rattle.dag.specs.RootLaws.{inside_mono}
+use Rattle.evaluate.specs.CallLaws.{links_room, links_keyed, entries_pass, inputs_refused, inputs_value}
 use Rattle.evaluate.proofs.evaluate_within.Goals as goal
 
 pub index-requires : goal.index-requires
@@ -31,24 +33,18 @@ fill_values-requires-clause-fits g c =
 pub returns-in_err-fill_values : goal.returns-in_err-fill_values
 returns-in_err-fill_values g c =
     let d = c.args.dag in
-    let list = list_passes (field_of d.prime).bounds _ _ _ d.sound d.most c.requires.inside in
     let p = err_from_is_err_and c.from_residual.result c.from_residual.ensures.1 in
     rw (p.1, p.2)
-    (inputs_refused (field_of d.prime) _ _ _ _ _ list c.requires.passed _ (told c.fill_values.ensures.value c.in_err-fill_values.was))
+    (inputs_refused (field_of d.prime) _ _ _ _ _ c.requires.rooted c.requires.passed _ (told c.fill_values.ensures.value c.in_err-fill_values.was))
 
-pub value_at-requires : goal.value_at-requires
-value_at-requires g c =
-    omega (
-      arith,
-      c.requires.inside,
-      length-replicate {A = QuadFelt} g.row.VALUES (record { c0 = 0; c1 = 0 }),
-      c.requires.sized.records,
-      c.fill_values.auto.values,
-    )
+pub root_values-requires : goal.root_values-requires
+root_values-requires g c =
+    inside_mono _ _ (rooted _ _ _ _ c.requires.rooted).inside _
+    (omega (arith, length-replicate {A = QuadFelt} g.row.VALUES (record { c0 = 0; c1 = 0 }), c.requires.sized.records, c.fill_values.auto.values))
 
 pub returns : goal.returns
 returns g c =
     let d = c.args.dag in
-    let list = list_passes (field_of d.prime).bounds _ _ _ d.sound d.most c.requires.inside in
-    inputs_value (field_of d.prime) _ _ _ _ _ list c.requires.passed (told c.fill_values.ensures.value c.in_ok-fill_values.was) _
-    (c.value_at.ensures ∙ c.fill_values.ensures.filled c.in_ok-fill_values.was _ c.requires.inside)
+    rw c.root_values.ensures
+    (inputs_value (field_of d.prime) _ _ _ _ _ c.requires.rooted c.requires.passed (told c.fill_values.ensures.value c.in_ok-fill_values.was) _
+    (c.fill_values.ensures.filled c.in_ok-fill_values.was))
