@@ -1,5 +1,5 @@
 -- What the tests of a file give, and what reading it then gives.
-use Rattle.std.specs.Prelude.{ℕ, ◌+◌, ◌*◌, ◌^◌, ◌≤◌, ◌<◌, true, List, ◌≡◌, refl, leb, eqb, get_or, length, Ok, Err, Result}
+use Rattle.std.specs.Prelude.{ℕ, ◌+◌, ◌*◌, ◌^◌, Bool, cond, ◌≤◌, ◌<◌, true, false, List, ◌≡◌, refl, leb, eqb, get_or, length, Ok, Err, Result}
 use Rattle.std.proofs.Common.{sym, ◌∙◌, ap, pow-suc, add-one, arith, leb-true, eqb-true}
 use Rattle.std.proofs.Math.Path.{ap₂}
 use Rattle.std.proofs.Math.Nat.{pow-le-pow_right}
@@ -20,7 +20,16 @@ use Rattle.dag.specs.declared.Refusal.{Refusal}
 use Rattle.dag.specs.declared.Refusal.TheVariants.{FileTooShort, FileVersion, FileCount, FileLength}
 use Rattle.house_file.specs.declared.Filed.{Filed}
 use Rattle.house_file.specs.Promises.{Headed, Formed, Passed, Done}
-use Rattle.house_file.specs.File.{number, file_count, file_root, most_filed, record_place, file_view, file_list, is_count, head_check, form_check, held_check, file_check, store_check, read_check, read_answer, read_list, filed}
+use Rattle.house_file.specs.File.{number, version, is_version, file_count, roots_place, file_roots, most_filed, record_place, file_view, file_list, is_count, head_check, form_check, held_check, file_check, store_check, read_check, read_answer, read_list, filed}
+
+-- the roots begin by byte 6
+pub place_most : (file : List ℕ) → roots_place file ≤ 6
+unfolding roots_place
+place_most file = go (eqb (version file) 2)
+  where
+    go : (t : Bool) → cond t 6 5 ≤ 6
+    go true = omega arith
+    go false = omega arith
 
 pub count_range : (n : ℕ) → is_count n ≡ true → (1 ≤ n) × (n ≤ most_filed)
 unfolding is_count
@@ -30,10 +39,10 @@ pub headed : (file : List ℕ) → head_check file ≡ Ok tt → Headed file
 unfolding head_check
 headed file e =
     let long = leb 9 (length file) in
-    let version = eqb (get_or file 0 0) 1 in
+    let versioned = is_version (version file) in
     let range = is_count (file_count file) in
-    let one = then_good (need long FileTooShort) (need version FileVersion then need range FileCount) e in
-    let two = then_good (need version FileVersion) (need range FileCount) one.1 in
+    let one = then_good (need long FileTooShort) (need versioned FileVersion then need range FileCount) e in
+    let two = then_good (need versioned FileVersion) (need range FileCount) one.1 in
     let both = count_range (file_count file) (need_good range FileCount two.1) in
     record {
       long = leb-true 9 (length file) (need_good long FileTooShort one.0);
@@ -44,11 +53,11 @@ headed file e =
 pub formed : (file : List ℕ) → form_check file ≡ Ok tt → Formed file
 unfolding form_check
 formed file e =
-    let whole = eqb (length file) (record_place (file_count file)) in
+    let whole = eqb (length file) (record_place file (file_count file)) in
     let both = then_good (head_check file) (need whole FileLength) e in
     record {
       head = headed file both.0;
-      whole = eqb-true (length file) (record_place (file_count file)) (need_good whole FileLength both.1);
+      whole = eqb-true (length file) (record_place file (file_count file)) (need_good whole FileLength both.1);
     }
 
 -- the longest file's words have room for every file's records
@@ -85,41 +94,38 @@ read_refused file room r = go (read_check file room)
     go (Ok u) e = let z : ◌≡◌ {A = ℕ} 0 1 = cc in absurd (omega arith)
     go (Err q) e = cc
 
-pub record Read (file : List ℕ) (room count root : ℕ) : Type 0 where
+pub record Read (file : List ℕ) (room : ℕ) (f : Filed) : Type 0 where
   pub good : read_check file room ≡ Ok tt
-  pub count_is : count ≡ file_count file
-  pub root_is : root ≡ file_root file
+  pub filed_is : f ≡ filed file
 
-pub read_done : (file : List ℕ) (room count root : ℕ) → read_answer file room ≡ Ok (record { count = count; root = root }) → Read file room count root
+pub read_done : (file : List ℕ) (room : ℕ) (f : Filed) → read_answer file room ≡ Ok f → Read file room f
 unfolding read_answer
-read_done file room count root = go (read_check file room) refl
+read_done file room f = go (read_check file room) refl
   where
-    go : (c : Checked) → read_check file room ≡ c → unless_refused c Err (Ok (filed file)) ≡ Ok (record { count = count; root = root }) → Read file room count root
-    go (Ok u) g e =
-        let same : filed file ≡ record { count = count; root = root } = cc in
-        record { good = g; count_is = ap (λ f. f.count) (sym same); root_is = ap (λ f. f.root) (sym same) }
+    go : (c : Checked) → read_check file room ≡ c → unless_refused c Err (Ok (filed file)) ≡ Ok f → Read file room f
+    go (Ok u) g e = record { good = g; filed_is = cc }
     go (Err q) g e = let z : ◌≡◌ {A = ℕ} 0 1 = cc in absurd (omega arith)
 
 -- a store that holds the words of a file's records, and what its list check c says
-module _ (file list words : List ℕ) (n root : ℕ) (en : n ≡ file_count file) (er : root ≡ file_root file) (room : n ≤ (interleaved words).room) (whole : Agree (interleaved words) (file_view file) n)
-    (c : Checked) (ec : c ≡ list_check goldilocks.bounds (interleaved words) n root) where
+module _ (file list words : List ℕ) (n : ℕ) (roots : List ℕ) (en : n ≡ file_count file) (er : roots ≡ file_roots file) (room : n ≤ (interleaved words).room) (whole : Agree (interleaved words) (file_view file) n)
+    (c : Checked) (ec : c ≡ list_check goldilocks.bounds (interleaved words) n roots) where
   held : c ≡ held_check file
   unfolding held_check file_view
   held =
       ec
-      ∙ (alike_list (interleaved words) (file_view file) n (alike (interleaved words) (file_view file) n room (omega (arith, en)) whole) goldilocks.bounds root
+      ∙ (alike_list (interleaved words) (file_view file) n (alike (interleaved words) (file_view file) n room (omega (arith, en)) whole) goldilocks.bounds roots
       ∙ ap₂ (list_check goldilocks.bounds (file_view file)) en er)
 
   pub done_refused : (r : Refusal) → c ≡ Err r → Done file list (Err r) list
   done_refused r e = let h : held_check file ≡ Err r = sym held ∙ e in record { answer = rw h; list_is = rw h }
 
-  pub done_good : (after : List ℕ) → c ≡ Ok tt → after ≡ filled (length list) (front n words) → Done file list (Ok (record { count = n; root = root })) after
+  pub done_good : (after : List ℕ) → c ≡ Ok tt → after ≡ filled (length list) (front n words) → Done file list (Ok (record { count = n; roots = record { items = roots } })) after
   done_good after e ea =
       let good : held_check file ≡ Ok tt = sym held ∙ e in
-      let sound = (rooted goldilocks.bounds (interleaved words) n root (sym ec ∙ e)).list.sound in
+      let sound = (rooted goldilocks.bounds (interleaved words) n roots (sym ec ∙ e)).list.sound in
       let same = agree_nodes (interleaved words) (file_view file) n whole ∙ ap (nodes (file_view file)) en in
       record {
-        answer = rw good (ap₂ (λ count root. Ok (record { count = count; root = root })) en er);
+        answer = rw good (ap₂ (λ count roots. Ok (record { count = count; roots = record { items = roots } })) en er);
         list_is = rw good (ea ∙ (filled_front goldilocks.bounds words list n sound ∙ ap (stored list) same));
       }
 
@@ -142,7 +148,7 @@ unfolding read_list held_check
 read_agrees file list e =
     let m = goldilocks.bounds in
     let n = file_count file in
-    let sound = (rooted m (file_view file) n (file_root file) (passed file (interleaved list).room e).held_is).list.sound in
+    let sound = (rooted m (file_view file) n (file_roots file) (passed file (interleaved list).room e).held_is).list.sound in
     let long = length_nodes (file_view file) n in
     let there = rw long at (sound_stored list (file_list file) m (sound_well_formed m (file_view file) n sound)) in
     rw e (same_list_agree m (interleaved (stored list (file_list file))) (file_view file) n there sound (rw long at (nodes_stored list (file_list file))))

@@ -15,7 +15,7 @@ pub record Headed (file : List ℕ) : Type 0 where
 -- a file of good form
 pub record Formed (file : List ℕ) : Type 0 where
   pub head : Headed file
-  pub whole : length file ≡ record_place (file_count file)
+  pub whole : length file ≡ record_place file (file_count file)
 
 -- what a file that has passed its tests is known to be
 pub record Passed (file : List ℕ) (room : ℕ) : Type 0 where

@@ -6,6 +6,7 @@ ghost use Rattle.dag.specs.View.{interleaved, Agree};
 ghost use Rattle.house_file.specs.File as File;
 ghost use Rattle.house_file.specs.Promises as Promises;
 
+use arrayvec::ArrayVec;
 use dag::{Refusal, Words};
 use field::Prime;
 
@@ -15,15 +16,18 @@ const MOST_FILED: u64 = 1024;
 // The words of the longest file's records.
 pub const FILED_WORDS: usize = dag::RECORD_WORDS * MOST_FILED as usize;
 
-// What reading a file answers: how many records its list has, and its root.
-#[derive(Clone, Copy, PartialEq, Eq)]
+// The most roots that a file can name.
+const MOST_NAMED: usize = 255;
+
+// What reading a file answers: how many records its list has, and its roots.
+#[derive(Drop)]
 pub struct Filed {
     pub count: usize,
-    pub root: usize,
+    pub roots: ArrayVec<u64, MOST_NAMED>,
 }
 
 // The number that k bytes from a place on write, highest first.
-pub fn number(file: &[u8], at: usize, k: usize) -> u64
+fn number(file: &[u8], at: usize, k: usize) -> u64
     requires { (k ≤ 8) × (at + k ≤ length file.now) }
     ensures { result ≡ File.number file.now at k }
 {
@@ -42,26 +46,66 @@ fn file_count(file: &[u8]) -> usize
     number(file, 1, 4) as usize
 }
 
-// The root that a file names.
-fn file_root(file: &[u8]) -> usize
+// The number of roots that a file says it has: version 1 has one.
+#[tactic(auto, unfolding(crate::specs::File::root_count))]
+fn root_count(file: &[u8]) -> u8
     requires { 9 ≤ length file.now }
-    ensures { result ≡ File.file_root file.now }
+    ensures { result ≡ File.root_count file.now }
 {
-    number(file, 5, 4) as usize
+    if file[0] == 2 { file[5] } else { 1 }
+}
+
+// Where a file's roots begin.
+#[tactic(auto, unfolding(crate::specs::File::roots_place))]
+fn roots_place(file: &[u8]) -> usize
+    requires { 9 ≤ length file.now }
+    ensures { result ≡ File.roots_place file.now }
+{
+    if file[0] == 2 { 6 } else { 5 }
+}
+
+// Where a file's records begin.
+#[tactic(auto, using(crate::specs::FileLaws::place_most))]
+fn records_place(file: &[u8]) -> usize
+    requires { 9 ≤ length file.now }
+    ensures { (result ≡ File.record_place file.now 0) × (result ≤ 1026) }
+{
+    roots_place(file) + 4 * usize::from(root_count(file))
+}
+
+// The roots that a file names.
+fn file_roots(file: &[u8]) -> ArrayVec<u64, MOST_NAMED>
+    requires { (9 ≤ length file.now) × (File.record_place file.now 0 ≤ length file.now) }
+    ensures { result.items ≡ File.file_roots file.now }
+{
+    let at = roots_place(file);
+    let mut roots = ArrayVec::new();
+    for j in 0..usize::from(root_count(file)) {
+        roots.push(number(file, at + 4 * j, 4));
+    }
+    roots
 }
 
 // The words of record i.
 #[tactic(auto, unfolding(crate::specs::File::words_at))]
 fn words_at(file: &[u8], i: usize) -> Words
-    requires { File.record_place i + 17 ≤ length file.now }
+    requires { File.record_place file.now i + 17 ≤ length file.now }
     ensures { result ≡ File.words_at file.now i }
 {
-    let at = 9 + 17 * i;
+    let at = records_place(file) + 17 * i;
     Words {
         tag: u64::from(file[at]),
         first: number(file, at + 1, 8),
         second: number(file, at + 9, 8),
     }
+}
+
+// Whether a file may have this version.
+#[tactic(auto, unfolding(crate::specs::File::is_version))]
+fn is_version(v: u8) -> bool
+    ensures { result ≡ File.is_version v }
+{
+    v == 1 || v == 2
 }
 
 // Whether a file may have this many records.
@@ -80,7 +124,7 @@ fn head_check(file: &[u8]) -> Result<(), Refusal>
     if file.len() < 9 {
         return Err(Refusal::FileTooShort);
     }
-    if file[0] != 1 {
+    if !is_version(file[0]) {
         return Err(Refusal::FileVersion);
     }
     if !is_count(number(file, 1, 4)) {
@@ -95,7 +139,7 @@ fn form_check(file: &[u8]) -> Result<(), Refusal>
     ensures { result ≡ File.form_check file.now }
 {
     head_check(file)?;
-    if file.len() != 9 + 17 * file_count(file) {
+    if file.len() != records_place(file) + 17 * file_count(file) {
         return Err(Refusal::FileLength);
     }
     Ok(())
@@ -112,7 +156,7 @@ fn store_check(file: &[u8], room: usize) -> Result<(), Refusal>
 
 // Writes the words of a file's first n records at the start of a store.
 fn put_records(file: &[u8], n: usize, list: &mut [u64])
-    requires { (File.record_place n ≤ length file.now) × (n ≤ (interleaved list.old).room) }
+    requires { (File.record_place file.now n ≤ length file.now) × (n ≤ (interleaved list.old).room) }
     ensures { Agree (interleaved list.new) (File.file_view file.now) n }
 {
     for i in 0..n {
@@ -126,12 +170,12 @@ fn read_held(file: &[u8], list: &mut [u64]) -> Result<Filed, Refusal>
     ensures { Promises.Done file.now list.old result list.new }
 {
     let count = file_count(file);
-    let root = file_root(file);
+    let roots = file_roots(file);
     let mut words = [0u64; FILED_WORDS];
     put_records(file, count, &mut words);
-    dag::list_check(Prime::Goldilocks, &words, count, root)?;
+    dag::list_check(Prime::Goldilocks, &words, count, roots.as_slice())?;
     dag::store_records(&words, count, list);
-    Ok(Filed { count, root })
+    Ok(Filed { count, roots })
 }
 
 // Reads a file: its list, blanks behind it, or why not.

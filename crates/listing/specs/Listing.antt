@@ -9,10 +9,10 @@ use Rattle.dag.specs.declared.Refusal.{Refusal}
 use Rattle.normalize.specs.Rounds.{Normal}
 use Rattle.normalize.specs.Calls.{normalize_check, normalized}
 use Rattle.text.specs.Text.{ascii, decimal, line}
-use Rattle.house_file.specs.File.{most_filed, record_place, file_count, file_root, file_view, file_check}
+use Rattle.house_file.specs.File.{most_filed, most_named, file_count, file_roots, file_view, file_check}
 use Rattle.listing.specs.Kinds.{kind}
 
--- count, root and rounds kept
+-- count, roots and rounds kept
 unfoldable pub first_line : ℕ → List ℕ → ℕ → List ℕ
 first_line count roots rounds =
     line (ascii "nodes" ∷ decimal count ∷ ascii "root" ∷ (map decimal roots ++ (ascii "rounds" ∷ decimal rounds ∷ [])))
@@ -35,18 +35,18 @@ unfoldable pub refused_line : Refusal → List ℕ
 refused_line r = line (ascii "refused" ∷ decimal (number r) ∷ decimal (place r) ∷ [])
 
 -- what Normalise answers to the list that a store holds
-unfoldable pub words_listing : View → ℕ → ℕ → ℕ → ℕ → List ℕ
-words_listing s n root result_room work_room =
-    unless_refused (normalize_check goldilocks s n root result_room work_room) refused_line (listed (normalized goldilocks s n (root ∷ [])))
+unfoldable pub words_listing : View → ℕ → List ℕ → ℕ → ℕ → List ℕ
+words_listing s n roots result_room work_room =
+    unless_refused (normalize_check goldilocks s n roots result_room work_room) refused_line (listed (normalized goldilocks s n roots))
 
 -- a whole file
 unfoldable pub listing : List ℕ → List ℕ
-listing file = unless_refused (file_check file) refused_line (listed (normalized goldilocks (file_view file) (file_count file) (file_root file ∷ [])))
+listing file = unless_refused (file_check file) refused_line (listed (normalized goldilocks (file_view file) (file_count file) (file_roots file)))
 
--- a listing of n records has no more bytes: 81 in its first line, 53 in each other
+-- a listing of n records has no more bytes: 68 in its first line, 53 in each other
 abbrev pub most_bytes : ℕ → ℕ
-most_bytes n = 81 + 53 * n
+most_bytes n = 68 + 53 * n
 
 -- so many bytes of an input decide its listing: one more than the longest file of good form has
 abbrev pub enough : ℕ
-enough = record_place most_filed + 1
+enough = 6 + 4 * most_named + 17 * most_filed + 1

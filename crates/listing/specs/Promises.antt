@@ -1,5 +1,5 @@
 -- What the functions of the listing ask and say.
-use Rattle.std.specs.Prelude.{ℕ, ◌≤◌, List, [], ◌∷◌, ◌++◌, ◌≡◌, Result, Ok, Err, get_or, length, take}
+use Rattle.std.specs.Prelude.{ℕ, ◌≤◌, List, [], ◌∷◌, ◌++◌, ◌≡◌, Result, Ok, Err, length, take}
 use Rattle.dag.specs.View.{View, interleaved}
 use Rattle.dag.specs.Nodes.{nodes}
 use Rattle.dag.specs.Roots.{roots_of}
@@ -13,9 +13,14 @@ use Rattle.listing.specs.Listing.{listed, refused_line, listing}
 unfoldable pub named : List ℕ → ℕ → ℕ → List ℕ
 named word n end = ended word space ++ ended (decimal n) end
 
--- the listing of the list that a store holds, with one root
+-- numbers, a space behind each
+unfoldable pub spaced : List ℕ → List ℕ
+spaced [] = []
+spaced (n ∷ ns) = ended (decimal n) space ++ spaced ns
+
+-- the listing of the list that a store holds
 unfoldable pub answer_text : View → NormalEnd → List ℕ
-answer_text s e = listed (record { list = nodes s e.dag.count; roots = get_or (roots_of e.dag.roots) 0 0 ∷ []; rounds = e.rounds })
+answer_text s e = listed (record { list = nodes s e.dag.count; roots = roots_of e.dag.roots; rounds = e.rounds })
 
 -- what an answer says of a text: it is the listing of the store's list, or the line of the refusal
 abbrev pub Tells : List ℕ → List ℕ → Result NormalEnd Refusal → Type 0

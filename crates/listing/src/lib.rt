@@ -9,19 +9,20 @@ use text::{End, Text};
 
 pub mod kinds;
 
-ghost use Rattle.std.specs.Prelude.{◌≡◌, [], ◌∷◌, ◌+◌, ◌≤◌, length, take};
+ghost use Rattle.std.specs.Prelude.{◌≡◌, ◌+◌, ◌≤◌, length, take};
 ghost use Rattle.dag.specs.View.{interleaved};
 ghost use Rattle.dag.specs.Nodes as Nodes;
+ghost use Rattle.dag.specs.Roots.{roots_of};
 ghost use Rattle.text.specs.Text.{end_byte, laid};
 ghost use Rattle.text.specs.Promises.{HasRoom, Laid, Wrote};
 ghost use Rattle.listing.specs.Listing as Listing;
 ghost use Rattle.listing.specs.Promises as Promises;
 
 // No listing of a house file has more bytes.
-pub const MOST_BYTES: usize = 54353;
+pub const MOST_BYTES: usize = 54340;
 
 // So many bytes of an input decide its listing: one more than the longest file of good form has.
-pub const ENOUGH: usize = 17418;
+pub const ENOUGH: usize = 18435;
 
 // Writes the line of the record x at place i.
 #[tactic(auto, using(crate::specs::LineLaws::length_record))]
@@ -56,15 +57,26 @@ fn put_named(text: &mut Text, name: &[u8], n: u64, end: End)
     text.number(n, end);
 }
 
-// Writes a listing's first line.
-#[tactic(auto, using(crate::specs::LineLaws::length_first), unfolding(text::specs::Text::ascii))]
-fn put_first(text: &mut Text, count: usize, root: u64, rounds: usize)
-    requires { HasRoom text.old (Listing.first_line count (root ∷ []) rounds) }
-    ensures { Wrote text.old (Listing.first_line count (root ∷ []) rounds) text.new }
+// Writes roots, a space behind each.
+fn put_roots(text: &mut Text, roots: &[usize])
+    requires { HasRoom text.old (Promises.spaced roots.now) }
+    ensures { Wrote text.old (Promises.spaced roots.now) text.new }
 {
-    put_named(text, b"nodes", count as u64, End::Space);
-    put_named(text, b"root", root, End::Space);
-    put_named(text, b"rounds", rounds as u64, End::Newline);
+    for root in roots {
+        text.number(*root as u64, End::Space);
+    }
+}
+
+// Writes a listing's first line.
+#[tactic(auto, using(crate::specs::LineLaws::length_first), unfolding(text::specs::Text::ascii, dag::specs::Roots::roots_of))]
+fn put_first(text: &mut Text, end: &NormalEnd)
+    requires { HasRoom text.old (Listing.first_line end.now.dag.count (roots_of end.now.dag.roots) end.now.rounds) }
+    ensures { Wrote text.old (Listing.first_line end.now.dag.count (roots_of end.now.dag.roots) end.now.rounds) text.new }
+{
+    put_named(text, b"nodes", end.dag.count as u64, End::Space);
+    text.word(b"root", End::Space);
+    put_roots(text, end.dag.roots.places.as_slice());
+    put_named(text, b"rounds", end.rounds as u64, End::Newline);
 }
 
 // Writes the listing of an answer: a first line, then a line a record. Answers its length.
@@ -74,7 +86,7 @@ fn write_listing(list: &[u64], end: &NormalEnd, out: &mut [u8]) -> usize
     ensures { Laid out.old (Promises.answer_text (interleaved list.now) end.now) out.new result }
 {
     let mut text = Text::new(out);
-    put_first(&mut text, end.dag.count, end.dag.roots.first(), end.rounds);
+    put_first(&mut text, end);
     put_records(&mut text, list, end.dag.count);
     text.finish()
 }
@@ -102,7 +114,7 @@ fn normal(file: &[u8], res: &mut [u64; FILED_WORDS]) -> Result<NormalEnd, Refusa
         Prime::Goldilocks,
         &list,
         filed.count,
-        filed.root,
+        filed.roots.as_slice(),
         res,
         &mut work,
     )

@@ -22,12 +22,12 @@ returns-in_err-list_check c =
     let room = filed_room _ c.file_count-count.result c.put_records.auto.list (omega (arith, c.requires.0.head.most, counted)) in
     let p = err_from_is_err_and c.from_residual.result c.from_residual.ensures.1 in
     rw (p.1, p.2)
-    (done_refused c.args.file.now c.args.list.now _ _ _ counted c.file_root-root.ensures room c.put_records.ensures _
-    c.list_check.ensures _ c.in_err-list_check.was)
+    (done_refused c.args.file.now c.args.list.now _ _ _ counted c.file_roots-roots.ensures room c.put_records.ensures _
+    (rw c.as_slice.ensures.value at c.list_check.ensures) _ c.in_err-list_check.was)
 
 pub returns : goal.returns
 returns c =
     let counted = c.file_count-count.ensures in
     let room = filed_room _ c.file_count-count.result c.put_records.auto.list (omega (arith, c.requires.0.head.most, counted)) in
-    done_good c.args.file.now c.args.list.now _ _ _ counted c.file_root-root.ensures room c.put_records.ensures _
-    c.list_check.ensures _ c.in_ok-list_check.was c.store_records.ensures
+    done_good c.args.file.now c.args.list.now _ _ _ counted c.file_roots-roots.ensures room c.put_records.ensures _
+    (rw c.as_slice.ensures.value at c.list_check.ensures) _ c.in_ok-list_check.was c.store_records.ensures

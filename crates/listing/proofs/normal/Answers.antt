@@ -12,6 +12,7 @@ returns-in_err-filed c =
 pub returns : goal.returns
 returns c =
     let room = store_room _ (length-replicate {A = ℕ} _ 0) in
+    let named = c.as_slice.ensures.value in
     subst (λ text. Tells text c.normalize.new.res c.normalize.result)
     (file_done c.args.file.now _ room c.in_ok-filed.filed (sym c.in_ok-filed.ensures.answer) _ _ (store_room c.args.res.now c.told-res) (work_room_is _ (length-replicate {A = ℕ} _ 0)) c.read_file.new.list c.read_file.auto.list c.in_ok-filed.ensures.list)
-    (words_told _ _ _ _ _ _ _ c.normalize.auto.res c.normalize.ensures.res c.normalize.ensures.answer)
+    (words_told _ _ _ _ _ _ _ c.normalize.auto.res (rw named at c.normalize.ensures.res) (rw named at c.normalize.ensures.answer))

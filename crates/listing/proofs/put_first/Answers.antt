@@ -1,8 +1,11 @@
+use Rattle.dag.specs.Roots.{roots_of}
 use Rattle.text.specs.Text.{ascii}
 use Rattle.text.specs.WritingLaws.{and_then, wrote_as}
 use Rattle.listing.specs.LineLaws.{first_is}
 use Rattle.listing.proofs.put_first.Goals as goal
 
 pub returns : goal.returns
-unfolding ascii
-returns c = wrote_as (first_is _ _ _) (and_then c.put_named.ensures (and_then c.put_named-2.ensures c.put_named-3.ensures))
+unfolding ascii roots_of
+returns c =
+    wrote_as (first_is _ _ _)
+    (and_then c.put_named.ensures (and_then c.word.ensures (and_then (rw c.as_slice.ensures.value at c.put_roots.ensures) c.put_named-2.ensures)))

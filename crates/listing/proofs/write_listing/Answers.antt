@@ -5,4 +5,4 @@ use Rattle.listing.proofs.write_listing.Goals as goal
 
 pub returns : goal.returns
 returns c =
-    wrote_laid c.new-text.ensures.held c.new-text.ensures.empty (wrote_as (answer_is _ _) (and_then (rw c.first.ensures at c.put_first.ensures) c.put_records.ensures)) (search rules) c.finish.ensures.length
+    wrote_laid c.new-text.ensures.held c.new-text.ensures.empty (wrote_as (answer_is _ _) (and_then c.put_first.ensures c.put_records.ensures)) (search rules) c.finish.ensures.length
