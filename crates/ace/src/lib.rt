@@ -6,34 +6,60 @@ ghost use Rattle.std.specs.Prelude.{◌≡◌, ◌≤◌, ◌∷◌, length};
 ghost use Rattle.std.specs.Option.{ok_or};
 ghost use Rattle.field.specs.Numbers.{numbered};
 ghost use Rattle.dag.specs.declared.Refusal.TheVariants as Refusal';
+ghost use Rattle.dag.specs.Roots.{most_roots};
+ghost use Rattle.columns.specs.Prepare.{most_columns};
 ghost use Rattle.ace.specs.Answers as Answers;
 ghost use Rattle.ace.specs.Calls as Calls;
 
 use builder::Entered;
-use columns::{Form, Prepared};
-use dag::{Refusal, RootedDag, Words};
+use columns::{Form, MOST_COLUMNS, Prepared};
+use dag::{MOST_ROOTS, Refusal, RootedDag, Words};
+use evaluate::RootValues;
 use field::{Prime, QuadFelt};
 use normalize::NormalEnd;
 
 // The interface that include/ace.h names: a caller built against another number is wrong.
-const INTERFACE: u64 = 2;
+const INTERFACE: u64 = 3;
 
-// A refusal's words.
-fn refused_words(r: Refusal) -> [u64; 4]
-    ensures { result ≡ Answers.refused_words r }
+// The words of Step's and Lower's answers.
+pub const ANSWER_WORDS: usize = 4;
+
+// The words of Build's, Compact's and Normalise's answers.
+pub const LIST_WORDS: usize = 3 + MOST_ROOTS;
+
+// The words of Evaluate's answer.
+pub const EVALUATE_WORDS: usize = 1 + 2 * MOST_ROOTS;
+
+// The words of Prepare's answer.
+pub const PREPARE_WORDS: usize = 2 + MOST_COLUMNS;
+
+// A refusal in so many words.
+fn refused_words<const WORDS: usize>(r: Refusal) -> [u64; WORDS]
+    requires { 2 ≤ WORDS }
+    ensures { result ≡ Answers.refused_words WORDS r }
 {
-    [r.number(), r.place() as u64, 0, 0]
+    let mut words = [0; WORDS];
+    words[0] = r.number();
+    words[1] = r.place() as u64;
+    words
 }
 
-// The words of an accepted list's count, root and rounds.
-fn accepted_words(list: &RootedDag, rounds: usize) -> [u64; 4]
-    ensures { result ≡ Answers.accepted_words list.now rounds }
+// The words of an accepted list's count, rounds kept and roots' places, 0 past the last.
+fn accepted_words(count: usize, rounds: usize, roots: &[usize]) -> [u64; LIST_WORDS]
+    requires { length roots.now ≤ most_roots }
+    ensures { result ≡ Answers.accepted_words count rounds roots.now }
 {
-    [0, list.count as u64, list.roots.first(), rounds as u64]
+    let mut words = [0; LIST_WORDS];
+    words[1] = count as u64;
+    words[2] = rounds as u64;
+    for (j, root) in roots.iter().enumerate() {
+        words[j + 3] = *root as u64;
+    }
+    words
 }
 
 // The words of Step's answer.
-fn step_words(answer: Result<Entered, Refusal>) -> [u64; 4]
+fn step_words(answer: Result<Entered, Refusal>) -> [u64; ANSWER_WORDS]
     ensures { result ≡ Answers.step_words answer }
 {
     match answer {
@@ -43,69 +69,75 @@ fn step_words(answer: Result<Entered, Refusal>) -> [u64; 4]
 }
 
 // The words of Build's and Compact's answers.
-fn list_words(answer: Result<RootedDag, Refusal>) -> [u64; 4]
+#[tactic(auto, unfolding(dag::specs::Roots::roots_of))]
+fn list_words(answer: Result<RootedDag, Refusal>) -> [u64; LIST_WORDS]
     ensures { result ≡ Answers.list_words answer }
 {
     match answer {
-        Ok(list) => accepted_words(&list, 0),
+        Ok(list) => accepted_words(list.count, 0, &list.roots.places),
         Err(r) => refused_words(r),
     }
 }
 
 // The words of Normalise's answer.
-fn normalize_words(answer: Result<NormalEnd, Refusal>) -> [u64; 4]
+#[tactic(auto, unfolding(dag::specs::Roots::roots_of))]
+fn normalize_words(answer: Result<NormalEnd, Refusal>) -> [u64; LIST_WORDS]
     ensures { result ≡ Answers.normalize_words answer }
 {
     match answer {
-        Ok(end) => accepted_words(&end.dag, end.rounds),
+        Ok(end) => accepted_words(end.dag.count, end.rounds, &end.dag.roots.places),
         Err(r) => refused_words(r),
     }
 }
 
-// The words of Evaluate's answer.
-fn evaluate_words(answer: Result<QuadFelt, Refusal>) -> [u64; 4]
-    ensures { result ≡ Answers.evaluate_words answer }
+// The words of the roots' values, both coordinates of each in turn, 0 past the last.
+fn value_words(values: &[QuadFelt]) -> [u64; EVALUATE_WORDS]
+    requires { length values.now ≤ most_roots }
+    ensures { result ≡ Answers.value_words values.now }
 {
-    match answer {
-        Ok(value) => [0, value.c0, value.c1, 0],
-        Err(r) => refused_words(r),
-    }
-}
-
-// Two words, and each column's form as a number, 0 past the last.
-fn form_words(first: u64, second: u64, forms: &[Form]) -> [u64; 18]
-    requires { length forms.now ≤ 16 }
-    ensures { result ≡ first ∷ second ∷ Answers.form_words forms.now }
-{
-    let mut words = [0; 18];
-    words[0] = first;
-    words[1] = second;
-    for (i, form) in forms.iter().enumerate() {
-        words[i + 2] = *form as u64;
+    let mut words = [0; EVALUATE_WORDS];
+    for (j, value) in values.iter().enumerate() {
+        words[2 * j + 1] = value.c0;
+        words[2 * j + 2] = value.c1;
     }
     words
 }
 
-// The words of a refusal of Prepare.
-#[tactic(auto, unfolding(dag::specs::Arrays::padded))]
-fn refused_forms(r: Refusal) -> [u64; 18]
-    ensures { result ≡ Answers.refused_forms r }
+// The words of Evaluate's answer.
+fn evaluate_words(answer: Result<RootValues, Refusal>) -> [u64; EVALUATE_WORDS]
+    ensures { result ≡ Answers.evaluate_words answer }
 {
-    form_words(r.number(), r.place() as u64, &[])
+    match answer {
+        Ok(RootValues { values }) => value_words(&values),
+        Err(r) => refused_words(r),
+    }
+}
+
+// The words of the number of columns and of each column's form, 0 past the last.
+fn form_words(forms: &[Form]) -> [u64; PREPARE_WORDS]
+    requires { length forms.now ≤ most_columns }
+    ensures { result ≡ Answers.form_words forms.now }
+{
+    let mut words = [0; PREPARE_WORDS];
+    words[1] = forms.len() as u64;
+    for (j, form) in forms.iter().enumerate() {
+        words[j + 2] = *form as u64;
+    }
+    words
 }
 
 // The words of Prepare's answer.
-fn prepare_words(answer: Result<Prepared, Refusal>) -> [u64; 18]
+fn prepare_words(answer: Result<Prepared, Refusal>) -> [u64; PREPARE_WORDS]
     ensures { result ≡ Answers.prepare_words answer }
 {
     match answer {
-        Ok(Prepared { forms }) => form_words(0, forms.len() as u64, &forms),
-        Err(r) => refused_forms(r),
+        Ok(Prepared { forms }) => form_words(&forms),
+        Err(r) => refused_words(r),
     }
 }
 
 // The words of Lower's answer.
-fn lower_words(answer: Result<usize, Refusal>) -> [u64; 4]
+fn lower_words(answer: Result<usize, Refusal>) -> [u64; ANSWER_WORDS]
     ensures { result ≡ Answers.lower_words answer }
 {
     match answer {
@@ -138,7 +170,7 @@ pub fn ace_step(
     tag: u64,
     first: u64,
     second: u64,
-    answer: &mut [u64; 4],
+    answer: &mut [u64; ANSWER_WORDS],
 )
     ensures store { list.new ≡ Calls.step_list field list.old n tag first second }
     ensures answer { answer.new ≡ Calls.step_answer field list.old n tag first second }
@@ -152,32 +184,32 @@ fn build(
     field: u64,
     list: &[u64],
     n: usize,
-    root: usize,
+    roots: &[u64],
     res: &mut [u64],
     map: &mut [u64],
 ) -> Result<RootedDag, Refusal>
-    ensures res { res.new ≡ Calls.build_result field list.now n root res.old map.old }
-    ensures map { map.new ≡ Calls.build_map field list.now n root res.old map.old }
-    ensures answer { Answers.list_words result ≡ Calls.build_answer field list.now n root res.old map.old }
+    ensures res { res.new ≡ Calls.build_result field list.now n roots.now res.old map.old }
+    ensures map { map.new ≡ Calls.build_map field list.now n roots.now res.old map.old }
+    ensures answer { Answers.list_words result ≡ Calls.build_answer field list.now n roots.now res.old map.old }
 {
-    builder::build(prime_of(field)?, list, n, root, res, map)
+    builder::build(prime_of(field)?, list, n, roots, res, map)
 }
 
-// Build. Accepted: count, root's place.
+// Build. Accepted: count, 0, the roots' places.
 pub fn ace_build(
     field: u64,
     list: &[u64],
     n: usize,
-    root: usize,
+    roots: &[u64],
     res: &mut [u64],
     map: &mut [u64],
-    answer: &mut [u64; 4],
+    answer: &mut [u64; LIST_WORDS],
 )
-    ensures res { res.new ≡ Calls.build_result field list.now n root res.old map.old }
-    ensures map { map.new ≡ Calls.build_map field list.now n root res.old map.old }
-    ensures answer { answer.new ≡ Calls.build_answer field list.now n root res.old map.old }
+    ensures res { res.new ≡ Calls.build_result field list.now n roots.now res.old map.old }
+    ensures map { map.new ≡ Calls.build_map field list.now n roots.now res.old map.old }
+    ensures answer { answer.new ≡ Calls.build_answer field list.now n roots.now res.old map.old }
 {
-    *answer = list_words(build(field, list, n, root, res, map));
+    *answer = list_words(build(field, list, n, roots, res, map));
 }
 
 // Compact, in a numbered field.
@@ -186,28 +218,28 @@ fn compact(
     field: u64,
     list: &[u64],
     n: usize,
-    root: usize,
+    roots: &[u64],
     res: &mut [u64],
 ) -> Result<RootedDag, Refusal>
-    ensures res { res.new ≡ Calls.compact_result field list.now n root res.old }
-    ensures answer { Answers.list_words result ≡ Calls.compact_answer field list.now n root res.old }
+    ensures res { res.new ≡ Calls.compact_result field list.now n roots.now res.old }
+    ensures answer { Answers.list_words result ≡ Calls.compact_answer field list.now n roots.now res.old }
 {
-    compact::compact(prime_of(field)?, list, n, root, res)
+    compact::compact(prime_of(field)?, list, n, roots, res)
 }
 
-// Compact. Accepted: count, root.
+// Compact. Accepted: count, 0, the roots' places.
 pub fn ace_compact(
     field: u64,
     list: &[u64],
     n: usize,
-    root: usize,
+    roots: &[u64],
     res: &mut [u64],
-    answer: &mut [u64; 4],
+    answer: &mut [u64; LIST_WORDS],
 )
-    ensures res { res.new ≡ Calls.compact_result field list.now n root res.old }
-    ensures answer { answer.new ≡ Calls.compact_answer field list.now n root res.old }
+    ensures res { res.new ≡ Calls.compact_result field list.now n roots.now res.old }
+    ensures answer { answer.new ≡ Calls.compact_answer field list.now n roots.now res.old }
 {
-    *answer = list_words(compact(field, list, n, root, res));
+    *answer = list_words(compact(field, list, n, roots, res));
 }
 
 // Normalise, in a numbered field.
@@ -216,32 +248,32 @@ fn normalize(
     field: u64,
     list: &[u64],
     n: usize,
-    root: usize,
+    roots: &[u64],
     res: &mut [u64],
     work: &mut [u64],
 ) -> Result<NormalEnd, Refusal>
-    ensures res { res.new ≡ Calls.normalize_result field list.now n root res.old work.old }
-    ensures work { work.new ≡ Calls.normalize_work field list.now n root res.old work.old }
-    ensures answer { Answers.normalize_words result ≡ Calls.normalize_answer field list.now n root res.old work.old }
+    ensures res { res.new ≡ Calls.normalize_result field list.now n roots.now res.old work.old }
+    ensures work { work.new ≡ Calls.normalize_work field list.now n roots.now res.old work.old }
+    ensures answer { Answers.normalize_words result ≡ Calls.normalize_answer field list.now n roots.now res.old work.old }
 {
-    normalize::normalize(prime_of(field)?, list, n, root, res, work)
+    normalize::normalize(prime_of(field)?, list, n, roots, res, work)
 }
 
-// Normalise. Accepted: count, root, rounds kept.
+// Normalise. Accepted: count, rounds kept, the roots' places.
 pub fn ace_normalize(
     field: u64,
     list: &[u64],
     n: usize,
-    root: usize,
+    roots: &[u64],
     res: &mut [u64],
     work: &mut [u64],
-    answer: &mut [u64; 4],
+    answer: &mut [u64; LIST_WORDS],
 )
-    ensures res { res.new ≡ Calls.normalize_result field list.now n root res.old work.old }
-    ensures work { work.new ≡ Calls.normalize_work field list.now n root res.old work.old }
-    ensures answer { answer.new ≡ Calls.normalize_answer field list.now n root res.old work.old }
+    ensures res { res.new ≡ Calls.normalize_result field list.now n roots.now res.old work.old }
+    ensures work { work.new ≡ Calls.normalize_work field list.now n roots.now res.old work.old }
+    ensures answer { answer.new ≡ Calls.normalize_answer field list.now n roots.now res.old work.old }
 {
-    *answer = normalize_words(normalize(field, list, n, root, res, work));
+    *answer = normalize_words(normalize(field, list, n, roots, res, work));
 }
 
 // Evaluate, in a numbered field.
@@ -250,28 +282,28 @@ fn evaluate(
     field: u64,
     list: &[u64],
     n: usize,
-    root: usize,
+    roots: &[u64],
     assignment: &[u64],
     m: usize,
-) -> Result<QuadFelt, Refusal>
-    ensures { Answers.evaluate_words result ≡ Calls.evaluate_answer field list.now n root assignment.now m }
+) -> Result<RootValues, Refusal>
+    ensures { Answers.evaluate_words result ≡ Calls.evaluate_answer field list.now n roots.now assignment.now m }
 {
-    evaluate::evaluate(prime_of(field)?, list, n, root, assignment, m)
+    evaluate::evaluate(prime_of(field)?, list, n, roots, assignment, m)
 }
 
-// Evaluate. Accepted: c0, c1.
+// Evaluate. Accepted: c0, c1 of each root in order.
 pub fn ace_evaluate(
     field: u64,
     list: &[u64],
     n: usize,
-    root: usize,
+    roots: &[u64],
     assignment: &[u64],
     m: usize,
-    answer: &mut [u64; 4],
+    answer: &mut [u64; EVALUATE_WORDS],
 )
-    ensures answer { answer.new ≡ Calls.evaluate_answer field list.now n root assignment.now m }
+    ensures answer { answer.new ≡ Calls.evaluate_answer field list.now n roots.now assignment.now m }
 {
-    *answer = evaluate_words(evaluate(field, list, n, root, assignment, m));
+    *answer = evaluate_words(evaluate(field, list, n, roots, assignment, m));
 }
 
 // Prepare, in a numbered field.
@@ -283,7 +315,7 @@ fn prepare(field: u64, lengths: &[u64], entries: &[u64]) -> Result<Prepared, Ref
 }
 
 // Prepare. Accepted: columns, then a form each.
-pub fn ace_prepare(field: u64, lengths: &[u64], entries: &[u64], answer: &mut [u64; 18])
+pub fn ace_prepare(field: u64, lengths: &[u64], entries: &[u64], answer: &mut [u64; PREPARE_WORDS])
     ensures answer { answer.new ≡ Calls.prepare_answer field lengths.now entries.now }
 {
     *answer = prepare_words(prepare(field, lengths, entries));
@@ -331,7 +363,7 @@ pub fn ace_lower(
     res: &mut [u64],
     work: &mut [u64],
     places: &mut [u64],
-    answer: &mut [u64; 4],
+    answer: &mut [u64; ANSWER_WORDS],
 )
     ensures res { res.new ≡ Calls.lower_result field list.now n lengths.now entries.now period res.old work.old places.old }
     ensures work { work.new ≡ Calls.lower_work field list.now n lengths.now entries.now period res.old work.old places.old }
@@ -343,7 +375,7 @@ pub fn ace_lower(
 
 // The interface's number.
 pub fn ace_interface() -> u64
-    ensures { result ≡ 2 }
+    ensures { result ≡ 3 }
 {
     INTERFACE
 }

@@ -21,72 +21,72 @@ pub extern "C" fn ace_step(
     ace::ace_step(field, list, n, tag, first, second, answer);
 }
 
-// Build. Accepted: count, root's place.
+// Build. Accepted: count, 0, the roots' places.
 #[unsafe(no_mangle)]
 pub extern "C" fn ace_build(
     field: u64,
     list: &[u64],
     n: usize,
-    root: usize,
+    roots: &[u64],
     res: &mut [u64],
     map: &mut [u64],
-    answer: &mut [u64; 4],
+    answer: &mut [u64; 11],
 )
-    ensures res { res.new ≡ Calls.build_result field list.now n root res.old map.old }
-    ensures map { map.new ≡ Calls.build_map field list.now n root res.old map.old }
-    ensures answer { answer.new ≡ Calls.build_answer field list.now n root res.old map.old }
+    ensures res { res.new ≡ Calls.build_result field list.now n roots.now res.old map.old }
+    ensures map { map.new ≡ Calls.build_map field list.now n roots.now res.old map.old }
+    ensures answer { answer.new ≡ Calls.build_answer field list.now n roots.now res.old map.old }
 {
-    ace::ace_build(field, list, n, root, res, map, answer);
+    ace::ace_build(field, list, n, roots, res, map, answer);
 }
 
-// Compact. Accepted: count, root.
+// Compact. Accepted: count, 0, the roots' places.
 #[unsafe(no_mangle)]
 pub extern "C" fn ace_compact(
     field: u64,
     list: &[u64],
     n: usize,
-    root: usize,
+    roots: &[u64],
     res: &mut [u64],
-    answer: &mut [u64; 4],
+    answer: &mut [u64; 11],
 )
-    ensures res { res.new ≡ Calls.compact_result field list.now n root res.old }
-    ensures answer { answer.new ≡ Calls.compact_answer field list.now n root res.old }
+    ensures res { res.new ≡ Calls.compact_result field list.now n roots.now res.old }
+    ensures answer { answer.new ≡ Calls.compact_answer field list.now n roots.now res.old }
 {
-    ace::ace_compact(field, list, n, root, res, answer);
+    ace::ace_compact(field, list, n, roots, res, answer);
 }
 
-// Normalise. Accepted: count, root, rounds kept.
+// Normalise. Accepted: count, rounds kept, the roots' places.
 #[unsafe(no_mangle)]
 pub extern "C" fn ace_normalize(
     field: u64,
     list: &[u64],
     n: usize,
-    root: usize,
+    roots: &[u64],
     res: &mut [u64],
     work: &mut [u64],
-    answer: &mut [u64; 4],
+    answer: &mut [u64; 11],
 )
-    ensures res { res.new ≡ Calls.normalize_result field list.now n root res.old work.old }
-    ensures work { work.new ≡ Calls.normalize_work field list.now n root res.old work.old }
-    ensures answer { answer.new ≡ Calls.normalize_answer field list.now n root res.old work.old }
+    ensures res { res.new ≡ Calls.normalize_result field list.now n roots.now res.old work.old }
+    ensures work { work.new ≡ Calls.normalize_work field list.now n roots.now res.old work.old }
+    ensures answer { answer.new ≡ Calls.normalize_answer field list.now n roots.now res.old work.old }
 {
-    ace::ace_normalize(field, list, n, root, res, work, answer);
+    ace::ace_normalize(field, list, n, roots, res, work, answer);
 }
 
-// Evaluate. Accepted: c0, c1.
+// Evaluate. Accepted: c0, c1 of each root in order.
 #[unsafe(no_mangle)]
 pub extern "C" fn ace_evaluate(
     field: u64,
     list: &[u64],
     n: usize,
-    root: usize,
+    roots: &[u64],
     assignment: &[u64],
     m: usize,
-    answer: &mut [u64; 4],
+    answer: &mut [u64; 17],
 )
-    ensures answer { answer.new ≡ Calls.evaluate_answer field list.now n root assignment.now m }
+    ensures answer { answer.new ≡ Calls.evaluate_answer field list.now n roots.now assignment.now m }
 {
-    ace::ace_evaluate(field, list, n, root, assignment, m, answer);
+    ace::ace_evaluate(field, list, n, roots, assignment, m, answer);
 }
 
 // Prepare. Accepted: columns, then a form each.
@@ -124,7 +124,7 @@ pub extern "C" fn ace_lower(
 // The interface's number.
 #[unsafe(no_mangle)]
 pub extern "C" fn ace_interface() -> u64
-    ensures { result ≡ 2 }
+    ensures { result ≡ 3 }
 {
     ace::ace_interface()
 }

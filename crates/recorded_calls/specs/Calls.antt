@@ -11,10 +11,10 @@ shape numbers read written answer = record { numbers = numbers; read = read; wri
 
 unfoldable pub shape_of : Call → Shape
 shape_of Call.Step = shape 5 0 1 4
-shape_of Call.Build = shape 3 1 2 4
-shape_of Call.Compact = shape 3 1 1 4
-shape_of Call.Normalize = shape 3 1 2 4
-shape_of Call.Evaluate = shape 4 2 0 4
+shape_of Call.Build = shape 2 2 2 11
+shape_of Call.Compact = shape 2 2 1 11
+shape_of Call.Normalize = shape 2 2 2 11
+shape_of Call.Evaluate = shape 3 3 0 17
 shape_of Call.Prepare = shape 1 2 0 18
 shape_of Call.Lower = shape 3 3 3 4
 
@@ -55,20 +55,20 @@ outcome Call.Step n r w =
     }
 outcome Call.Build n r w =
     record {
-      words = Ace.build_answer (n 0) r.a (n 1) (n 2) w.a w.b;
-      after = stores (Ace.build_result (n 0) r.a (n 1) (n 2) w.a w.b) (Ace.build_map (n 0) r.a (n 1) (n 2) w.a w.b) w.c;
+      words = Ace.build_answer (n 0) r.a (n 1) r.b w.a w.b;
+      after = stores (Ace.build_result (n 0) r.a (n 1) r.b w.a w.b) (Ace.build_map (n 0) r.a (n 1) r.b w.a w.b) w.c;
     }
 outcome Call.Compact n r w =
     record {
-      words = Ace.compact_answer (n 0) r.a (n 1) (n 2) w.a;
-      after = stores (Ace.compact_result (n 0) r.a (n 1) (n 2) w.a) w.b w.c;
+      words = Ace.compact_answer (n 0) r.a (n 1) r.b w.a;
+      after = stores (Ace.compact_result (n 0) r.a (n 1) r.b w.a) w.b w.c;
     }
 outcome Call.Normalize n r w =
     record {
-      words = Ace.normalize_answer (n 0) r.a (n 1) (n 2) w.a w.b;
-      after = stores (Ace.normalize_result (n 0) r.a (n 1) (n 2) w.a w.b) (Ace.normalize_work (n 0) r.a (n 1) (n 2) w.a w.b) w.c;
+      words = Ace.normalize_answer (n 0) r.a (n 1) r.b w.a w.b;
+      after = stores (Ace.normalize_result (n 0) r.a (n 1) r.b w.a w.b) (Ace.normalize_work (n 0) r.a (n 1) r.b w.a w.b) w.c;
     }
-outcome Call.Evaluate n r w = record { words = Ace.evaluate_answer (n 0) r.a (n 1) (n 2) r.b (n 3); after = w }
+outcome Call.Evaluate n r w = record { words = Ace.evaluate_answer (n 0) r.a (n 1) r.b r.c (n 2); after = w }
 outcome Call.Prepare n r w = record { words = Ace.prepare_answer (n 0) r.a r.b; after = w }
 outcome Call.Lower n r w =
     record {

@@ -5,7 +5,10 @@ ghost use Rattle.std.specs.Prelude.{◌≡◌, Some};
 ghost use Rattle.recorded_calls.specs.Calls.{name, shape, shape_of};
 ghost use Rattle.recorded_calls.specs.Promises.{Asked};
 
-use ace::{ace_build, ace_compact, ace_evaluate, ace_lower, ace_normalize, ace_prepare, ace_step};
+use ace::{
+    ANSWER_WORDS, EVALUATE_WORDS, LIST_WORDS, PREPARE_WORDS, ace_build, ace_compact, ace_evaluate,
+    ace_lower, ace_normalize, ace_prepare, ace_step,
+};
 use recorded::{Cursor, Reads, Writes};
 use std::fmt;
 
@@ -67,10 +70,10 @@ impl Call {
     {
         match self {
             Call::Step => Shape::new(5, 0, 1, 4),
-            Call::Build => Shape::new(3, 1, 2, 4),
-            Call::Compact => Shape::new(3, 1, 1, 4),
-            Call::Normalize => Shape::new(3, 1, 2, 4),
-            Call::Evaluate => Shape::new(4, 2, 0, 4),
+            Call::Build => Shape::new(2, 2, 2, 11),
+            Call::Compact => Shape::new(2, 2, 1, 11),
+            Call::Normalize => Shape::new(2, 2, 2, 11),
+            Call::Evaluate => Shape::new(3, 3, 0, 17),
             Call::Prepare => Shape::new(1, 2, 0, 18),
             Call::Lower => Shape::new(3, 3, 3, 4),
         }
@@ -84,20 +87,24 @@ impl Call {
         let said = case.to(said);
         let n = |k: u64| case.number(k);
         let m = |k: u64| case.number(k) as usize;
-        let mut answer = [0; 4];
+        let mut words = [0; ANSWER_WORDS];
+        let mut list = [0; LIST_WORDS];
+        let mut values = [0; EVALUATE_WORDS];
+        let mut forms = [0; PREPARE_WORDS];
         match self {
-            Call::Step => ace_step(n(0), w.a, m(1), n(2), n(3), n(4), &mut answer),
-            Call::Build => ace_build(n(0), r.a, m(1), m(2), w.a, w.b, &mut answer),
-            Call::Compact => ace_compact(n(0), r.a, m(1), m(2), w.a, &mut answer),
-            Call::Normalize => ace_normalize(n(0), r.a, m(1), m(2), w.a, w.b, &mut answer),
-            Call::Evaluate => ace_evaluate(n(0), r.a, m(1), m(2), r.b, m(3), &mut answer),
-            Call::Prepare => {
-                let mut answer = [0; 18];
-                ace_prepare(n(0), r.a, r.b, &mut answer);
-                return said.follow(&answer);
-            }
-            Call::Lower => ace_lower(n(0), r.a, m(1), r.b, r.c, n(2), w.a, w.b, w.c, &mut answer),
+            Call::Step => ace_step(n(0), w.a, m(1), n(2), n(3), n(4), &mut words),
+            Call::Build => ace_build(n(0), r.a, m(1), r.b, w.a, w.b, &mut list),
+            Call::Compact => ace_compact(n(0), r.a, m(1), r.b, w.a, &mut list),
+            Call::Normalize => ace_normalize(n(0), r.a, m(1), r.b, w.a, w.b, &mut list),
+            Call::Evaluate => ace_evaluate(n(0), r.a, m(1), r.b, r.c, m(2), &mut values),
+            Call::Prepare => ace_prepare(n(0), r.a, r.b, &mut forms),
+            Call::Lower => ace_lower(n(0), r.a, m(1), r.b, r.c, n(2), w.a, w.b, w.c, &mut words),
         }
-        said.follow(&answer)
+        match self {
+            Call::Step | Call::Lower => said.follow(&words),
+            Call::Build | Call::Compact | Call::Normalize => said.follow(&list),
+            Call::Evaluate => said.follow(&values),
+            Call::Prepare => said.follow(&forms),
+        }
     }
 }

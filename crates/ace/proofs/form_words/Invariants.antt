@@ -1,7 +1,9 @@
--- The invariant: the words of the forms before place i are written.
-use Rattle.std.proofs.Common.{◌≡◌, ◌∷◌, take}
-use Rattle.ace.specs.Answers as Answers
+-- The invariant: the words of the forms before place j are written.
+use Rattle.std.proofs.Common.{◌≡◌, ◌∷◌, length, map, take}
+use Rattle.dag.specs.Arrays.{padded}
+use Rattle.columns.specs.Columns.{form_number}
+use Rattle.columns.specs.Prepare.{most_columns}
 use Rattle.ace.proofs.form_words.Given as goal
 
-abbrev pub invariant-loop-i : goal.invariant-loop-i
-invariant-loop-i l = l.words ≡ l.first ∷ l.second ∷ Answers.form_words (take l.i l.forms)
+abbrev pub invariant-loop-j : goal.invariant-loop-j
+invariant-loop-j l = l.words ≡ 0 ∷ length l.forms ∷ padded 0 most_columns (map form_number (take l.j l.forms))
