@@ -24,23 +24,23 @@ module _ (field : Field) where
     unfolding step_answer
     step_accepts t a b = zero_accepts (λ w. outcome (step_words w)) Err _ (λ r. refl) refl (step_whole_check field s n t a b)
 
-    module _ (root result_room : ℕ) where
-      pub build_accepts : (map_words : ℕ) → (outcome (list_words (build_answer field s n root result_room map_words)) ≡ 0) ↔ (build_check field s n root result_room map_words ≡ Ok tt)
+    module _ (roots : List ℕ) (result_room : ℕ) where
+      pub build_accepts : (map_words : ℕ) → (outcome (list_words (build_answer field s n roots result_room map_words)) ≡ 0) ↔ (build_check field s n roots result_room map_words ≡ Ok tt)
       unfolding build_answer
-      build_accepts map_words = zero_accepts (λ w. outcome (list_words w)) Err _ (λ r. refl) refl (build_check field s n root result_room map_words)
+      build_accepts map_words = zero_accepts (λ w. outcome (list_words w)) Err _ (λ r. refl) refl (build_check field s n roots result_room map_words)
 
-      pub compact_accepts : (outcome (list_words (compact_answer field s n root result_room)) ≡ 0) ↔ (compact_check field s n root result_room ≡ Ok tt)
+      pub compact_accepts : (outcome (list_words (compact_answer field s n roots result_room)) ≡ 0) ↔ (compact_check field s n roots result_room ≡ Ok tt)
       unfolding compact_answer
-      compact_accepts = zero_accepts (λ w. outcome (list_words w)) Err _ (λ r. refl) refl (compact_check field s n root result_room)
+      compact_accepts = zero_accepts (λ w. outcome (list_words w)) Err _ (λ r. refl) refl (compact_check field s n roots result_room)
 
-      pub normalize_accepts : (work_room : ℕ) → (outcome (normalize_words (normalize_answer field s n root result_room work_room)) ≡ 0) ↔ (normalize_check field s n root result_room work_room ≡ Ok tt)
+      pub normalize_accepts : (work_room : ℕ) → (outcome (normalize_words (normalize_answer field s n roots result_room work_room)) ≡ 0) ↔ (normalize_check field s n roots result_room work_room ≡ Ok tt)
       unfolding normalize_answer
       normalize_accepts work_room =
-          zero_accepts (λ w. outcome (normalize_words w)) Err _ (λ r. refl) refl (normalize_check field s n root result_room work_room)
+          zero_accepts (λ w. outcome (normalize_words w)) Err _ (λ r. refl) refl (normalize_check field s n roots result_room work_room)
 
-    pub evaluate_accepts : (root : ℕ) (a : List ℕ) (m : ℕ) → (outcome (evaluate_words (evaluate_answer field s n root a m)) ≡ 0) ↔ (evaluate_check field s n root a m ≡ Ok tt)
+    pub evaluate_accepts : (roots a : List ℕ) (m : ℕ) → (outcome (evaluate_words (evaluate_answer field s n roots a m)) ≡ 0) ↔ (evaluate_check field s n roots a m ≡ Ok tt)
     unfolding evaluate_answer
-    evaluate_accepts root a m = zero_accepts (λ w. outcome (evaluate_words w)) Err _ (λ r. refl) refl (evaluate_check field s n root a m)
+    evaluate_accepts roots a m = zero_accepts (λ w. outcome (evaluate_words w)) Err _ (λ r. refl) refl (evaluate_check field s n roots a m)
 
     pub lower_accepts : (ls es : List ℕ) (period : ℕ) (result work places : List ℕ)
         → (outcome (lower_words (lower_answer field s n ls es period result work places)) ≡ 0) ↔ (whole_check field s n ls es period result work places ≡ Ok tt)

@@ -93,9 +93,9 @@ module _ (field : Field) where
     unfolding given
     same_given = fun_ext (λ key. same_element key m (omega arith))
 
-    pub evaluate_assignment : (s : View) (n root : ℕ) → evaluate_answer field s n root a m ≡ evaluate_answer field s n root c m
+    pub evaluate_assignment : (s : View) (n : ℕ) (roots : List ℕ) → evaluate_answer field s n roots a m ≡ evaluate_answer field s n roots c m
     unfolding evaluate_answer evaluate_check
-    evaluate_assignment s n root = rw (same_entries_lem, same_finder, same_given)
+    evaluate_assignment s n roots = rw (same_entries_lem, same_finder, same_given)
 
   pub prepare_answer_lem : (ls es fs : List ℕ) → total ls ≤ length es → total ls ≤ length fs → take (total ls) es ≡ take (total ls) fs → prepare (modulus field) ls es ≡ prepare (modulus field) ls fs
   unfolding prepare prepare_check

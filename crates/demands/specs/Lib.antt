@@ -9,3 +9,5 @@ pub mod Accepted
 pub mod Normalising
 pub mod Evaluating
 pub mod Numbered
+pub mod Before
+pub mod OneRoot

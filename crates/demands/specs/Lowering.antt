@@ -1,5 +1,5 @@
 -- Lower in the list check's words: where it accepts, the list answered passes, the given records stand in front, and each place is inside.
-use Rattle.std.specs.Prelude.{ℕ, ◌-◌, ◌≤◌, ◌<◌, ◌&&◌, List, ◌≡◌, get_or, replicate, Ok}
+use Rattle.std.specs.Prelude.{ℕ, ◌-◌, ◌≤◌, ◌<◌, ◌&&◌, List, map, ◌≡◌, get_or, replicate, Ok}
 use Rattle.std.proofs.Math.Path.{sym}
 use Rattle.std.proofs.Common.{◌∙◌, ap, arith, length-append, ext_get_or}
 use borrow.Author.Tests.{leb-true}
@@ -7,6 +7,8 @@ use Rattle.std.proofs.Math.Dec.{leb}
 use Rattle.std.proofs.Math.ListN.{length, get_or-append}
 use Rattle.field.specs.Fields.{Field, Low}
 use Rattle.dag.specs.CaseLaws.{and_true}
+use Rattle.dag.specs.Roots.{roots_from, Inside}
+use Rattle.dag.specs.RootLaws.{roots_from_lem, inside_renamed}
 use Rattle.dag.specs.Check.{rootless_check, list_check}
 use Rattle.dag.specs.CheckLaws.{then_good, need_good}
 use Rattle.dag.specs.View.{View, interleaved, Agree}
@@ -96,8 +98,13 @@ module _ (field : Field) where
     pub answer_inside : (j : ℕ) → j < length ls → get_or place_store j 0 < length list
     answer_inside j h = rw (place_is j h) (lowered_inside field s n ls es period (interleaved work).room (length places) both.0 j h)
 
-    -- the list passes the list check with each place as its root
-    pub answer_rooted : (j : ℕ) → j < length ls → list_check field.bounds (interleaved store) (length list) (get_or place_store j 0) ≡ Ok tt
-    answer_rooted j h =
+    -- the place of a column
+    abbrev place_at : ℕ → ℕ
+    place_at j = get_or place_store j 0
+
+    -- the list passes the list check with the places of one to eight columns as its roots
+    pub answer_rooted : (js : List ℕ) → Inside (length ls) (roots_from js) → list_check field.bounds (interleaved store) (length list) (map place_at js) ≡ Ok tt
+    answer_rooted js columns =
         rw begins
-        (stored_pass result list field.bounds well_formed (get_or place_store j 0) (answer_inside j h) few)
+        (stored_pass result list field.bounds well_formed (map place_at js)
+        (rw (roots_from_lem js) at (inside_renamed place_at (length ls) (length list) (roots_from js) columns answer_inside)) few)

@@ -10,26 +10,26 @@ use Rattle.normalize.specs.Calls.{normalize_check, normalize_result, normalize_w
 use Rattle.lower.specs.Lower.{lower_check, whole_check, lower_result, lower_work, lower_places}
 
 module _ (field : Field) where
-  module _ (s : View) (n root : ℕ) (result result' : List ℕ) (same : length result ≡ length result') where
-    module _ (map map' : List ℕ) (same_map : length map ≡ length map') (accepted : build_check field s n root (interleaved result).room (length map) ≡ Ok tt) where
-      pub build_result_lem : build_result field s n root result (length map) ≡ build_result field s n root result' (length map')
+  module _ (s : View) (n : ℕ) (roots result result' : List ℕ) (same : length result ≡ length result') where
+    module _ (map map' : List ℕ) (same_map : length map ≡ length map') (accepted : build_check field s n roots (interleaved result).room (length map) ≡ Ok tt) where
+      pub build_result_lem : build_result field s n roots result (length map) ≡ build_result field s n roots result' (length map')
       unfolding build_result stored
       build_result_lem = rw (← same_room result result' same, ← same_map, accepted, same)
 
-      pub build_map_lem : build_map field s n root (interleaved result).room map ≡ build_map field s n root (interleaved result').room map'
+      pub build_map_lem : build_map field s n roots (interleaved result).room map ≡ build_map field s n roots (interleaved result').room map'
       unfolding build_map
       build_map_lem = rw (← same_room result result' same, ← same_map, accepted)
 
-    pub compact_result_lem : compact_check field s n root (interleaved result).room ≡ Ok tt → compact_result field s n root result ≡ compact_result field s n root result'
+    pub compact_result_lem : compact_check field s n roots (interleaved result).room ≡ Ok tt → compact_result field s n roots result ≡ compact_result field s n roots result'
     unfolding compact_result stored
     compact_result_lem accepted = rw (← same_room result result' same, accepted, same)
 
-    module _ (work work' : List ℕ) (same-work : length work ≡ length work') (accepted : normalize_check field s n root (interleaved result).room (interleaved work).room ≡ Ok tt) where
-      pub normalize_result_lem : normalize_result field s n root result (interleaved work).room ≡ normalize_result field s n root result' (interleaved work').room
+    module _ (work work' : List ℕ) (same-work : length work ≡ length work') (accepted : normalize_check field s n roots (interleaved result).room (interleaved work).room ≡ Ok tt) where
+      pub normalize_result_lem : normalize_result field s n roots result (interleaved work).room ≡ normalize_result field s n roots result' (interleaved work').room
       unfolding normalize_result stored
       normalize_result_lem = rw (← same_room result result' same, ← same_room work work' same-work, accepted, same)
 
-      pub normalize_work_lem : normalize_work field s n root (interleaved result).room work ≡ normalize_work field s n root (interleaved result').room work'
+      pub normalize_work_lem : normalize_work field s n roots (interleaved result).room work ≡ normalize_work field s n roots (interleaved result').room work'
       unfolding normalize_work
       normalize_work_lem = rw (← same_room result result' same, ← same_room work work' same-work, accepted, same-work)
 

@@ -24,7 +24,7 @@ module _ (field : Field) where
     same_rootless : (least : ℕ) → rootless_check field.bounds least s n ≡ rootless_check field.bounds least u n
     same_rootless = alike_rootless s u n h field.bounds
 
-    pub same_check : (root : ℕ) → list_check field.bounds s n root ≡ list_check field.bounds u n root
+    pub same_check : (roots : List ℕ) → list_check field.bounds s n roots ≡ list_check field.bounds u n roots
     same_check = alike_list s u n h field.bounds
 
     -- Step, where both stores have room for one record more or neither has
@@ -37,43 +37,43 @@ module _ (field : Field) where
       unfolding step_answer step_whole_check step_check step_room_check stepped
       step_answer_lem = rw (same_rootless 0, same_nodes, room)
 
-    module _ (root result_room : ℕ) where
-      pub build_answer_lem : (map_words : ℕ) → build_answer field s n root result_room map_words ≡ build_answer field u n root result_room map_words
+    module _ (roots : List ℕ) (result_room : ℕ) where
+      pub build_answer_lem : (map_words : ℕ) → build_answer field s n roots result_room map_words ≡ build_answer field u n roots result_room map_words
       unfolding build_answer build_check
-      build_answer_lem map_words = rw (same_check root, same_nodes)
+      build_answer_lem map_words = rw (same_check roots, same_nodes)
 
-      pub compact_answer_lem : compact_answer field s n root result_room ≡ compact_answer field u n root result_room
+      pub compact_answer_lem : compact_answer field s n roots result_room ≡ compact_answer field u n roots result_room
       unfolding compact_answer compact_check compacted
-      compact_answer_lem = rw (same_check root, same_nodes)
+      compact_answer_lem = rw (same_check roots, same_nodes)
 
-      pub normalize_answer_lem : (work_room : ℕ) → normalize_answer field s n root result_room work_room ≡ normalize_answer field u n root result_room work_room
+      pub normalize_answer_lem : (work_room : ℕ) → normalize_answer field s n roots result_room work_room ≡ normalize_answer field u n roots result_room work_room
       unfolding normalize_answer normalize_check normalized
-      normalize_answer_lem work_room = rw (same_check root, same_nodes)
+      normalize_answer_lem work_room = rw (same_check roots, same_nodes)
 
-    module _ (root : ℕ) (result : List ℕ) where
-      pub build_result_lem : (map_words : ℕ) → build_result field s n root result map_words ≡ build_result field u n root result map_words
+    module _ (roots result : List ℕ) where
+      pub build_result_lem : (map_words : ℕ) → build_result field s n roots result map_words ≡ build_result field u n roots result map_words
       unfolding build_result build_check
-      build_result_lem map_words = rw (same_check root, same_nodes)
+      build_result_lem map_words = rw (same_check roots, same_nodes)
 
-      pub compact_result_lem : compact_result field s n root result ≡ compact_result field u n root result
+      pub compact_result_lem : compact_result field s n roots result ≡ compact_result field u n roots result
       unfolding compact_result compact_check compacted
-      compact_result_lem = rw (same_check root, same_nodes)
+      compact_result_lem = rw (same_check roots, same_nodes)
 
-      pub normalize_result_lem : (work_room : ℕ) → normalize_result field s n root result work_room ≡ normalize_result field u n root result work_room
+      pub normalize_result_lem : (work_room : ℕ) → normalize_result field s n roots result work_room ≡ normalize_result field u n roots result work_room
       unfolding normalize_result normalize_check normalized
-      normalize_result_lem work_room = rw (same_check root, same_nodes)
+      normalize_result_lem work_room = rw (same_check roots, same_nodes)
 
-    pub build_map_lem : (root result_room : ℕ) (map : List ℕ) → build_map field s n root result_room map ≡ build_map field u n root result_room map
+    pub build_map_lem : (roots : List ℕ) (result_room : ℕ) (map : List ℕ) → build_map field s n roots result_room map ≡ build_map field u n roots result_room map
     unfolding build_map build_check
-    build_map_lem root result_room map = rw (same_check root, same_nodes)
+    build_map_lem roots result_room map = rw (same_check roots, same_nodes)
 
-    pub normalize_work_lem : (root result_room : ℕ) (work : List ℕ) → normalize_work field s n root result_room work ≡ normalize_work field u n root result_room work
+    pub normalize_work_lem : (roots : List ℕ) (result_room : ℕ) (work : List ℕ) → normalize_work field s n roots result_room work ≡ normalize_work field u n roots result_room work
     unfolding normalize_work normalize_check
-    normalize_work_lem root result_room work = rw (same_check root)
+    normalize_work_lem roots result_room work = rw (same_check roots)
 
-    pub evaluate_answer_lem : (root : ℕ) (a : List ℕ) (m : ℕ) → evaluate_answer field s n root a m ≡ evaluate_answer field u n root a m
+    pub evaluate_answer_lem : (roots a : List ℕ) (m : ℕ) → evaluate_answer field s n roots a m ≡ evaluate_answer field u n roots a m
     unfolding evaluate_answer evaluate_check
-    evaluate_answer_lem root a m = rw (same_check root, same_nodes)
+    evaluate_answer_lem roots a m = rw (same_check roots, same_nodes)
 
     module _ (ls es : List ℕ) (period : ℕ) where
       same_lowered : lowered field s n ls es period ≡ lowered field u n ls es period

@@ -1,4 +1,4 @@
--- Examples A to L, I and J in both fields: each is an answer of a definition and the answer that is stated.
+-- Examples A to L, I and J in both fields, and M of several roots: each is an answer of a definition and the answer that is stated.
 use Rattle.std.specs.Prelude.{ℕ, zero, suc, ◌*◌, ◌-◌, List, [], ◌∷◌, ◌++◌, map, ◌≡◌, refl, length, replicate, Err, Result, Ok}
 use Rattle.field.specs.Fields.{field_of, goldilocks}
 use Rattle.dag.specs.declared.Refusal.{Refusal}
@@ -23,13 +23,13 @@ use Rattle.columns.specs.Columns.{scalings, combination_cost, offset, equal_entr
 use Rattle.columns.specs.Prepare.{total, columns, prepare_check}
 use Rattle.dag.specs.Arrays.{up_to}
 use Rattle.dag.specs.Keys.{is_key}
-use Rattle.dag.specs.Check.{formed, earlier, record_check, check_at, room_check, rootless_check, list_check}
+use Rattle.dag.specs.Check.{formed, earlier, record_check, check_at, room_check, rootless_check, roots_check, list_check}
 use Rattle.periodic.specs.Builder.{turns, done}
 use Rattle.periodic.specs.Periodic.{build_periodic_nodes}
 use Rattle.lower.specs.Lower.{lower_room, lower_stores, period_good, lower_check, lowered, whole_check, lower_answer, lower_result}
 use Rattle.normalize.specs.Calls.{normalized}
 use Rattle.text.specs.Text.{ascii, digits, decimal, ended, line}
-use Rattle.house_file.specs.File.{number, words_at, file_view, is_count, head_check, form_check, held_check, file_check}
+use Rattle.house_file.specs.File.{number, words_at, file_view, is_version, root_count, roots_place, file_root, is_count, head_check, form_check, held_check, file_check}
 use Rattle.listing.specs.Kinds.{kind}
 use Rattle.listing.specs.Listing.{first_line, record_line, record_lines, listed, refused_line, listing}
 
@@ -212,6 +212,57 @@ L-copied = record {
   stated = 0 ∷ 0 ∷ 0 ∷ blank ∷ [];
 }
 
+-- inputs 0, 1, 2, mul 0 1, mul 0 2, add 3 4
+abbrev products : List NodeKind
+products = Input 0 ∷ Input 1 ∷ Input 2 ∷ Mul 0 1 ∷ Mul 0 2 ∷ Add 3 4 ∷ []
+
+-- a version 2 file whose roots 5 and 7 meet: a round brings mul 0 1 plus mul 0 2 onto mul 0 6, where 6 is add 1 2
+abbrev M : Example
+M = record {
+  Answer = List ℕ;
+  computed =
+      listing
+      ((2 ∷ 0 ∷ 0 ∷ 0 ∷ 8 ∷ 2 ∷ 0 ∷ 0 ∷ 0 ∷ 5 ∷ 0 ∷ 0 ∷ 0 ∷ 7 ∷ []) ++ filed 0 0 0 ++ filed 0 1 0 ++ filed 0 2 0 ++ filed 4 0 1 ++ filed 4 0 2 ++ filed 2 3 4
+      ++ filed 2 1 2 ++ filed 4 0 6);
+  stated = ascii "nodes 5 root 4 4 rounds 1\n0 in 0 0\n1 in 1 0\n2 in 2 0\n3 add 1 2\n4 mul 0 3\n";
+}
+
+-- a version 2 file with roots 5 and 0: both are named, in their order
+abbrev M-order : Example
+M-order = record {
+  Answer = List ℕ;
+  computed = listing ((2 ∷ 0 ∷ 0 ∷ 0 ∷ 6 ∷ 2 ∷ 0 ∷ 0 ∷ 0 ∷ 5 ∷ 0 ∷ 0 ∷ 0 ∷ 0 ∷ []) ++ filed 0 0 0 ++ filed 0 1 0 ++ filed 0 2 0 ++ filed 4 0 1 ++ filed 4 0 2 ++ filed 2 3 4);
+  stated = ascii "nodes 5 root 4 0 rounds 1\n0 in 0 0\n1 in 1 0\n2 in 2 0\n3 add 1 2\n4 mul 0 3\n";
+}
+
+-- a file that names no root
+abbrev M-refused : Example
+M-refused = record {
+  Answer = List ℕ;
+  computed = listing ((2 ∷ 0 ∷ 0 ∷ 0 ∷ 1 ∷ 0 ∷ []) ++ filed 0 0 0);
+  stated = ascii "refused 46 0\n";
+}
+
+-- a second root at place 3 is one mention more: nothing fires
+abbrev M-second : Example
+M-second = record {
+  Answer = Normal;
+  computed = normalize (elements Goldilocks) products (5 ∷ 3 ∷ []);
+  stated = record { list = products; roots = 5 ∷ 3 ∷ []; rounds = 0 };
+}
+
+-- a place that is named twice is mentioned twice more
+abbrev M-twice : Example
+M-twice = record { Answer = ℕ; computed = fanout products (3 ∷ 3 ∷ []) 3; stated = 3 }
+
+-- compacting keeps what any of two roots reaches
+abbrev M-union : Example
+M-union = record {
+  Answer = Rooted;
+  computed = compact products (4 ∷ 1 ∷ []);
+  stated = record { list = Input 0 ∷ Input 1 ∷ Input 2 ∷ Mul 0 2 ∷ []; roots = 3 ∷ 1 ∷ [] };
+}
+
 three_sparse : K-three.computed ≡ K-three.stated
 unfolding unit choices log_within log_length occurrences is_sparse standalone places_from with_new values_from values weight heaviest dominant is_scaled scalings combination_cost offset equal_entries gain same_entries is_among saving savings goes_over form up_to
 three_sparse = refl
@@ -229,7 +280,7 @@ unfolding unit choices log_within log_length occurrences is_sparse standalone pl
 copies_sparse = refl
 
 pub examples : List Example
-examples = A ∷ A-refused ∷ B ∷ C-normalized ∷ C-compacted ∷ D ∷ E ∷ F ∷ G ∷ H ∷ I ∷ I-refused ∷ I-second ∷ J ∷ J-second ∷ K-three ∷ K-four-below ∷ K-four-with ∷ K-copies ∷ L ∷ L-copied ∷ []
+examples = A ∷ A-refused ∷ B ∷ C-normalized ∷ C-compacted ∷ D ∷ E ∷ F ∷ G ∷ H ∷ I ∷ I-refused ∷ I-second ∷ J ∷ J-second ∷ K-three ∷ K-four-below ∷ K-four-with ∷ K-copies ∷ L ∷ L-copied ∷ M ∷ M-order ∷ M-refused ∷ M-second ∷ M-twice ∷ M-union ∷ []
 
 pub all_examples : All examples
 unfolding
@@ -240,7 +291,7 @@ unfolding
     with_new values_from values weight heaviest dominant is_scaled scalings combination_cost offset equal_entries gain same_entries is_among
     saving savings goes_over form up_to lower_check lower_stores lower_room interleaved stored rootless_check check_at record_check formed
     earlier is_key prepare_check first_refused total columns period_good lowered build_periodic_nodes turns done record_at nodes decode words
-    words_of filled choices list_check room_check whole_check lower_answer lower_result normalized ascii digits decimal ended line number
-    words_at file_view is_count head_check form_check held_check file_check kind first_line record_line record_lines listed refused_line listing
+    words_of filled choices list_check roots_check room_check whole_check lower_answer lower_result normalized ascii digits decimal ended line number
+    words_at file_view is_version root_count roots_place file_root is_count head_check form_check held_check file_check kind first_line record_line record_lines listed refused_line listing
     greatest
-all_examples = (refl, (refl, (refl, (refl, (refl, (refl, (refl, (refl, (refl, (refl, (refl, (refl, (refl, (refl, (refl, (three_sparse, (four_below, (four_with, (copies_sparse, (refl, (refl, tt)))))))))))))))))))))
+all_examples = (refl, (refl, (refl, (refl, (refl, (refl, (refl, (refl, (refl, (refl, (refl, (refl, (refl, (refl, (refl, (three_sparse, (four_below, (four_with, (copies_sparse, (refl, (refl, (refl, (refl, (refl, (refl, (refl, (refl, tt)))))))))))))))))))))))))))
