@@ -13,6 +13,8 @@
  *   tag 3  sub        two places
  *   tag 4  mul        two places
  *   tag 5  neg        a place, 0
+ * It has one to ACE_MOST_ROOTS roots, places of its own in a fixed order. Two may be one place, and
+ * a call may bring two to one place. Every root's place or value is answered, in that order.
  *
  * A key number is variant * 2^48 + first field + second field * 2^16 + third field * 2^32;
  * each is at most 65,535, and one that the variant lacks is 0. The variants and their fields:
@@ -34,16 +36,20 @@
  *
  * What a caller lends, at least, in words, for n records and m entries:
  *   ace_step       list 3n, and 3 more where a record is new
- *   ace_build      list 3n, result 3n, map n
- *   ace_compact    list 3n, result 3n
- *   ace_normalize  list 3n, result 3n, work 6n
- *   ace_evaluate   list 3n, assignment 3m
+ *   ace_build      list 3n, roots, result 3n, map n
+ *   ace_compact    list 3n, roots, result 3n
+ *   ace_normalize  list 3n, roots, result 3n, work 6n
+ *   ace_evaluate   list 3n, roots, assignment 3m
  *   ace_prepare    lengths a word a column, entries the sum of the lengths
  *   ace_lower      as ace_prepare, list 3n, work ACE_LOWER_WORK, places a word a column, and a
  *                  result of 3 for each record that comes out: 3 * ACE_MOST_RECORDS always do
- *   each of them   answer ACE_ANSWER_WORDS, but ace_prepare answer ACE_PREPARE_WORDS
- * Less is refused, save for answer, whose length is not passed. More may be lent: words of a
- * source behind those above are not read. A result, map, place or work store need hold nothing.
+ *   roots          1 to ACE_MOST_ROOTS, a word a root: their number is the store's length
+ *   answer         ACE_ANSWER_WORDS in ace_step and ace_lower, ACE_LIST_WORDS in ace_build,
+ *                  ace_compact and ace_normalize, ACE_EVALUATE_WORDS in ace_evaluate,
+ *                  ACE_PREPARE_WORDS in ace_prepare
+ * Less is refused, save for answer, whose length is not passed. More may be lent, save of roots:
+ * words of a source behind those above are not read. A result, map, place or work store need hold
+ * nothing.
  *
  * answer[0] is 0 where the call accepts; its values start at answer[1], and words that no value
  * takes are 0. Otherwise answer[0] is one of the refusals below, answer[1] the record, entry or
@@ -69,7 +75,7 @@
 
 /* What the calls take and answer: raised when a caller built with an older header would be wrong.
  * ace_interface() says it of the archive; a caller compares the two once. */
-#define ACE_INTERFACE 2
+#define ACE_INTERFACE 3
 
 /* The numbers of the fields. */
 #define ACE_FIELD_P 1
@@ -82,8 +88,9 @@
 /* The key number of ZK, an input that ace_lower may append. */
 #define ACE_ZK UINT64_C(3096224743817216)
 
-/* The most records of a list, the most entries of an assignment and the most columns. */
+/* The most records and roots of a list, the most entries of an assignment and the most columns. */
 #define ACE_MOST_RECORDS 4096
+#define ACE_MOST_ROOTS 8
 #define ACE_MOST_ENTRIES 4096
 #define ACE_MOST_COLUMNS 16
 
@@ -92,9 +99,13 @@
 #define ACE_LONGEST_PERIOD UINT64_C(4294967296)
 #define ACE_LONGEST_PERIOD_Q UINT64_C(134217728)
 
-/* The words of ace_lower's work store, of every answer but ace_prepare's, and of that. */
+/* The words of ace_lower's work store. */
 #define ACE_LOWER_WORK 12288
+
+/* The words of an answer: a step's and lowering's, a list's, evaluating's, preparing's. */
 #define ACE_ANSWER_WORDS 4
+#define ACE_LIST_WORDS 11
+#define ACE_EVALUATE_WORDS 17
 #define ACE_PREPARE_WORDS 18
 
 /* Bytes of stack that are enough for every call, by measurement: the most is taken by
@@ -111,7 +122,7 @@
 #define ACE_REFUSED_WORD 4
 /* an operand does not come before its record */
 #define ACE_REFUSED_OPERAND 5
-/* the root is outside the list */
+/* a root is outside the list */
 #define ACE_REFUSED_ROOT 6
 /* a new record has no room */
 #define ACE_REFUSED_ROOM 7
@@ -125,6 +136,8 @@
 #define ACE_REFUSED_LENGTH 14
 /* the period is no power of two from 1 to 2^32 (field 2: 2^27), or is below the longest column */
 #define ACE_REFUSED_PERIOD 15
+/* there are no roots, or more than 8 */
+#define ACE_REFUSED_ROOTS 46
 /* the field's number is neither 1 nor 2 */
 #define ACE_REFUSED_FIELD 49
 
@@ -142,30 +155,35 @@ void ace_step(uint64_t field, uint64_t *list, size_t list_len, uint64_t n,
               uint64_t *answer /* 4 words */);
 
 /* A list of requests, built from nothing: result of at least 3n words, map of at least n, which
- * then holds each request's place. Refuses with 49, 1 to 6. Accepted: count, the root's place. */
-void ace_build(uint64_t field, const uint64_t *list, size_t list_len, uint64_t n, uint64_t root,
+ * then holds each request's place. Refuses with 49, 1 to 5, 46, 6.
+ * Accepted: count, 0, the roots' places. */
+void ace_build(uint64_t field, const uint64_t *list, size_t list_len, uint64_t n,
+               const uint64_t *roots, size_t roots_len,
                uint64_t *result, size_t result_len,
                uint64_t *map, size_t map_len,
-               uint64_t *answer /* 4 words */);
+               uint64_t *answer /* 11 words */);
 
-/* The records that the root reaches: result of at least 3n words.
- * Refuses with 49, 1 to 6. Accepted: count, root. */
-void ace_compact(uint64_t field, const uint64_t *list, size_t list_len, uint64_t n, uint64_t root,
+/* The records that the roots reach: result of at least 3n words.
+ * Refuses with 49, 1 to 5, 46, 6. Accepted: count, 0, the roots' places. */
+void ace_compact(uint64_t field, const uint64_t *list, size_t list_len, uint64_t n,
+                 const uint64_t *roots, size_t roots_len,
                  uint64_t *result, size_t result_len,
-                 uint64_t *answer /* 4 words */);
+                 uint64_t *answer /* 11 words */);
 
 /* The normalised list: result of at least 3n words, work of at least 6n.
- * Refuses with 49, 1 to 6. Accepted: count, root, rounds kept. */
-void ace_normalize(uint64_t field, const uint64_t *list, size_t list_len, uint64_t n, uint64_t root,
+ * Refuses with 49, 1 to 5, 46, 6. Accepted: count, rounds kept, the roots' places. */
+void ace_normalize(uint64_t field, const uint64_t *list, size_t list_len, uint64_t n,
+                   const uint64_t *roots, size_t roots_len,
                    uint64_t *result, size_t result_len,
                    uint64_t *work, size_t work_len,
-                   uint64_t *answer /* 4 words */);
+                   uint64_t *answer /* 11 words */);
 
-/* The root's value under m entries of key number, c0, c1; a key's last entry counts.
- * Refuses with 49, 1 to 6, 11, 12. Accepted: c0, c1. */
-void ace_evaluate(uint64_t field, const uint64_t *list, size_t list_len, uint64_t n, uint64_t root,
+/* Each root's value under m entries of key number, c0, c1; a key's last entry counts.
+ * Refuses with 49, 1 to 5, 46, 6, 11, 12. Accepted: c0, c1 of each root. */
+void ace_evaluate(uint64_t field, const uint64_t *list, size_t list_len, uint64_t n,
+                  const uint64_t *roots, size_t roots_len,
                   const uint64_t *assignment, size_t assignment_len, uint64_t m,
-                  uint64_t *answer /* 4 words */);
+                  uint64_t *answer /* 17 words */);
 
 /* The form of each column; lengths has a word a column, entries one an entry, column after column.
  * Refuses with 49, 13, 14, 2, 4.

@@ -5,7 +5,7 @@
 #   tools/valgrind.sh [--cases N] [NAME ...]
 #
 # NAME is a call, or normlist; without one, all of them. N random cases more are run for each call (default 0). It takes
-# about two minutes, after proving and building what is missing or old; it is no part of the gate. ACE_SRC names the
+# about five minutes, after proving and building what is missing or old; it is no part of the gate. ACE_SRC names the
 # folder of the Rust, as for ./differential. What can't be run counts as failed.
 set -euo pipefail
 

@@ -1,4 +1,5 @@
-/* Normalises a list of six records into a store that held something else, and lists what came back.
+/* Normalises a list of six records with two roots into a store that held something else, and lists
+ * what came back.
  *
  *   cc -Iinclude examples/c/normalise.c target/staticlib/libace.a -o target/normalise
  *   target/normalise
@@ -9,7 +10,7 @@
 
 #include "ace.h"
 
-enum { N = 6, ROOT = 5, ROOM = 3 * 10, WORK = 6 * N };
+enum { N = 6, ROOTS = 2, ROOM = 3 * 10, WORK = 6 * N };
 
 static const char *const KINDS[] = {"in", "const", "add", "sub", "mul", "neg"};
 
@@ -26,17 +27,20 @@ int main(void) {
         4, 0, 2, /* mul 0 2 */
         2, 3, 4, /* add 3 4 */
     };
-    uint64_t result[ROOM], work[WORK], answer[ACE_ANSWER_WORDS];
+    const uint64_t roots[ROOTS] = {5, 0};
+    uint64_t result[ROOM], work[WORK], answer[ACE_LIST_WORDS];
     for (int i = 0; i < ROOM; i++) result[i] = 99;
     for (int i = 0; i < WORK; i++) work[i] = 99;
 
-    ace_normalize(ACE_FIELD_P, list, 3 * N, N, ROOT, result, ROOM, work, WORK, answer);
+    ace_normalize(ACE_FIELD_P, list, 3 * N, N, roots, ROOTS, result, ROOM, work, WORK, answer);
     if (answer[0] != 0) {
         printf("refused %" PRIu64 " %" PRIu64 "\n", answer[0], answer[1]);
         return 1;
     }
     uint64_t count = answer[1];
-    printf("nodes %" PRIu64 " root %" PRIu64 " rounds %" PRIu64 "\n", count, answer[2], answer[3]);
+    printf("nodes %" PRIu64 " root", count);
+    for (int i = 0; i < ROOTS; i++) printf(" %" PRIu64, answer[3 + i]);
+    printf(" rounds %" PRIu64 "\n", answer[2]);
     for (uint64_t place = 0; place < count; place++) {
         const uint64_t *record = result + 3 * place;
         printf("%" PRIu64 " %s %" PRIu64 " %" PRIu64 "\n",
@@ -47,7 +51,7 @@ int main(void) {
     printf("%" PRIu64 " words behind, %" PRIu64 " blank\n", ROOM - 3 * count, blank);
 
     /* Without a work store nothing is written, and the answer says why: 2. */
-    ace_normalize(ACE_FIELD_P, list, 3 * N, N, ROOT, result, ROOM, work, 0, answer);
+    ace_normalize(ACE_FIELD_P, list, 3 * N, N, roots, ROOTS, result, ROOM, work, 0, answer);
     printf("refused %" PRIu64 " %" PRIu64 "\n", answer[0], answer[1]);
     return 0;
 }

@@ -3,7 +3,7 @@
 //! Every call takes a [`Field`], lends its stores as slices of words and answers its values or a
 //! [`Refusal`]. Nothing that is lent is tested here: what the calls say of all inputs, refused ones
 //! among them, is proved where they are written. A list has `n` records of three words: tag, first
-//! word, second word.
+//! word, second word, and one to eight roots, places of its own that are answered in their order.
 //!
 //! | tag | record   | words                                                          |
 //! |-----|----------|----------------------------------------------------------------|
@@ -43,19 +43,23 @@
 //! let mut result = [7; 30];
 //! let mut work = [7; 36];
 //! let field = ace::Field::Goldilocks;
-//! let normal = ace::normalize(field, &list, 6, 5, &mut result, &mut work).unwrap();
-//! assert_eq!((normal.count, normal.root, normal.rounds), (5, 4, 1));
+//! let normal = ace::normalize(field, &list, 6, &[5], &mut result, &mut work).unwrap();
+//! assert_eq!((normal.count, normal.rounds), (5, 1));
+//! assert_eq!(*normal.roots, [4]);
 //! assert_eq!(result[..15], [0, 0, 0, 0, 1, 0, 0, 2, 0, 2, 1, 2, 4, 0, 3]);
 //! assert_eq!(result[15..], [ace::BLANK; 15]);
 //! assert_eq!(work, [ace::BLANK; 36]);
 //!
-//! let refused = ace::normalize(field, &list, 6, 6, &mut result, &mut work).unwrap_err();
-//! assert_eq!(refused.to_string(), "refused 6 0: the root is outside the list");
+//! let refused = ace::normalize(field, &list, 6, &[5, 6], &mut result, &mut work).unwrap_err();
+//! assert_eq!(refused.to_string(), "refused 6 0: a root is outside the list");
 //! ```
 
 use std::fmt;
+use std::ops::Deref;
 
 pub mod words;
+
+use words::MOST_ROOTS;
 
 /// The word behind what a call has filled.
 pub const BLANK: u64 = 0;
@@ -188,25 +192,47 @@ pub fn step(
     Ok(Stepped { place, n })
 }
 
-/// How many records a list has now, and where its root is.
+/// What each root came to, in the roots' order: a slice of one to eight.
+#[derive(Clone, Copy, PartialEq, Eq)]
+pub struct PerRoot<T> {
+    each: [T; MOST_ROOTS],
+    count: usize,
+}
+
+impl<T> Deref for PerRoot<T> {
+    type Target = [T];
+
+    fn deref(&self) -> &[T] {
+        &self.each[..self.count]
+    }
+}
+
+impl<T: fmt::Debug> fmt::Debug for PerRoot<T> {
+    fn fmt(&self, f: &mut fmt::Formatter) -> fmt::Result {
+        (**self).fmt(f)
+    }
+}
+
+/// How many records a list has now, and where its roots are.
 #[derive(Clone, Copy, Debug, PartialEq, Eq)]
 pub struct Rooted {
     /// The number of records.
     pub count: u64,
-    /// The root's place.
-    pub root: u64,
+    /// The roots' places.
+    pub roots: PerRoot<u64>,
 }
 
 /// A list built from requests; `map` holds each request's place.
 ///
 /// Lends `result` of at least 3n words and `map` of at least n. Here the second sum is the first
-/// one again:
+/// one again, and so is the second root:
 ///
 /// ```
 /// let requests = [0, 0, 0, 0, 1, 0, 2, 0, 1, 2, 1, 0];
-/// let (mut result, mut map) = ([9; 12], [9; 4]);
-/// let built = ace::build(ace::Field::Goldilocks, &requests, 4, 3, &mut result, &mut map).unwrap();
-/// assert_eq!((built.count, built.root), (3, 2));
+/// let (field, mut result, mut map) = (ace::Field::Goldilocks, [9; 12], [9; 4]);
+/// let built = ace::build(field, &requests, 4, &[2, 3], &mut result, &mut map).unwrap();
+/// assert_eq!(built.count, 3);
+/// assert_eq!(*built.roots, [2, 2]);
 /// assert_eq!(result, [0, 0, 0, 0, 1, 0, 2, 0, 1, 0, 0, 0]);
 /// assert_eq!(map, [0, 1, 2, 2]);
 /// ```
@@ -214,35 +240,37 @@ pub fn build(
     field: Field,
     list: &[u64],
     n: u64,
-    root: u64,
+    roots: &[u64],
     result: &mut [u64],
     map: &mut [u64],
 ) -> Result<Rooted, Refusal> {
-    let [_, count, root, _] =
-        told(|answer| words::build(field.number(), list, n, root, result, map, answer))?;
-    Ok(Rooted { count, root })
+    let answer = told(|answer| words::build(field.number(), list, n, roots, result, map, answer))?;
+    let Normalized { count, roots, .. } = listed(answer, roots);
+    Ok(Rooted { count, roots })
 }
 
-/// The records that the root reaches.
+/// The records that the roots reach.
 ///
 /// Lends `result` of at least 3n words.
 ///
 /// ```
-/// let (field, mut result) = (ace::Field::Goldilocks, [9; 6]);
-/// let compacted = ace::compact(field, &[0, 0, 0, 0, 1, 0], 2, 1, &mut result).unwrap();
-/// assert_eq!((compacted.count, compacted.root), (1, 0));
-/// assert_eq!(result, [0, 1, 0, 0, 0, 0]);
+/// let (field, mut result) = (ace::Field::Goldilocks, [9; 9]);
+/// let list = [0, 0, 0, 0, 1, 0, 0, 2, 0];
+/// let compacted = ace::compact(field, &list, 3, &[2, 0], &mut result).unwrap();
+/// assert_eq!(compacted.count, 2);
+/// assert_eq!(*compacted.roots, [1, 0]);
+/// assert_eq!(result, [0, 0, 0, 0, 2, 0, 0, 0, 0]);
 /// ```
 pub fn compact(
     field: Field,
     list: &[u64],
     n: u64,
-    root: u64,
+    roots: &[u64],
     result: &mut [u64],
 ) -> Result<Rooted, Refusal> {
-    let [_, count, root, _] =
-        told(|answer| words::compact(field.number(), list, n, root, result, answer))?;
-    Ok(Rooted { count, root })
+    let answer = told(|answer| words::compact(field.number(), list, n, roots, result, answer))?;
+    let Normalized { count, roots, .. } = listed(answer, roots);
+    Ok(Rooted { count, roots })
 }
 
 /// What normalising came to.
@@ -250,10 +278,16 @@ pub fn compact(
 pub struct Normalized {
     /// The number of records.
     pub count: u64,
-    /// The root's place.
-    pub root: u64,
     /// The rounds kept.
     pub rounds: u64,
+    /// The roots' places.
+    pub roots: PerRoot<u64>,
+}
+
+/// What the words of an accepted list say, a place for each root given.
+fn listed(answer: [u64; words::LIST], roots: &[u64]) -> Normalized {
+    let [_, count, rounds, each @ ..] = answer;
+    Normalized { count, rounds, roots: PerRoot { each, count: roots.len() } }
 }
 
 /// The normalised list.
@@ -264,23 +298,24 @@ pub struct Normalized {
 /// let list = [0, 0, 0, 0, 1, 0, 0, 2, 0, 4, 0, 1, 4, 0, 2, 2, 3, 4];
 /// let (mut once, mut twice, mut work) = ([9; 18], [9; 18], [9; 36]);
 /// let field = ace::Field::BabyBear;
-/// let normal = ace::normalize(field, &list, 6, 5, &mut once, &mut work).unwrap();
-/// assert_eq!((normal.count, normal.root, normal.rounds), (5, 4, 1));
-/// let again = ace::normalize(field, &once, 5, 4, &mut twice, &mut work).unwrap();
-/// assert_eq!((again.count, again.root, again.rounds), (5, 4, 0));
+/// let normal = ace::normalize(field, &list, 6, &[5, 0], &mut once, &mut work).unwrap();
+/// assert_eq!((normal.count, normal.rounds), (5, 1));
+/// assert_eq!(*normal.roots, [4, 0]);
+/// let again = ace::normalize(field, &once, 5, &normal.roots, &mut twice, &mut work).unwrap();
+/// assert_eq!((again.count, again.rounds, again.roots), (5, 0, normal.roots));
 /// assert_eq!(twice, once);
 /// ```
 pub fn normalize(
     field: Field,
     list: &[u64],
     n: u64,
-    root: u64,
+    roots: &[u64],
     result: &mut [u64],
     work: &mut [u64],
 ) -> Result<Normalized, Refusal> {
-    let [_, count, root, rounds] =
-        told(|answer| words::normalize(field.number(), list, n, root, result, work, answer))?;
-    Ok(Normalized { count, root, rounds })
+    let answer =
+        told(|answer| words::normalize(field.number(), list, n, roots, result, work, answer))?;
+    Ok(listed(answer, roots))
 }
 
 /// A field element c0 + c1·u; c1 is 0 in `BabyBear`.
@@ -290,29 +325,32 @@ pub struct Value {
     pub c1: u64,
 }
 
-/// The root's value under `m` entries of key number, c0, c1; a key's last entry counts.
+/// Each root's value under `m` entries of key number, c0, c1; a key's last entry counts.
 ///
 /// Lends `assignment` of at least 3m words. u · u is 7, and −1 · −1 is 1:
 ///
 /// ```
+/// use ace::{Field, Value};
+///
 /// let square = [0, 0, 0, 4, 0, 0];
-/// let value = ace::evaluate(ace::Field::Goldilocks, &square, 2, 1, &[0, 0, 1], 1).unwrap();
-/// assert_eq!((value.c0, value.c1), (7, 0));
-/// let field = ace::Field::BabyBear;
-/// let value = ace::evaluate(field, &square, 2, 1, &[0, field.modulus() - 1, 0], 1).unwrap();
-/// assert_eq!((value.c0, value.c1), (1, 0));
+/// let values = ace::evaluate(Field::Goldilocks, &square, 2, &[1, 0], &[0, 0, 1], 1).unwrap();
+/// assert_eq!(*values, [Value { c0: 7, c1: 0 }, Value { c0: 0, c1: 1 }]);
+/// let minus_one = Field::BabyBear.modulus() - 1;
+/// let values = ace::evaluate(Field::BabyBear, &square, 2, &[1], &[0, minus_one, 0], 1).unwrap();
+/// assert_eq!(*values, [Value { c0: 1, c1: 0 }]);
 /// ```
 pub fn evaluate(
     field: Field,
     list: &[u64],
     n: u64,
-    root: u64,
+    roots: &[u64],
     assignment: &[u64],
     m: u64,
-) -> Result<Value, Refusal> {
-    let [_, c0, c1, _] =
-        told(|answer| words::evaluate(field.number(), list, n, root, assignment, m, answer))?;
-    Ok(Value { c0, c1 })
+) -> Result<PerRoot<Value>, Refusal> {
+    let answer =
+        told(|answer| words::evaluate(field.number(), list, n, roots, assignment, m, answer))?;
+    let value = |root: usize| Value { c0: answer[1 + 2 * root], c1: answer[2 + 2 * root] };
+    Ok(PerRoot { each: std::array::from_fn(value), count: roots.len() })
 }
 
 /// How a column is evaluated.

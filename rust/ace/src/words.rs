@@ -7,7 +7,22 @@
 use std::sync::LazyLock;
 
 /// The interface that this crate is for: ACE_INTERFACE of include/ace.h.
-pub const INTERFACE: u64 = 2;
+pub const INTERFACE: u64 = 3;
+
+/// The most roots of a list.
+pub const MOST_ROOTS: usize = 8;
+
+/// The answer words of a step and of lowering.
+pub const ANSWER: usize = 4;
+
+/// The answer words of a call that answers a list: with the count, the rounds kept and the roots.
+pub const LIST: usize = 3 + MOST_ROOTS;
+
+/// The answer words of `evaluate`: two a root.
+pub const EVALUATE: usize = 1 + 2 * MOST_ROOTS;
+
+/// The answer words of `prepare`.
+pub const PREPARE: usize = 18;
 
 unsafe extern "C" {
     safe fn ace_interface() -> u64;
@@ -28,7 +43,8 @@ unsafe extern "C" {
         list: *const u64,
         list_len: usize,
         n: u64,
-        root: u64,
+        roots: *const u64,
+        roots_len: usize,
         result: *mut u64,
         result_len: usize,
         map: *mut u64,
@@ -41,7 +57,8 @@ unsafe extern "C" {
         list: *const u64,
         list_len: usize,
         n: u64,
-        root: u64,
+        roots: *const u64,
+        roots_len: usize,
         result: *mut u64,
         result_len: usize,
         answer: *mut u64,
@@ -52,7 +69,8 @@ unsafe extern "C" {
         list: *const u64,
         list_len: usize,
         n: u64,
-        root: u64,
+        roots: *const u64,
+        roots_len: usize,
         result: *mut u64,
         result_len: usize,
         work: *mut u64,
@@ -65,7 +83,8 @@ unsafe extern "C" {
         list: *const u64,
         list_len: usize,
         n: u64,
-        root: u64,
+        roots: *const u64,
+        roots_len: usize,
         assignment: *const u64,
         assignment_len: usize,
         m: u64,
@@ -120,7 +139,7 @@ pub fn step(
     tag: u64,
     first: u64,
     second: u64,
-    answer: &mut [u64; 4],
+    answer: &mut [u64; ANSWER],
 ) {
     same_interface();
     // SAFETY: each slice is lent with its length, and those written overlap no other.
@@ -129,15 +148,15 @@ pub fn step(
     }
 }
 
-/// A list built from requests: count, the root's place.
+/// A list built from requests: count, 0, the roots' places.
 pub fn build(
     field: u64,
     list: &[u64],
     n: u64,
-    root: u64,
+    roots: &[u64],
     result: &mut [u64],
     map: &mut [u64],
-    answer: &mut [u64; 4],
+    answer: &mut [u64; LIST],
 ) {
     same_interface();
     // SAFETY: each slice is lent with its length, and those written overlap no other.
@@ -147,7 +166,8 @@ pub fn build(
             list.as_ptr(),
             list.len(),
             n,
-            root,
+            roots.as_ptr(),
+            roots.len(),
             result.as_mut_ptr(),
             result.len(),
             map.as_mut_ptr(),
@@ -157,14 +177,14 @@ pub fn build(
     }
 }
 
-/// The records that the root reaches: count, root.
+/// The records that the roots reach: count, 0, the roots' places.
 pub fn compact(
     field: u64,
     list: &[u64],
     n: u64,
-    root: u64,
+    roots: &[u64],
     result: &mut [u64],
-    answer: &mut [u64; 4],
+    answer: &mut [u64; LIST],
 ) {
     same_interface();
     // SAFETY: each slice is lent with its length, and those written overlap no other.
@@ -174,7 +194,8 @@ pub fn compact(
             list.as_ptr(),
             list.len(),
             n,
-            root,
+            roots.as_ptr(),
+            roots.len(),
             result.as_mut_ptr(),
             result.len(),
             answer.as_mut_ptr(),
@@ -182,15 +203,15 @@ pub fn compact(
     }
 }
 
-/// The normalised list: count, root, rounds kept.
+/// The normalised list: count, rounds kept, the roots' places.
 pub fn normalize(
     field: u64,
     list: &[u64],
     n: u64,
-    root: u64,
+    roots: &[u64],
     result: &mut [u64],
     work: &mut [u64],
-    answer: &mut [u64; 4],
+    answer: &mut [u64; LIST],
 ) {
     same_interface();
     // SAFETY: each slice is lent with its length, and those written overlap no other.
@@ -200,7 +221,8 @@ pub fn normalize(
             list.as_ptr(),
             list.len(),
             n,
-            root,
+            roots.as_ptr(),
+            roots.len(),
             result.as_mut_ptr(),
             result.len(),
             work.as_mut_ptr(),
@@ -210,15 +232,15 @@ pub fn normalize(
     }
 }
 
-/// The root's value under m entries of key number, c0, c1: c0, c1.
+/// The roots' values under m entries of key number, c0, c1: c0, c1 of each.
 pub fn evaluate(
     field: u64,
     list: &[u64],
     n: u64,
-    root: u64,
+    roots: &[u64],
     assignment: &[u64],
     m: u64,
-    answer: &mut [u64; 4],
+    answer: &mut [u64; EVALUATE],
 ) {
     same_interface();
     // SAFETY: each slice is lent with its length, and those written overlap no other.
@@ -228,7 +250,8 @@ pub fn evaluate(
             list.as_ptr(),
             list.len(),
             n,
-            root,
+            roots.as_ptr(),
+            roots.len(),
             assignment.as_ptr(),
             assignment.len(),
             m,
@@ -238,7 +261,7 @@ pub fn evaluate(
 }
 
 /// The form of each column: columns, then a form each.
-pub fn prepare(field: u64, lengths: &[u64], entries: &[u64], answer: &mut [u64; 18]) {
+pub fn prepare(field: u64, lengths: &[u64], entries: &[u64], answer: &mut [u64; PREPARE]) {
     same_interface();
     // SAFETY: each slice is lent with its length, and those written overlap no other.
     unsafe {
@@ -265,7 +288,7 @@ pub fn lower(
     result: &mut [u64],
     work: &mut [u64],
     places: &mut [u64],
-    answer: &mut [u64; 4],
+    answer: &mut [u64; ANSWER],
 ) {
     same_interface();
     // SAFETY: each slice is lent with its length, and those written overlap no other.

@@ -2,6 +2,7 @@
 //! answer and the same words in both, and every word behind it is the blank.
 
 use ace::{BLANK, Field, words};
+use words::{ANSWER, LIST, MOST_ROOTS};
 
 /// The most records of a list.
 const MOST: usize = 4_096;
@@ -22,15 +23,15 @@ use Call::{Build, Compact, Lower, Normalize};
 
 const CALLS: [Call; 4] = [Build, Compact, Normalize, Lower];
 
-/// The calls on a list with a root.
+/// The calls on a list with roots.
 const ROOTED: [Call; 3] = [Build, Compact, Normalize];
 
-/// A list of records, its root, and the lengths and entries of the columns lowered on it.
+/// A list of records, its roots, and the lengths and entries of the columns lowered on it.
 #[derive(Clone, Debug)]
 struct List {
     field: Field,
     records: Vec<[u64; 3]>,
-    root: u64,
+    roots: Vec<u64>,
     lengths: Vec<u64>,
     entries: Vec<u64>,
 }
@@ -38,8 +39,8 @@ struct List {
 impl List {
     /// These records, the last one the root, and a column of four.
     fn new(field: Field, records: Vec<[u64; 3]>) -> Self {
-        let root = records.len() as u64 - 1;
-        Self { field, records, root, lengths: vec![4], entries: vec![1, 2, 3, 4] }
+        let roots = vec![records.len() as u64 - 1];
+        Self { field, records, roots, lengths: vec![4], entries: vec![1, 2, 3, 4] }
     }
 
     /// Inputs, then sums of two earlier records: n records that no call shortens.
@@ -66,22 +67,36 @@ impl List {
     }
 }
 
-/// Short lists of every kind of record; the third is document 01's listing.
+/// Short lists of every kind of record; the third is document 01's listing, and each is there a
+/// second time with eight roots, its own among them.
 fn short_lists(field: Field) -> Vec<List> {
     let c1 = if field == Field::Goldilocks { 7 } else { 0 };
     let inputs = [[0, 0, 0], [0, 1, 0], [0, 2, 0]];
     let listing = [&inputs[..], &[[4, 0, 1], [4, 0, 2], [2, 3, 4]]].concat();
     let rotation = [&inputs[..], &[[2, 0, 2], [2, 0, 1], [2, 2, 4], [4, 3, 5]]].concat();
     let kinds = vec![[0, 1, 0], [1, 2, c1], [2, 0, 1], [3, 2, 0], [4, 3, 3], [5, 4, 0]];
-    let unused = List { root: 0, ..List::new(field, inputs[..2].to_vec()) };
+    let unused = List { roots: vec![0], ..List::new(field, inputs[..2].to_vec()) };
     let whole = [vec![[0, 0, 0]], vec![[1, 5, c1]], listing, rotation, kinds];
-    whole.into_iter().map(|records| List::new(field, records)).chain([unused]).collect()
+    let whole = whole.into_iter().map(|records| List::new(field, records)).chain([unused]);
+    let one: Vec<List> = whole.collect();
+    let eight = one.iter().map(|list| {
+        let roots = (0..MOST_ROOTS as u64).map(|root| (list.roots[0] + root) % list.n()).collect();
+        List { roots, ..list.clone() }
+    });
+    one.iter().cloned().chain(eight).collect()
 }
 
 /// The answer words that a call writes.
-fn answered(call: impl FnOnce(&mut [u64; 4])) -> [u64; 4] {
-    let mut answer = [u64::MAX; 4];
+fn answered<const N: usize>(call: impl FnOnce(&mut [u64; N])) -> [u64; N] {
+    let mut answer = [u64::MAX; N];
     call(&mut answer);
+    answer
+}
+
+/// A refusal of a call on a list.
+fn refusal(number: u64, place: u64) -> [u64; LIST] {
+    let mut answer = [0; LIST];
+    answer[..2].copy_from_slice(&[number, place]);
     answer
 }
 
@@ -120,27 +135,41 @@ impl Stores {
         stores
     }
 
-    /// The call's answer words on a list, of which these words are lent as n records.
-    fn call(&mut self, call: Call, list: &List, words: &[u64], n: u64) -> [u64; 4] {
+    /// The call's answer words on a list, of which these words are lent as n records; those of
+    /// Lower with zeros behind.
+    fn call(&mut self, call: Call, list: &List, words: &[u64], n: u64) -> [u64; LIST] {
         self.in_field(list.field.number(), call, list, words, n)
     }
 
     /// The call's answer words in the field of this number.
-    fn in_field(&mut self, field: u64, call: Call, list: &List, words: &[u64], n: u64) -> [u64; 4] {
+    fn in_field(
+        &mut self,
+        field: u64,
+        call: Call,
+        list: &List,
+        words: &[u64],
+        n: u64,
+    ) -> [u64; LIST] {
         let Self { result, map, work, places } = self;
-        let (root, lengths, entries) = (list.root, &list.lengths, &list.entries);
+        let (roots, lengths, entries) = (&list.roots, &list.lengths, &list.entries);
         answered(|answer| match call {
-            Build => words::build(field, words, n, root, result, map, answer),
-            Compact => words::compact(field, words, n, root, result, answer),
-            Normalize => words::normalize(field, words, n, root, result, work, answer),
-            Lower => words::lower(
-                field, words, n, lengths, entries, PERIOD, result, work, places, answer,
-            ),
+            Build => words::build(field, words, n, roots, result, map, answer),
+            Compact => words::compact(field, words, n, roots, result, answer),
+            Normalize => words::normalize(field, words, n, roots, result, work, answer),
+            Lower => {
+                let lowered: [u64; ANSWER] = answered(|answer| {
+                    words::lower(
+                        field, words, n, lengths, entries, PERIOD, result, work, places, answer,
+                    );
+                });
+                answer.fill(0);
+                answer[..ANSWER].copy_from_slice(&lowered);
+            }
         })
     }
 
     /// The answer words of a list that is accepted.
-    fn load(&mut self, call: Call, list: &List) -> [u64; 4] {
+    fn load(&mut self, call: Call, list: &List) -> [u64; LIST] {
         let answer = self.call(call, list, list.words(), list.n());
         assert_eq!(answer[0], 0, "{call:?} accepts {list:?}");
         answer
@@ -197,9 +226,33 @@ fn the_listing_is_in_both_boxes() {
     for field in Field::ALL {
         let listing = &short_lists(field)[2];
         for mut stores in [Stores::fresh(), Stores::used()] {
-            assert_eq!(stores.load(Normalize, listing), [0, 5, 4, 1]);
+            assert_eq!(stores.load(Normalize, listing), [0, 5, 1, 4, 0, 0, 0, 0, 0, 0, 0]);
             assert_eq!(stores.result[..15], expected);
             assert!(stores.result[15..].iter().all(|&word| word == BLANK));
+        }
+    }
+}
+
+#[test]
+fn two_sets_that_share_a_list_are_in_both_boxes() {
+    let inputs = [[0, 0, 0], [0, 1, 0], [0, 2, 0]];
+    let sums = [[4, 0, 1], [4, 0, 2], [2, 3, 4], [2, 1, 2], [4, 0, 6]];
+    for field in Field::ALL {
+        let shared = List::new(field, [&inputs[..], &sums].concat());
+        for mut stores in [Stores::fresh(), Stores::used()] {
+            for (roots, answer) in [
+                (vec![5, 1], [0, 5, 1, 4, 1, 0, 0, 0, 0, 0, 0]),
+                (vec![7, 5, 7], [0, 5, 1, 4, 4, 4, 0, 0, 0, 0, 0]),
+                (vec![5, 3], [0, 8, 0, 5, 3, 0, 0, 0, 0, 0, 0]),
+            ] {
+                let list = List { roots, ..shared.clone() };
+                assert_eq!(stores.load(Normalize, &list), answer);
+                assert!(stores.blank_behind(Normalize, &list, answer[1]));
+            }
+            let list = List { roots: vec![6, 4, 6], ..shared.clone() };
+            let kept = [0, 5, 0, 4, 3, 4, 0, 0, 0, 0, 0];
+            assert_eq!(stores.load(Compact, &list), kept);
+            assert_eq!(stores.result[9..15], [4, 0, 2, 2, 1, 2]);
         }
     }
 }
@@ -210,7 +263,7 @@ fn a_column_of_one_entry_is_in_both_boxes() {
         let inputs = List::new(field, vec![[0, 9, 0]]);
         let list = List { lengths: vec![1], entries: vec![5], ..inputs };
         for mut stores in [Stores::fresh(), Stores::used()] {
-            assert_eq!(stores.load(Lower, &list), [0, 7, 0, 0]);
+            assert_eq!(stores.load(Lower, &list)[..ANSWER], [0, 7, 0, 0]);
             let nodes = [0, 9, 0, 0, 11 << 48, 0, 4, 1, 1, 4, 2, 2, 4, 3, 3, 1, 5, 0, 1, 0, 0];
             assert_eq!(stores.result[..21], nodes);
             assert_eq!(stores.places[..2], [5, BLANK]);
@@ -247,15 +300,20 @@ fn a_refusal_leaves_the_long_list() {
     let mut held = full_box();
     let before = held.clone();
     let late = [0, 0, 0, 2, 0, 1];
-    for (calls, words, n, root, refusal) in [
-        (&CALLS[..], &late[..], 2, 1, [5, 1, 0, 0]),
-        (&CALLS, &late, 3, 0, [2, 0, 0, 0]),
-        (&CALLS, &late, 4_097, 0, [1, 0, 0, 0]),
-        (&ROOTED, &late[..3], 1, 1, [6, 0, 0, 0]),
-        (&ROOTED, &[], 0, 0, [1, 0, 0, 0]),
+    for (calls, words, n, roots, refusal) in [
+        (&CALLS[..], &late[..], 2, &[1][..], refusal(5, 1)),
+        (&CALLS, &late, 3, &[0], refusal(2, 0)),
+        (&CALLS, &late, 4_097, &[0], refusal(1, 0)),
+        (&ROOTED, &late[..3], 1, &[1], refusal(6, 0)),
+        (&ROOTED, &late[..3], 1, &[0, 0, u64::MAX], refusal(6, 0)),
+        (&ROOTED, &late[..3], 1, &[], refusal(46, 0)),
+        (&ROOTED, &late[..3], 1, &[0; 9], refusal(46, 0)),
+        (&ROOTED, &late[..3], 1, &[1; 9], refusal(46, 0)),
+        (&ROOTED, &late, 2, &[], refusal(5, 1)),
+        (&ROOTED, &[], 0, &[0], refusal(1, 0)),
     ] {
         for (&call, field) in calls.iter().flat_map(|call| Field::ALL.map(|field| (call, field))) {
-            let list = List { root, ..List::new(field, vec![[0, 0, 0]]) };
+            let list = List { roots: roots.to_vec(), ..List::new(field, vec![[0, 0, 0]]) };
             assert_eq!(held.call(call, &list, words, n), refusal, "{call:?}");
             for written in CALLS {
                 assert_eq!(held.written(written), before.written(written), "{call:?}");
@@ -272,7 +330,7 @@ fn a_number_that_no_field_has_leaves_the_long_list() {
     for field in [0, 3, 1 << 32 | 1, 1 << 32 | 2, u64::MAX] {
         for (call, n) in CALLS.into_iter().flat_map(|call| [1, 0, 2, u64::MAX].map(|n| (call, n))) {
             let answer = held.in_field(field, call, &list, list.words(), n);
-            assert_eq!(answer, [49, 0, 0, 0], "{call:?} of {n} records in field {field}");
+            assert_eq!(answer, refusal(49, 0), "{call:?} of {n} records in field {field}");
             for written in CALLS {
                 assert_eq!(held.written(written), before.written(written), "{call:?}");
             }
@@ -286,11 +344,11 @@ fn refused_columns_leave_the_long_list() {
     let before = held.clone();
     for field in Field::ALL {
         for (lengths, entries, refusal) in [
-            (vec![1; 17], vec![0; 17], [13, 0, 0, 0]),
-            (vec![1, 3], vec![0; 4], [14, 1, 0, 0]),
-            (vec![4], vec![0; 3], [2, 0, 0, 0]),
-            (vec![1, 1], vec![0, field.modulus()], [4, 1, 0, 0]),
-            (vec![16], vec![0; 16], [15, 0, 0, 0]),
+            (vec![1; 17], vec![0; 17], refusal(13, 0)),
+            (vec![1, 3], vec![0; 4], refusal(14, 1)),
+            (vec![4], vec![0; 3], refusal(2, 0)),
+            (vec![1, 1], vec![0, field.modulus()], refusal(4, 1)),
+            (vec![16], vec![0; 16], refusal(15, 0)),
         ] {
             let list = List { lengths, entries, ..List::new(field, vec![[0, 0, 0]]) };
             assert_eq!(held.call(Lower, &list, list.words(), 1), refusal);
@@ -306,7 +364,7 @@ fn a_lowering_without_room_blanks_its_work_alone() {
         let list = List { lengths: vec![1; 16], entries: (1..=16).collect(), ..long };
         for held in [Stores::used(), full_box()] {
             let mut after = Stores { work: Stores::used().work, ..held.clone() };
-            assert_eq!(after.call(Lower, &list, list.words(), list.n()), [7, 0, 0, 0]);
+            assert_eq!(after.call(Lower, &list, list.words(), list.n()), refusal(7, 0));
             assert_eq!((&after.result, &after.places), (&held.result, &held.places));
             assert!(after.work.iter().all(|&word| word == BLANK));
         }
@@ -326,8 +384,8 @@ fn what_stands_behind_a_list_is_not_read() {
             assert_eq!(one.written(call), other.written(call));
         }
         let assignment = [0, 3, 0, 1, 5, 0, 2, 1, 0];
-        let (n, root) = (short.n(), short.root);
-        let value = |words: &[u64]| ace::evaluate(field, words, n, root, &assignment, 3);
+        let (n, roots) = (short.n(), &short.roots);
+        let value = |words: &[u64]| ace::evaluate(field, words, n, roots, &assignment, 3);
         assert!(value(&behind).is_ok());
         assert_eq!(value(&behind), value(short.words()));
     }

@@ -47,15 +47,77 @@ fn list<E: Sides>(kind: Kind, n: usize) -> Vec<Record> {
     }
 }
 
+/// The last place of a list.
+fn last(list: &[Record]) -> u64 {
+    list.len() as u64 - 1
+}
+
+/// The place that seven eighths of a list are before.
+fn seven_eighths(list: &[Record]) -> u64 {
+    list.len() as u64 * 7 / 8
+}
+
+/// This root and seven places that it reaches, none far from the next: the eight reach no more.
+fn eight(list: &[Record], root: u64) -> [u64; 8] {
+    let marks = model::reached(list, &[root]);
+    let reached: Vec<u64> = (0..=root).filter(|&place| marks[place as usize]).collect();
+    [8, 7, 6, 5, 4, 3, 2, 1].map(|part| reached[(reached.len() - 1) * part / 8])
+}
+
+/// Ours on a list with these roots, normalising it.
+fn normalizing<E: Sides>(list: &[Record], roots: &[u64]) -> Side<'static, ()> {
+    let (words, n, roots) = (model::words(list), list.len(), roots.to_vec());
+    let (mut result, mut work) = (vec![0; 3 * n], vec![0; 6 * n]);
+    Side::calling(move || {
+        let normal = ace::normalize(E::OURS, &words, n as u64, &roots, &mut result, &mut work);
+        black_box(normal.expect(ACCEPTED));
+    })
+}
+
+/// Ours on a list with these roots, building it.
+fn building<E: Sides>(list: &[Record], roots: &[u64]) -> Side<'static, ()> {
+    let (words, n, roots) = (model::words(list), list.len(), roots.to_vec());
+    let (mut result, mut map) = (vec![0; 3 * n], vec![0; n]);
+    Side::calling(move || {
+        let built = ace::build(E::OURS, &words, n as u64, &roots, &mut result, &mut map);
+        black_box(built.expect(ACCEPTED));
+    })
+}
+
+/// Ours on a list with these roots, compacting it.
+fn compacting<E: Sides>(list: &[Record], roots: &[u64]) -> Side<'static, ()> {
+    let (words, n, roots) = (model::words(list), list.len(), roots.to_vec());
+    let mut result = vec![0; 3 * n];
+    Side::calling(move || {
+        let compacted = ace::compact(E::OURS, &words, n as u64, &roots, &mut result);
+        black_box(compacted.expect(ACCEPTED));
+    })
+}
+
+/// An entry for each input of a list.
+fn assignment<E: Sides>(list: &[Record]) -> Vec<Record> {
+    let entry = |record: &Record| {
+        let key = record[1];
+        let [c0, c1] = E::CASES.reduced([3 * key + 1, key * key]);
+        [key, c0, c1]
+    };
+    list.iter().filter(|record| record[0] == 0).map(entry).collect()
+}
+
+/// Ours on a list with these roots, evaluating them.
+fn evaluating<E: Sides>(list: &[Record], roots: &[u64]) -> Side<'static, ()> {
+    let (words, n, roots) = (model::words(list), list.len() as u64, roots.to_vec());
+    let entries = assignment::<E>(list);
+    let (assignment, m) = (model::words(&entries), entries.len() as u64);
+    Side::calling(move || {
+        let values = ace::evaluate(E::OURS, &words, n, &roots, &assignment, m);
+        black_box(values.expect(ACCEPTED));
+    })
+}
+
 pub fn normalize<E: Sides>(bench: &Bench, kind: Kind, n: usize) -> Row {
     let list = list::<E>(kind, n);
-    let (words, count) = (model::words(&list), list.len());
-    let root = count as u64 - 1;
-    let (mut result, mut work) = (vec![0; 3 * count], vec![0; 6 * count]);
-    let ours = Side::calling(|| {
-        let normal = ace::normalize(E::OURS, &words, count as u64, root, &mut result, &mut work);
-        black_box(normal.expect(ACCEPTED));
-    });
+    let root = last(&list);
     let nodes = Nodes::<E>::new(&list);
     let rust = Side::new(
         || Some(nodes.dag(root)),
@@ -64,60 +126,65 @@ pub fn normalize<E: Sides>(bench: &Bench, kind: Kind, n: usize) -> Row {
             *dag = black_box(normal);
         },
     );
-    bench.alternate(ours, rust)
+    bench.alternate(normalizing::<E>(&list, &[root]), rust)
 }
 
 pub fn build<E: Sides>(bench: &Bench, kind: Kind, n: usize) -> Row {
     let list = list::<E>(kind, n);
-    let (words, count) = (model::words(&list), list.len());
-    let root = count as u64 - 1;
-    let (mut result, mut map) = (vec![0; 3 * count], vec![0; count]);
-    let ours = Side::calling(|| {
-        let built = ace::build(E::OURS, &words, count as u64, root, &mut result, &mut map);
-        black_box(built.expect(ACCEPTED));
-    });
     let nodes = Nodes::<E>::new(&list);
     let rust = Side::calling(|| {
         black_box(nodes.build());
     });
-    bench.alternate(ours, rust)
+    bench.alternate(building::<E>(&list, &[last(&list)]), rust)
 }
 
 /// The root reaches seven eighths of the list.
 pub fn compact<E: Sides>(bench: &Bench, n: usize) -> Row {
     let list = list::<E>(Kind::Unchanged, n);
-    let (words, count) = (model::words(&list), list.len());
-    let root = count as u64 * 7 / 8;
-    let mut result = vec![0; 3 * count];
-    let ours = Side::calling(|| {
-        let compacted = ace::compact(E::OURS, &words, count as u64, root, &mut result);
-        black_box(compacted.expect(ACCEPTED));
-    });
+    let root = seven_eighths(&list);
     let nodes = Nodes::<E>::new(&list);
     let rust = Side::new(|| nodes.dag(root), |dag| black_box(dag).compact());
-    bench.alternate(ours, rust)
+    bench.alternate(compacting::<E>(&list, &[root]), rust)
 }
 
 pub fn evaluate<E: Sides>(bench: &Bench, n: usize) -> Row {
     let list = list::<E>(Kind::Expression, n);
-    let root = list.len() as u64 - 1;
-    let keys = list.iter().filter(|record| record[0] == 0).map(|record| record[1]);
-    let entry = |key: u64| {
-        let [c0, c1] = E::CASES.reduced([3 * key + 1, key * key]);
-        [key, c0, c1]
-    };
-    let entries: Vec<Record> = keys.map(entry).collect();
-    let (words, count) = (model::words(&list), list.len() as u64);
-    let (assignment, m) = (model::words(&entries), entries.len() as u64);
-    let ours = Side::calling(|| {
-        let value = ace::evaluate(E::OURS, &words, count, root, &assignment, m);
-        black_box(value.expect(ACCEPTED));
-    });
-    let (dag, layout) = (Dag::<E>::new(&list, root), Layout::new(&entries));
+    let root = last(&list);
+    let (dag, layout) = (Dag::<E>::new(&list, root), Layout::new(&assignment::<E>(&list)));
     let rust = Side::calling(|| {
         black_box(dag.evaluate(&layout));
     });
-    bench.alternate(ours, rust)
+    bench.alternate(evaluating::<E>(&list, &[root]), rust)
+}
+
+/// A call with roots, the list that it is timed on, and the first of the roots.
+pub struct Rooted {
+    pub name: &'static str,
+    kind: Kind,
+    first: fn(&[Record]) -> u64,
+    ours: fn(&[Record], &[u64]) -> Side<'static, ()>,
+}
+
+impl Rooted {
+    /// The calls with roots over a field.
+    pub fn all<E: Sides>() -> [Self; 5] {
+        let (expression, unchanged) = (Kind::Expression, Kind::Unchanged);
+        let normalize = normalizing::<E>;
+        [
+            Self { name: "build", kind: expression, first: last, ours: building::<E> },
+            Self { name: "compact", kind: unchanged, first: seven_eighths, ours: compacting::<E> },
+            Self { name: "normalize", kind: expression, first: last, ours: normalize },
+            Self { name: "normalize, unchanged", kind: unchanged, first: last, ours: normalize },
+            Self { name: "evaluate", kind: expression, first: last, ours: evaluating::<E> },
+        ]
+    }
+
+    /// Eight roots beside one on the same list of about n records, both ours.
+    pub fn eight_beside_one<E: Sides>(&self, bench: &Bench, n: usize) -> Row {
+        let list = list::<E>(self.kind, n);
+        let root = (self.first)(&list);
+        bench.alternate((self.ours)(&list, &eight(&list, root)), (self.ours)(&list, &[root]))
+    }
 }
 
 /// Columns of 128 in each form, as many as fit.

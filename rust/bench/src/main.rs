@@ -10,7 +10,7 @@ mod calls;
 mod measure;
 mod products;
 
-use calls::{Kind, Sides};
+use calls::{Kind, Rooted, Sides};
 use measure::{Bench, Row};
 use oracle::{BabyBear, QuadFelt};
 
@@ -61,7 +61,7 @@ impl<'a> Timed<'a> {
             let [one, two, four] = rows.each_ref().map(side);
             format!("{:.1} {:.1}", two / one, four / two)
         };
-        let (ours, rust) = (factors(|row| row.ours), factors(|row| row.rust));
+        let (ours, rust) = (factors(|row| row.one), factors(|row| row.other));
         println!("{:<44} {ours:>12} {rust:>12}", self.name);
     }
 }
@@ -86,6 +86,15 @@ fn timed<E: Sides>(bench: &Bench) -> Vec<Timed<'_>> {
     normalized.into_iter().chain(others).chain(lowered).collect()
 }
 
+/// The calls with roots over a field, timed with eight of them beside one.
+fn rooted<E: Sides>(bench: &Bench) -> Vec<Timed<'_>> {
+    let timed = |call: Rooted| {
+        let name = format!("{}, 8 roots", call.name);
+        Timed::at::<E>(&name, &LENGTHS, move |n| call.eight_beside_one::<E>(bench, n))
+    };
+    Rooted::all::<E>().map(timed).into()
+}
+
 /// The rows that are asked for: those that have one of these words in their names.
 struct Asked(Vec<String>);
 
@@ -95,8 +104,8 @@ impl Asked {
     }
 
     /// Ends the run where a word is in no row's name.
-    fn check(&self, timed: &[Timed]) {
-        let names = timed.iter().flat_map(Timed::rows).map(|(name, _)| name);
+    fn check(&self, timed: &[Timed], rooted: &[Timed]) {
+        let names = timed.iter().chain(rooted).flat_map(Timed::rows).map(|(name, _)| name);
         let names: Vec<String> =
             names.chain(products::ALL.map(|each| each.name.to_string())).collect();
         let strange = |word: &&String| !names.iter().any(|name| name.contains(*word));
@@ -115,17 +124,21 @@ fn main() {
     let (bench, asked) = (Bench { quick: !options.is_empty() }, Asked(words));
     let timed: Vec<Timed> =
         timed::<QuadFelt>(&bench).into_iter().chain(timed::<BabyBear>(&bench)).collect();
-    asked.check(&timed);
-    print_calls(&timed, &asked);
+    let rooted: Vec<Timed> =
+        rooted::<QuadFelt>(&bench).into_iter().chain(rooted::<BabyBear>(&bench)).collect();
+    asked.check(&timed, &rooted);
+    print_rows("", ["ours", "Rust"], &timed, &asked);
     print_growth(&timed, &asked);
+    println!();
+    print_rows("ours on one list", ["8 roots", "1 root"], &rooted, &asked);
     for products in products::ALL.iter().filter(|products| asked.row(products.name)) {
         products.print(&bench);
     }
 }
 
-/// A row for each call and each length.
-fn print_calls(timed: &[Timed], asked: &Asked) {
-    println!("{:<44} {:>12} {:>12} {:>8}", "", "ours", "Rust", "ratio");
+/// A row for each call and each length, under the names of what is timed by turns.
+fn print_rows(heading: &str, [one, other]: [&str; 2], timed: &[Timed], asked: &Asked) {
+    println!("{heading:<44} {one:>12} {other:>12} {:>8}", "ratio");
     let rows = timed.iter().flat_map(|call| call.rows().map(move |(name, n)| (call, name, n)));
     for (call, name, n) in rows.filter(|(_, name, _)| asked.row(name)) {
         (call.time)(n).print(&name);

@@ -9,15 +9,15 @@ pub struct Bench {
 
 /// Seconds of one call on each side.
 pub struct Row {
-    pub ours: f64,
-    pub rust: f64,
+    pub one: f64,
+    pub other: f64,
 }
 
 impl Row {
     /// Prints the row under this name.
     pub fn print(&self, name: &str) {
-        let (ours, rust) = (shown(self.ours), shown(self.rust));
-        println!("{name:<44} {ours:>12} {rust:>12} {:>8.2}", self.ours / self.rust);
+        let (one, other) = (shown(self.one), shown(self.other));
+        println!("{name:<44} {one:>12} {other:>12} {:>8.2}", self.one / self.other);
     }
 }
 
@@ -69,13 +69,13 @@ impl<'a> Side<'a, ()> {
 
 impl Bench {
     /// The medians of both sides, timed by turns.
-    pub fn alternate<A, B>(&self, mut ours: Side<A>, mut rust: Side<B>) -> Row {
-        let first = rust.time(1).max(ours.time(1));
+    pub fn alternate<A, B>(&self, mut one: Side<A>, mut other: Side<B>) -> Row {
+        let first = other.time(1).max(one.time(1));
         let batch = ((1e-3 / first.max(1e-9)) as usize).clamp(1, 2_000);
         let budget = if self.quick { 0.2 } else { 1.5 };
         let turns = ((budget / (first * batch as f64)) as usize).clamp(3, 201);
-        let turn = |_| (ours.time(batch), rust.time(batch));
-        let (our_times, rust_times) = (0..turns).map(turn).unzip();
-        Row { ours: median(our_times), rust: median(rust_times) }
+        let turn = |_| (one.time(batch), other.time(batch));
+        let (times, other_times) = (0..turns).map(turn).unzip();
+        Row { one: median(times), other: median(other_times) }
     }
 }

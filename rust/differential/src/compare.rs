@@ -4,12 +4,47 @@ use std::collections::BTreeMap;
 
 use model::field::Pair;
 use model::{
-    Call, Case, Field, Judge, Outcome, Paper, Record, ZK, check_columns, expected, records, values,
+    Call, Case, Field, Judge, MOST_ROOTS, Outcome, Paper, Record, ZK, check_columns, expected,
+    records, values,
 };
 
 use crate::cases::list_case;
 use crate::ours::{self, Lending};
+use crate::roots::Roots;
+use crate::union::is_union;
 use crate::{Rng, Rust};
+
+/// The answer of Normalise normalised again, its rounds at once, and the roots' values.
+pub const AGAIN: &str = "answers normalised again";
+
+/// Several roots tied together, by `normalize_dag` itself.
+pub const WHOLE: &str = "several roots by normalize_dag";
+
+/// The values of several roots before and behind, by the Rust one by one.
+pub const VALUES: &str = "values of several roots";
+
+/// What each of several roots reaches, by the Rust one by one.
+pub const ALONE: &str = "several roots compacted one by one";
+
+/// The union of what each of several roots keeps by the Rust, by old places.
+pub const UNION: &str = "unions of what each root keeps";
+
+/// A column's entry as its node's value.
+pub const ENTRIES: &str = "columns at a row";
+
+/// Numbers of roots that are none, one too many, and one that a byte would mistake for 1.
+const WRONG: [usize; 3] = [0, MOST_ROOTS + 1, 257];
+
+/// The second checks of a call, none of which shares code with document 01's definitions of it.
+fn second_checks(call: Call) -> &'static [&'static str] {
+    match call {
+        Call::Build => &[VALUES],
+        Call::Compact => &[VALUES, ALONE, UNION],
+        Call::Normalize => &[AGAIN, WHOLE, VALUES],
+        Call::Lower => &[ENTRIES],
+        Call::Step | Call::Evaluate | Call::Prepare => &[],
+    }
+}
 
 /// A case on which two sides differ, ready to send.
 pub struct Difference {
@@ -33,8 +68,10 @@ pub struct Comparison {
     pub outcomes: BTreeMap<u64, u64>,
     /// Document 01's definitions, with the count of what they met.
     pub paper: Paper,
-    /// Second checks made, where the call has them: on answers normalised again, and on values.
-    pub second: Option<u64>,
+    /// The roots that were met.
+    pub roots: Roots,
+    /// How often each second check of the call was made.
+    pub second: BTreeMap<&'static str, u64>,
     /// How the proved call is lent its stores; without it the other two sides are compared alone.
     ours: Option<Lending>,
     rng: Rng,
@@ -49,7 +86,8 @@ impl Comparison {
             failed: 0,
             outcomes: BTreeMap::new(),
             paper: Paper::over(field),
-            second: matches!(call, Call::Normalize | Call::Lower).then_some(0),
+            roots: Roots::new(WRONG, u64::MAX),
+            second: second_checks(call).iter().map(|&check| (check, 0)).collect(),
             ours,
             rng: Rng::new(seed),
         }
@@ -61,7 +99,9 @@ impl Comparison {
         let outcome = self.sides(case, &mut found);
         if outcome.accepted() {
             match case.call {
-                Call::Normalize => self.again(case, &outcome, &mut found),
+                Call::Build | Call::Compact | Call::Normalize => {
+                    self.rooted(case, &outcome, &mut found);
+                }
                 Call::Lower => self.entries(case, &outcome, &mut found),
                 _ => {}
             }
@@ -71,8 +111,8 @@ impl Comparison {
     }
 
     /// Counts a second check.
-    fn checked(&mut self) {
-        self.second = self.second.map(|second| second + 1);
+    fn checked(&mut self, check: &'static str) {
+        *self.second.get_mut(check).expect("a check of the call") += 1;
     }
 
     /// The Rust's outcome, with the differences of the other sides from it.
@@ -80,6 +120,9 @@ impl Comparison {
         self.cases += 1;
         let rust = expected(case, &mut Rust(self.field));
         *self.outcomes.entry(rust.answer[0]).or_default() += 1;
+        if let Some((roots, n)) = case.roots().zip(case.number("n")) {
+            self.roots.count(rust.answer[0], roots, n);
+        }
         let paper = expected(case, &mut self.paper);
         if paper != rust {
             found.push(told(case, ("document 01", &paper), ("the Rust", &rust)));
@@ -96,27 +139,51 @@ impl Comparison {
         rust
     }
 
-    /// Normalises the answer again, holds the rounds to `normalize_dag` and the values to each
-    /// other.
-    fn again(&mut self, case: &Case, outcome: &Outcome, found: &mut Vec<Difference>) {
-        let [_, n, root] = case.scalars[..] else { panic!("three numbers") };
-        let [_, count, new_root, _] = outcome.answer[..] else { panic!("four words") };
-        let before = records(&case.stores[0][..3 * n as usize]);
-        let after = records(&outcome.after[0][..3 * count as usize]);
-        let next = list_case(Call::Normalize, self.field, &mut self.rng, &after, new_root);
-        let answer = self.sides(&next, found);
-        let unchanged = records(&answer.after[0][..3 * count as usize]) == after;
-        if answer.answer != [0, count, new_root, 0] || !unchanged {
+    /// Holds a list with its roots to what the call made of them.
+    fn rooted(&mut self, case: &Case, outcome: &Outcome, found: &mut Vec<Difference>) {
+        let (before, after) = (Rooted::lent(case), Rooted::answered(case, outcome));
+        let several = before.roots.len() > 1;
+        if several || case.call == Call::Normalize {
+            let seed = self.rng.word();
+            if before.values(self.field, seed) != after.values(self.field, seed) {
+                found.push(said(case, "a root's value changed"));
+            }
+        }
+        if several {
+            self.checked(VALUES);
+        }
+        match case.call {
+            Call::Compact if several => {
+                let alone = before.alone(self.field);
+                if alone != after.alone(self.field) {
+                    found.push(said(case, "a root reaches other records"));
+                }
+                self.checked(ALONE);
+                if !is_union(before.parts(), after.parts(), &alone) {
+                    found.push(said(case, "not the union of what each root keeps"));
+                }
+                self.checked(UNION);
+            }
+            Call::Normalize => self.again(case, &before, &after, found),
+            _ => {}
+        }
+    }
+
+    /// Normalises the answer again and holds the rounds to `normalize_dag`.
+    fn again(&mut self, case: &Case, before: &Rooted, after: &Rooted, found: &mut Vec<Difference>) {
+        let next = list_case(case.call, self.field, &mut self.rng, &after.list, &after.roots);
+        let outcome = self.sides(&next, found);
+        if outcome.answer[2] != 0 || Rooted::answered(&next, &outcome) != *after {
             found.push(said(&next, "an answer normalised again changed"));
         }
-        if Rust(self.field).normalize_whole(&before, root) != (after.clone(), new_root) {
+        self.checked(AGAIN);
+        let (list, roots) = Rust(self.field).normalize_whole(&before.list, &before.roots);
+        if (Rooted { list, roots }) != *after {
             found.push(said(case, "normalize_dag and its rounds one by one differ"));
         }
-        let seed = self.rng.word();
-        if value(self.field, &before, root, seed) != value(self.field, &after, new_root, seed) {
-            found.push(said(case, "the root's value changed"));
+        if before.roots.len() > 1 {
+            self.checked(WHOLE);
         }
-        self.checked();
     }
 
     /// Evaluates each column's node at a power of the shared generator: the column's entry.
@@ -140,7 +207,55 @@ impl Comparison {
                 found.push(said(case, &format!("a column's node is not its entry at row {row}")));
             }
         }
-        self.checked();
+        self.checked(ENTRIES);
+    }
+}
+
+/// A list with its roots.
+#[derive(PartialEq)]
+struct Rooted {
+    list: Vec<Record>,
+    roots: Vec<u64>,
+}
+
+impl Rooted {
+    /// What is lent to a call.
+    fn lent(case: &Case) -> Self {
+        let n = case.number("n").expect("a call on a list") as usize;
+        let roots = case.roots().expect("a call with roots").to_vec();
+        Self { list: records(&case.stores[0][..3 * n]), roots }
+    }
+
+    /// What a call answers.
+    fn answered(case: &Case, outcome: &Outcome) -> Self {
+        let count = outcome.answer[1] as usize;
+        let given = case.roots().expect("a call with roots").len();
+        let roots = outcome.answer[3..3 + given].to_vec();
+        Self { list: records(&outcome.after[0][..3 * count]), roots }
+    }
+
+    fn parts(&self) -> (&[Record], &[u64]) {
+        (&self.list, &self.roots)
+    }
+
+    /// The roots' values with the elements of this seed; those of several roots by the Rust.
+    fn values(&self, field: Field, seed: u64) -> Vec<Pair> {
+        if let [root] = self.roots[..] {
+            return vec![values(field, &self.list, |key| element(field, key, seed))[root as usize]];
+        }
+        let inputs = self.list.iter().filter(|record| record[0] == 0);
+        let entry = |record: &Record| {
+            let [c0, c1] = element(field, record[1], seed);
+            [record[1], c0, c1]
+        };
+        let assignment: Vec<Record> = inputs.map(entry).collect();
+        Rust(field).evaluate(&self.list, &self.roots, &assignment)
+    }
+
+    /// What the Rust's compaction makes of the list with each root alone.
+    fn alone(&self, field: Field) -> Vec<(Vec<Record>, Vec<u64>)> {
+        let mut rust = Rust(field);
+        self.roots.chunks(1).map(|root| rust.compact(&self.list, root)).collect()
     }
 }
 
@@ -148,11 +263,6 @@ impl Comparison {
 fn element(field: Field, key: u64, seed: u64) -> Pair {
     let mut rng = Rng::new(key ^ seed.rotate_left(17));
     field.reduced([rng.word(), rng.word()])
-}
-
-/// The root's value with the elements of this seed.
-fn value(field: Field, list: &[Record], root: u64, seed: u64) -> Pair {
-    values(field, list, |key| element(field, key, seed))[root as usize]
 }
 
 /// Whether a judge answers this case as the Rust over this field does.

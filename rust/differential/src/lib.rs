@@ -9,7 +9,10 @@ pub mod record;
 pub mod report;
 pub mod required;
 mod rng;
+pub mod roots;
 mod rust;
+mod tie;
+mod union;
 
 pub use rng::Rng;
 pub use rust::Rust;

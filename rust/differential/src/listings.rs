@@ -3,18 +3,25 @@
 use std::collections::BTreeMap;
 use std::fmt::Write;
 
-use model::{FILE_LIMIT, Field, HEAD, KINDS, Paper, RECORD, listing, read_house_file};
+use model::{
+    BEFORE_ROOTS, FILE_LIMIT, Field, HEAD, KINDS, MOST_ROOTS, Paper, RECORD, ROOT, before_records,
+    coincide, file_length, listing, read_house_file,
+};
 
-use crate::cases::LONGEST_FILE;
+use crate::cases::{LONGEST_FILE, LONGEST_LENGTH};
 use crate::compare::Difference;
 use crate::program::Delivery;
+use crate::roots::Roots;
 use crate::{Rng, Rust};
 
 /// The refusals that `normlist` can give: its count is no 1, its length no 2.
-pub const REFUSALS: [u64; 8] = [3, 4, 5, 6, 21, 22, 23, 24];
+pub const REFUSALS: [u64; 9] = [3, 4, 5, 6, 21, 22, 23, 24, 46];
 
-/// The bytes of the longest listing: 1,024 constants of p − 1, p − 1.
-const LONGEST_LISTING: usize = 53_192;
+/// The bytes of the longest listing: 1,024 constants of p − 1, p − 1, eight roots of four digits.
+const LONGEST_LISTING: usize = 53_227;
+
+/// Numbers of roots that are none, one too many, and the most that a file can give.
+const WRONG: [usize; 3] = [0, MOST_ROOTS + 1, 255];
 
 /// What lists a file: its bytes and how they come, to the listing or what went wrong.
 pub type Lister<'a> = Box<dyn FnMut(&[u8], Delivery) -> Result<Vec<u8>, String> + 'a>;
@@ -25,10 +32,57 @@ fn head(file: &[u8], from: usize) -> Option<u64> {
     Some(u32::from_be_bytes(bytes).into())
 }
 
-/// Whether a file of version 1 has this many bytes more than its count asks for.
-fn beside(file: &[u8], more: i64) -> bool {
-    let count = head(file, 1).filter(|count| (1..=FILE_LIMIT).contains(count) && file[0] == 1);
-    count.is_some_and(|count| file.len() as i64 == (HEAD + RECORD * count as usize) as i64 + more)
+/// Whether a file of this version has this many bytes more than its head asks for.
+fn beside(file: &[u8], version: u8, more: i64) -> bool {
+    let counted = head(file, 1).is_some_and(|count| (1..=FILE_LIMIT).contains(&count));
+    let asked = file_length(file).filter(|_| counted && file[0] == version);
+    asked.is_some_and(|asked| file.len() as i64 == asked as i64 + more)
+}
+
+/// The number of roots that a file of version 2 gives, and the one that its length fits.
+fn root_numbers(file: &[u8]) -> Option<(usize, Option<usize>)> {
+    let count = head(file, 1).filter(|count| (1..=FILE_LIMIT).contains(count) && file[0] == 2)?;
+    let bytes = file.len().checked_sub(BEFORE_ROOTS + RECORD * count as usize);
+    let fits = bytes.filter(|bytes| bytes % ROOT == 0).map(|bytes| bytes / ROOT);
+    Some((file[BEFORE_ROOTS - 1].into(), fits.filter(|&roots| roots < 256)))
+}
+
+/// Whether a file of version 2 gives none of 1 to 8 roots.
+fn gives_wrong(file: &[u8]) -> bool {
+    matches!(root_numbers(file), Some((0 | 9.., _)))
+}
+
+/// The roots of a file of version 2 that is as long as its head asks for.
+fn given_roots(file: &[u8]) -> Option<Vec<u64>> {
+    let (given, fits) = root_numbers(file)?;
+    let number = |root: &[u8]| u32::from_be_bytes(root.try_into().expect("four bytes")).into();
+    let roots = || file[BEFORE_ROOTS..][..ROOT * given].chunks(ROOT).map(number).collect();
+    (fits == Some(given)).then(roots)
+}
+
+/// The length of a file of version 2 that is cut within its head, which has eight roots.
+fn cut_head(file: &[u8]) -> Option<usize> {
+    let is_cut = file.len() < BEFORE_ROOTS + ROOT * MOST_ROOTS && file.first() == Some(&2);
+    let of_eight = || file.get(BEFORE_ROOTS - 1).is_none_or(|&count| count == MOST_ROOTS as u8);
+    (is_cut && of_eight()).then_some(file.len())
+}
+
+/// Whether a listing is the line of this refusal.
+fn refused(text: &str, number: u64) -> bool {
+    text.strip_prefix("refused ").is_some_and(|behind| behind.starts_with(&format!("{number} ")))
+}
+
+/// The roots that a listing names.
+fn listed_roots(text: &str) -> Vec<&str> {
+    let line = text.lines().next().unwrap_or_default();
+    let behind = line.split_once(" root ").map_or("", |(_, behind)| behind);
+    behind.split_once(" rounds").map_or(vec![], |(roots, _)| roots.split(' ').collect())
+}
+
+/// Whether a file's roots are at different places, and its listing names one of theirs twice.
+fn meet(file: &[u8], text: &str) -> bool {
+    let given = read_house_file(file).map_or(vec![], |(_, roots)| roots);
+    !coincide(&given) && coincide(&listed_roots(text))
 }
 
 /// Whether a listing has this number of rounds or more.
@@ -42,20 +96,53 @@ fn rounds(text: &str, least: u64) -> bool {
 type Mark = (&'static str, fn(&[u8], &str) -> bool);
 
 /// What a run has to meet beside the refusals.
-const MARKS: [Mark; 17] = [
+const MARKS: [Mark; 34] = [
     ("empty", |file, _| file.is_empty()),
     ("under 9 bytes", |file, _| !file.is_empty() && file.len() < HEAD),
     ("version 0", |file, _| head(file, 1).is_some() && file[0] == 0),
-    ("version 2", |file, _| head(file, 1).is_some() && file[0] == 2),
+    ("version 3", |file, _| head(file, 1).is_some() && file[0] == 3),
     ("count 0", |file, _| head(file, 1) == Some(0)),
     ("count 1", |file, _| head(file, 1) == Some(1)),
     ("count 1,024", |file, _| head(file, 1) == Some(FILE_LIMIT)),
     ("count 1,025", |file, _| head(file, 1) == Some(FILE_LIMIT + 1)),
-    ("a byte short", |file, _| beside(file, -1)),
-    ("a byte long", |file, _| beside(file, 1)),
-    ("a record long", |file, _| beside(file, RECORD as i64)),
-    ("longer than any good file", |file, _| file.len() > LONGEST_FILE),
-    ("root just outside", |file, _| beside(file, 0) && head(file, 1) == head(file, 5)),
+    ("a byte short", |file, _| beside(file, 1, -1)),
+    ("a byte long", |file, _| beside(file, 1, 1)),
+    ("a record long", |file, _| beside(file, 1, RECORD as i64)),
+    ("version 2, a byte short", |file, _| beside(file, 2, -1)),
+    ("version 2, a byte long", |file, _| beside(file, 2, 1)),
+    ("version 2, a root short", |file, _| beside(file, 2, -4)),
+    ("version 2, a root long", |file, _| beside(file, 2, 4)),
+    ("1 to 8 roots, a length of others", |file, _| {
+        matches!(root_numbers(file), Some((1..=8, Some(0 | 9..))))
+    }),
+    ("other roots, a length of 1 to 8", |file, _| {
+        matches!(root_numbers(file), Some((0 | 9.., Some(1..=8))))
+    }),
+    (
+        "1 to 8 roots, a length of other 1 to 8",
+        |file, _| matches!(root_numbers(file), Some((given @ 1..=8, Some(fits @ 1..=8))) if given != fits),
+    ),
+    ("17 roots more, a length of four records more", |file, _| {
+        beside(file, 2, 0) && matches!(root_numbers(file), Some((18..=25, _)))
+    }),
+    ("23 before 46", |file, text| refused(text, 23) && file[0] == 2 && matches!(file[5], 0 | 9..)),
+    ("24 before 46", |file, text| refused(text, 24) && gives_wrong(file)),
+    ("3 or 4 before 46", |file, text| (refused(text, 3) || refused(text, 4)) && gives_wrong(file)),
+    ("5 before 46", |file, text| refused(text, 5) && gives_wrong(file)),
+    ("46 before 6", |file, text| {
+        let outside = |root: &u64| head(file, 1).is_some_and(|count| *root >= count);
+        refused(text, 46) && given_roots(file).is_some_and(|roots| roots.iter().any(outside))
+    }),
+    ("longest good file", |file, text| file.len() == LONGEST_FILE && text.starts_with("nodes ")),
+    ("longest file of the right length", |file, _| {
+        file.len() == LONGEST_LENGTH && beside(file, 2, 0)
+    }),
+    ("longer than any of these", |file, _| file.len() > LONGEST_LENGTH),
+    ("root just outside", |file, _| beside(file, 1, 0) && head(file, 1) == head(file, 5)),
+    ("roots at one place", |file, text| {
+        text.starts_with("nodes ") && given_roots(file).is_some_and(|roots| coincide(&roots))
+    }),
+    ("roots brought to one place", meet),
     ("no round kept", |_, text| text.starts_with("nodes ") && !rounds(text, 1)),
     ("rounds kept", |_, text| rounds(text, 1)),
     ("100 rounds kept", |_, text| rounds(text, 100)),
@@ -72,6 +159,10 @@ pub struct Listings<'a> {
     /// How often each refusal was met; 0 is acceptance.
     pub outcomes: BTreeMap<u64, u64>,
     marks: [u64; MARKS.len()],
+    /// The roots of files of version 2.
+    roots: Roots,
+    /// Heads of version 2 with eight roots, by the byte that they are cut at.
+    cuts: [u64; BEFORE_ROOTS + ROOT * MOST_ROOTS],
     kinds: [u64; KINDS.len()],
     deliveries: [u64; Delivery::ALL.len()],
     rng: Rng,
@@ -86,6 +177,8 @@ impl<'a> Listings<'a> {
             failed: 0,
             outcomes: BTreeMap::new(),
             marks: [0; MARKS.len()],
+            roots: Roots::new(WRONG, u32::MAX.into()),
+            cuts: [0; BEFORE_ROOTS + ROOT * MOST_ROOTS],
             kinds: [0; KINDS.len()],
             deliveries: [0; Delivery::ALL.len()],
             rng: Rng::new(seed),
@@ -119,6 +212,12 @@ impl<'a> Listings<'a> {
         for ((_, is), count) in MARKS.iter().zip(&mut self.marks) {
             *count += u64::from(is(file, text));
         }
+        if let Some((roots, n)) = given_roots(file).zip(head(file, 1)) {
+            self.roots.count(number, &roots, n);
+        }
+        if let Some(length) = cut_head(file) {
+            self.cuts[length] += 1;
+        }
         for line in text.lines().skip(1) {
             let kind =
                 line.split(' ').nth(1).and_then(|kind| KINDS.iter().position(|k| *k == kind));
@@ -129,10 +228,13 @@ impl<'a> Listings<'a> {
     /// What was met, and how often.
     pub fn met(&self) -> Vec<(String, u64)> {
         let marks = MARKS.iter().zip(&self.marks).map(|(mark, n)| (mark.0.to_string(), *n));
+        let cuts = self.cuts[1..].iter().min().copied().unwrap_or(0);
+        let cuts = ("version 2 cut at each byte of its head".to_string(), cuts);
         let kinds = KINDS.iter().zip(&self.kinds).map(|(kind, n)| (format!("{kind} lines"), *n));
         let deliveries = Delivery::ALL.iter().zip(&self.deliveries);
         let deliveries = deliveries.map(|(delivery, n)| (delivery.text().to_string(), *n));
         let some = if self.program.is_some() { Delivery::ALL.len() } else { 0 };
+        let marks = marks.chain(self.roots.met()).chain([cuts]);
         marks.chain(kinds).chain(deliveries.take(some)).collect()
     }
 }
@@ -170,7 +272,7 @@ fn difference(
 /// The bytes of a file: its head, then a record a line, up to the most behind the head.
 fn bytes_text(file: &[u8], most: usize) -> String {
     let hex = |bytes: &[u8]| bytes.iter().map(|byte| format!("{byte:02x}")).collect::<String>();
-    let (head, body) = file.split_at(HEAD.min(file.len()));
+    let (head, body) = file.split_at(before_records(file).unwrap_or(HEAD).min(file.len()));
     let mut text = format!("    {}\n", hex(head));
     for record in body[..body.len().min(most)].chunks(RECORD) {
         let _ = writeln!(text, "    {}", hex(record));

@@ -41,11 +41,14 @@ const DIFFERENCES: &str = "target/differences";
 /// The random cases of a call that there is one random house file for.
 const A_FILE: u64 = 100;
 
+/// The random cases with one root that there is one with several roots for.
+const SEVERAL: u64 = 2;
+
 /// The seconds of random cases of a run that names none.
 const SECONDS: u64 = 60;
 
 /// About the seconds that short lists and corners take.
-const FIXED: u64 = 40;
+const FIXED: u64 = 70;
 
 /// The differences of one part: printed as cases to send, and kept.
 struct Shown<'a> {
@@ -135,6 +138,9 @@ impl Run {
         let _ = cases::fixed(call, field, &mut rng, thorough, &mut take);
         self.random(self.wanted(), || {
             let _ = take(cases::random(call, field, &mut rng));
+            if rng.once_in(SEVERAL) {
+                let _ = cases::several_roots(call, field, &mut rng).map(&mut take);
+            }
         });
         Summary::of_call(&run)
     }

@@ -107,25 +107,26 @@ fn call(case: &Case, lent: &mut [Lent], answer: &mut [u64]) {
             ace::words::step(field, list, number(1), tag, first, second, sized(answer));
         }
         Call::Build => {
-            let [list, result, map] = lent else { panic!("three stores") };
-            let (list, result, map) = (list.store(), result.store_mut(), map.store_mut());
-            ace::words::build(field, list, number(1), number(2), result, map, sized(answer));
+            let [list, roots, result, map] = lent else { panic!("four stores") };
+            let (list, roots) = (list.store(), roots.store());
+            let (result, map) = (result.store_mut(), map.store_mut());
+            ace::words::build(field, list, number(1), roots, result, map, sized(answer));
         }
         Call::Compact => {
-            let [list, result] = lent else { panic!("two stores") };
-            let (list, result) = (list.store(), result.store_mut());
-            ace::words::compact(field, list, number(1), number(2), result, sized(answer));
+            let [list, roots, result] = lent else { panic!("three stores") };
+            let (list, roots, result) = (list.store(), roots.store(), result.store_mut());
+            ace::words::compact(field, list, number(1), roots, result, sized(answer));
         }
         Call::Normalize => {
-            let [list, result, work] = lent else { panic!("three stores") };
-            let (list, result, work) = (list.store(), result.store_mut(), work.store_mut());
-            ace::words::normalize(field, list, number(1), number(2), result, work, sized(answer));
+            let [list, roots, result, work] = lent else { panic!("four stores") };
+            let (list, roots) = (list.store(), roots.store());
+            let (result, work) = (result.store_mut(), work.store_mut());
+            ace::words::normalize(field, list, number(1), roots, result, work, sized(answer));
         }
         Call::Evaluate => {
-            let [list, assignment] = lent else { panic!("two stores") };
-            let (list, entries, [n, root, m]) =
-                (list.store(), assignment.store(), [1, 2, 3].map(number));
-            ace::words::evaluate(field, list, n, root, entries, m, sized(answer));
+            let [list, roots, entries] = lent else { panic!("three stores") };
+            let (list, roots, entries) = (list.store(), roots.store(), entries.store());
+            ace::words::evaluate(field, list, number(1), roots, entries, number(2), sized(answer));
         }
         Call::Prepare => {
             ace::words::prepare(field, lent[0].store(), lent[1].store(), sized(answer));

@@ -109,7 +109,7 @@ fn feed(mut stdin: ChildStdin, file: &[u8], delivery: Delivery) {
         let _ = stdin.write_all(file);
         return;
     }
-    let ends = [1, 5, 9, 10, 26, file.len() / 2, file.len() * 3 / 4, file.len()];
+    let ends = [1, 5, 6, 9, 10, 26, file.len() / 2, file.len() * 3 / 4, file.len()];
     let mut begin = 0;
     for end in ends {
         if end <= begin || end > file.len() {

@@ -1,4 +1,4 @@
-//! A sample of the Rust's answers, for the program `replay`.
+//! A sample of the Rust's answers, for the program `replay`; several roots are tied together.
 //!
 //! A stream of 64-bit little-endian words, a section for each call: the call's number, from 1 in
 //! the order of `Call`, the number of cases, the number of the words that follow, and those: for
@@ -99,6 +99,14 @@ impl Sample {
         self.long += usize::from(is_long);
         self.chosen.push((case, outcome));
     }
+
+    /// Takes a case at random, and another one with several roots where the call takes roots.
+    fn take_random(&mut self, call: Call, rng: &mut Rng) {
+        self.take(cases::random(call, self.field, rng));
+        if let Some(case) = cases::several_roots(call, self.field, rng) {
+            self.take(case);
+        }
+    }
 }
 
 /// Short cases of a field that a wrong definition answers otherwise than the Rust.
@@ -138,14 +146,14 @@ fn over(call: Call, field: Field, count: usize, rng: &mut Rng) -> Vec<(Case, Out
     rng.shuffle(&mut corners);
     for corner in corners.into_iter().take(count) {
         sample.take(corner);
-        sample.take(cases::random(call, field, rng));
+        sample.take_random(call, rng);
     }
     for _ in 0..60 * count {
-        sample.take(cases::random(call, field, rng));
+        sample.take_random(call, rng);
     }
     sample.most = count;
     while sample.chosen.len() < count {
-        sample.take(cases::random(call, field, rng));
+        sample.take_random(call, rng);
     }
     sample.chosen
 }

@@ -14,8 +14,8 @@ use crate::required;
 pub enum Missing {
     /// This was never met.
     Unmet(String),
-    /// No second check was made.
-    Second,
+    /// This second check was never made.
+    Second(&'static str),
     /// The part was not compared, for this reason.
     Absent(String),
 }
@@ -24,7 +24,7 @@ impl fmt::Display for Missing {
     fn fmt(&self, f: &mut fmt::Formatter) -> fmt::Result {
         match self {
             Missing::Unmet(what) => write!(f, "never met: {what}"),
-            Missing::Second => write!(f, "no second check was made"),
+            Missing::Second(check) => write!(f, "a second check was never made: {check}"),
             Missing::Absent(why) => write!(f, "not compared: {why}"),
         }
     }
@@ -85,14 +85,19 @@ impl Summary {
         let signature = run.call.signature();
         let of = |event: Event| (event.text().to_string(), run.paper.tally.of(event));
         let mut met: Vec<(String, u64)> = required::events(run.call).into_iter().map(of).collect();
-        if signature.stores.iter().any(|store| store.0 == "lengths") {
+        let has = |name| signature.stores.iter().any(|store| store.0 == name);
+        if has("lengths") {
             met.extend(forms(run));
         }
-        met.extend(run.second.filter(|&n| n > 0).map(|n| ("second checks".to_string(), n)));
+        if has("roots") {
+            met.extend(run.roots.met());
+        }
+        let (made, never): (Vec<_>, Vec<_>) = run.second.iter().partition(|(_, count)| **count > 0);
+        met.extend(made.iter().map(|(check, count)| (format!("second check, {check}"), **count)));
         let counts = [run.cases, run.failed];
         let name = name(run.call, run.field);
         let mut summary = Self::new(name, counts, &run.outcomes, signature.refusals, met);
-        summary.missing.extend(run.second.filter(|&n| n == 0).map(|_| Missing::Second));
+        summary.missing.extend(never.iter().map(|(check, _)| Missing::Second(check)));
         summary
     }
 

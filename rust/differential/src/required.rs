@@ -90,6 +90,10 @@ const ROUNDS: [Event; 23] = [
     LongRound,
 ];
 
+/// Roots at one place, and what refusing roots comes behind and before.
+const ROOTS: [Event; 6] =
+    [RootsTogether, ListFirst, RecordFirst, OperandFirst, RootsFirst, StoresBehind];
+
 /// What refusing a field's number can come before.
 const NO_FIELD: [Event; 2] = [FieldAlone, FieldFirst];
 
@@ -100,10 +104,12 @@ pub fn events(call: Call) -> Vec<Event> {
             let corners = [FoundOfSeveral, FullKnown, FullNew, ShortStore];
             [&RULES[..], &INTERNING, &corners].concat()
         }
-        Call::Build => [&RULES[..], &INTERNING].concat(),
-        Call::Compact => vec![NothingDropped, SomeDropped, DuplicatesKept],
-        Call::Normalize => ROUNDS.to_vec(),
-        Call::Evaluate => vec![RepeatedKey, UnreachableInput],
+        Call::Build => [&RULES[..], &INTERNING, &ROOTS, &[RootsMeet]].concat(),
+        Call::Compact => [&[NothingDropped, SomeDropped, DuplicatesKept][..], &ROOTS].concat(),
+        Call::Normalize => {
+            [&ROUNDS[..], &ROOTS, &[RootsMeet, LaterRootForbids, LaterRootHolds]].concat()
+        }
+        Call::Evaluate => [&[RepeatedKey, UnreachableInput][..], &ROOTS].concat(),
         Call::Prepare => CHOICES.to_vec(),
         Call::Lower => [&CHOICES[..], &LOWERING].concat(),
     };

@@ -4,7 +4,9 @@ use model::field::Pair;
 use model::{Field, Judge, Record};
 use oracle::{BabyBear, QuadFelt};
 
-/// The Rust of docs/src over a field.
+use crate::tie::{tie, untie};
+
+/// The Rust of docs/src over a field. It knows one root: several are tied together.
 #[derive(Clone, Copy, Debug)]
 pub struct Rust(pub Field);
 
@@ -19,10 +21,25 @@ macro_rules! over {
     };
 }
 
+/// What a function of lists with one root comes to with these roots.
+fn on_roots(
+    list: &[Record],
+    roots: &[u64],
+    of_one: impl FnOnce(&[Record], u64) -> (Vec<Record>, u64),
+) -> (Vec<Record>, Vec<u64>) {
+    if let [root] = *roots {
+        let (list, root) = of_one(list, root);
+        return (list, vec![root]);
+    }
+    let tied = tie(list, roots);
+    let (list, root) = of_one(&tied, tied.len() as u64 - 1);
+    untie(&list, root, roots.len()).expect("no round and no compaction touches the ties")
+}
+
 impl Rust {
-    /// The normalised list and its root, by `normalize_dag` itself.
-    pub fn normalize_whole(self, list: &[Record], root: u64) -> (Vec<Record>, u64) {
-        over!(self.0, normalize_whole(list, root))
+    /// The normalised list and its roots, by `normalize_dag` itself.
+    pub fn normalize_whole(self, list: &[Record], roots: &[u64]) -> (Vec<Record>, Vec<u64>) {
+        on_roots(list, roots, |list, root| over!(self.0, normalize_whole(list, root)))
     }
 }
 
@@ -39,16 +56,23 @@ impl Judge for Rust {
         over!(self.0, build(requests))
     }
 
-    fn compact(&mut self, list: &[Record], root: u64) -> (Vec<Record>, u64) {
-        over!(self.0, compact(list, root))
+    fn compact(&mut self, list: &[Record], roots: &[u64]) -> (Vec<Record>, Vec<u64>) {
+        on_roots(list, roots, |list, root| over!(self.0, compact(list, root)))
     }
 
-    fn normalize(&mut self, list: &[Record], root: u64) -> (Vec<Record>, u64, u64) {
-        over!(self.0, normalize(list, root))
+    fn normalize(&mut self, list: &[Record], roots: &[u64]) -> (Vec<Record>, Vec<u64>, u64) {
+        let mut rounds = 0;
+        let (list, roots) = on_roots(list, roots, |list, root| {
+            let (list, root, kept) = over!(self.0, normalize(list, root));
+            rounds = kept;
+            (list, root)
+        });
+        (list, roots, rounds)
     }
 
-    fn evaluate(&mut self, list: &[Record], root: u64, assignment: &[Record]) -> Pair {
-        over!(self.0, evaluate(list, root, assignment)).expect("every input has an entry")
+    fn evaluate(&mut self, list: &[Record], roots: &[u64], assignment: &[Record]) -> Vec<Pair> {
+        let value = |&root: &u64| over!(self.0, evaluate(list, root, assignment));
+        roots.iter().map(value).map(|value| value.expect("every input has an entry")).collect()
     }
 
     fn forms(&mut self, columns: &[Vec<u64>]) -> Vec<u64> {

@@ -28,7 +28,7 @@ fn a_the_listing() {
     let list = after(&inputs(3), &[[4, 0, 1], [4, 0, 2], [2, 3, 4]]);
     let answer = after(&inputs(3), &[[2, 1, 2], [4, 0, 3]]);
     for mut judge in judges() {
-        assert_eq!(judge.normalize(&list, 5), (answer.clone(), 4, 1));
+        assert_eq!(judge.normalize(&list, &[5]), (answer.clone(), vec![4], 1));
     }
 }
 
@@ -37,15 +37,15 @@ fn b_a_rotation() {
     let list = after(&inputs(3), &[[2, 0, 2], [2, 0, 1], [2, 2, 4], [4, 3, 5]]);
     let answer = after(&inputs(3), &[[2, 0, 2], [2, 1, 3], [4, 3, 4]]);
     for mut judge in judges() {
-        assert_eq!(judge.normalize(&list, 6), (answer.clone(), 5, 1));
+        assert_eq!(judge.normalize(&list, &[6]), (answer.clone(), vec![5], 1));
     }
 }
 
 #[test]
 fn c_an_unused_input() {
     for mut judge in judges() {
-        assert_eq!(judge.normalize(&inputs(2), 0), (inputs(2), 0, 0));
-        assert_eq!(judge.compact(&inputs(2), 0), (inputs(1), 0));
+        assert_eq!(judge.normalize(&inputs(2), &[0]), (inputs(2), vec![0], 0));
+        assert_eq!(judge.compact(&inputs(2), &[0]), (inputs(1), vec![0]));
     }
 }
 
@@ -73,8 +73,8 @@ fn with_itself(tag: u64, [c0, c1]: [u64; 2]) -> [Record; 2] {
 #[test]
 fn i_and_j_the_field() {
     for mut judge in over(Field::GOLDILOCKS) {
-        assert_eq!(judge.evaluate(&with_itself(4, [0, 1]), 1, &[]), [7, 0]);
-        assert_eq!(judge.evaluate(&with_itself(2, [P - 1, 0]), 1, &[]), [P - 2, 0]);
+        assert_eq!(judge.evaluate(&with_itself(4, [0, 1]), &[1, 0], &[]), [[7, 0], [0, 1]]);
+        assert_eq!(judge.evaluate(&with_itself(2, [P - 1, 0]), &[1], &[]), [[P - 2, 0]]);
     }
     assert_eq!(Field::GOLDILOCKS.add(P - 1, P - 1), P - 2);
 }
@@ -82,14 +82,15 @@ fn i_and_j_the_field() {
 #[test]
 fn i_and_j_in_field_2() {
     for mut judge in over(Field::BABY_BEAR) {
-        assert_eq!(judge.evaluate(&with_itself(4, [Q - 1, 0]), 1, &[]), [1, 0]);
-        assert_eq!(judge.evaluate(&with_itself(2, [Q - 1, 0]), 1, &[]), [Q - 2, 0]);
+        assert_eq!(judge.evaluate(&with_itself(4, [Q - 1, 0]), &[1], &[]), [[1, 0]]);
+        assert_eq!(judge.evaluate(&with_itself(2, [Q - 1, 0]), &[1], &[]), [[Q - 2, 0]]);
         let u = Case {
             call: Call::Evaluate,
-            scalars: vec![2, 2, 1, 0],
-            stores: vec![words(&with_itself(4, [0, 1])), vec![]],
+            scalars: vec![2, 2, 0],
+            stores: vec![words(&with_itself(4, [0, 1])), vec![1], vec![]],
         };
-        assert_eq!(expected(&u, judge.as_mut()).answer, [4, 0, 0, 0]);
+        let refused = [&[4][..], &[0; 16]].concat();
+        assert_eq!(expected(&u, judge.as_mut()).answer, refused);
     }
 }
 
@@ -194,10 +195,65 @@ fn the_longest_chain_takes_its_rounds_by_the_rust_itself() {
     let list = cases::chain(60);
     let last = list.len() as u64 - 1;
     for field in Field::ALL {
-        let (normal, root, rounds) = Rust(field).normalize(&list, last);
-        assert_eq!(Rust(field).normalize_whole(&list, last), (normal.clone(), root));
+        let (normal, roots, rounds) = Rust(field).normalize(&list, &[last]);
+        let whole = Rust(field).normalize_whole(&list, &[last]);
+        assert_eq!(whole, (normal.clone(), roots.clone()));
         assert_eq!(rounds, 59);
-        assert_eq!(Paper::over(field).normalize(&list, last), (normal, root, rounds));
+        assert_eq!(Paper::over(field).normalize(&list, &[last]), (normal, roots, rounds));
+    }
+}
+
+#[test]
+fn two_roots_share_a_list() {
+    let list = after(&inputs(3), &[[4, 0, 1], [4, 0, 2], [2, 3, 4], [2, 1, 2], [4, 0, 6]]);
+    let short = after(&inputs(3), &[[2, 1, 2], [4, 0, 3]]);
+    let left = after(&inputs(3), &[[4, 0, 1], [4, 0, 2], [2, 3, 4]]);
+    for mut judge in judges() {
+        // A round brings both onto the product; a root that is a product forbids it.
+        assert_eq!(judge.normalize(&list, &[7, 5]), (short.clone(), vec![4, 4], 1));
+        assert_eq!(judge.normalize(&left, &[5, 3]), (left.clone(), vec![5, 3], 0));
+        // Each keeps what it reaches, in the roots' order, and one place may be named twice.
+        let kept = after(&inputs(3), &[[4, 0, 2], [2, 1, 2]]);
+        assert_eq!(judge.compact(&list, &[6, 4, 6]), (kept, vec![4, 3, 4]));
+    }
+}
+
+#[test]
+fn every_kind_of_root_is_tied() {
+    for field in Field::ALL {
+        let [c0, c1] = field.reduced([2, 3]);
+        let last = [[1, 0, 0], [1, 1, 0], [1, c0, c1], [2, 0, 1], [3, 0, 1], [4, 1, 2], [5, 0, 0]];
+        for record in last {
+            let list = after(&inputs(3), &[[4, 0, 1], [4, 0, 2], [2, 3, 4], record]);
+            let short = after(&inputs(3), &[[2, 1, 2], [4, 0, 3], record]);
+            let whole = Rust(field).normalize_whole(&list, &[5, 6, 6]);
+            assert_eq!(whole, (short.clone(), vec![4, 5, 5]));
+            assert_eq!(Rust(field).normalize(&list, &[5, 6, 6]), (short, vec![4, 5, 5], 1));
+            assert_eq!(Rust(field).compact(&list, &[6, 5, 6]), (list, vec![6, 5, 6]));
+        }
+    }
+}
+
+#[test]
+fn roots_are_refused_behind_the_records() {
+    let (good, late) = (words(&inputs(2)), words(&[[0, 0, 0], [5, 1, 0]]));
+    for (list, n, roots, refusal) in [
+        (&good, 2, &[][..], [46, 0]),
+        (&good, 2, &[0; 9], [46, 0]),
+        (&good, 2, &[2; 9], [46, 0]),
+        (&good, 2, &[0, 1, 2], [6, 0]),
+        (&good, 2, &[1 << 32], [6, 0]),
+        (&late, 2, &[], [5, 1]),
+        (&late, 3, &[], [2, 0]),
+        (&late, 0, &[], [1, 0]),
+    ] {
+        for mut judge in judges() {
+            let scalars = vec![judge.field().number, n];
+            let stores = vec![list.clone(), roots.to_vec(), vec![]];
+            let case = Case { call: Call::Compact, scalars, stores };
+            let answer = expected(&case, judge.as_mut()).answer;
+            assert_eq!(answer, [&refusal[..], &[0; 9]].concat());
+        }
     }
 }
 

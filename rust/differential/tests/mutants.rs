@@ -56,8 +56,10 @@ fn the_right_definitions_give_none() {
         for call in Call::ALL {
             let mut rng = Rng::new(2);
             for _ in 0..2_000 {
-                let case = cases::random(call, field, &mut rng);
-                assert!(agrees(&case, field, &mut paper), "{}", case.text(true));
+                let several = cases::several_roots(call, field, &mut rng);
+                for case in several.into_iter().chain([cases::random(call, field, &mut rng)]) {
+                    assert!(agrees(&case, field, &mut paper), "{}", case.text(true));
+                }
             }
         }
     }

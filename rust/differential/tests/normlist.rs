@@ -2,12 +2,15 @@
 
 use std::path::{Path, PathBuf};
 
-use differential::cases::{LONGEST_FILE, fixed_files, random_file};
+use differential::cases::{LONGEST_FILE, LONGEST_LENGTH, fixed_files, random_file};
 use differential::listings::{Listings, REFUSALS};
 use differential::program::{Delivery, Program};
 use differential::report::{Missing, Summary};
 use differential::{Rng, Rust};
-use model::{Field, HEAD, RECORD, house_file, listing, read_house_file};
+use model::{
+    Field, HEAD, MOST_ROOTS, RECORD, before_records, file_length, listing, read_house_file,
+    version_1, version_2,
+};
 
 /// What `normlist` prints.
 fn right(file: &[u8]) -> String {
@@ -25,9 +28,46 @@ fn count(file: &[u8]) -> Option<usize> {
     Some(u32::from_be_bytes(bytes) as usize)
 }
 
-/// The length that a file's count asks for.
+/// The length that the head of a file of either version asks for.
 fn asked(file: &[u8]) -> Option<usize> {
-    Some(HEAD + RECORD * count(file)?)
+    file_length(file).map(|length| length as usize)
+}
+
+/// The place of a file's first record, or its end.
+fn first_record(file: &[u8]) -> usize {
+    before_records(file).unwrap_or(HEAD).min(file.len())
+}
+
+/// The number of roots of a file of version 2 with a good count.
+fn root_count(file: &[u8]) -> Option<usize> {
+    let counted = count(file).is_some_and(|count| (1..=1_024).contains(&count));
+    (counted && file[0] == 2).then(|| file[5].into())
+}
+
+/// Whether a file is of version 2 and has no roots or too many.
+fn roots_refused(file: &[u8]) -> bool {
+    root_count(file).is_some_and(|count| !(1..=MOST_ROOTS).contains(&count))
+}
+
+/// The refusal of a file, where it is one of a record.
+fn refused_record(file: &[u8]) -> Option<String> {
+    let refusal = read_house_file(file).err().filter(|refusal| (3..=5).contains(&refusal.number));
+    refusal.map(|refusal| format!("refused {} {}\n", refusal.number, refusal.place))
+}
+
+/// The file with this number of roots in its head.
+fn root_counted(file: &[u8], count: u8) -> Vec<u8> {
+    [&file[..5], &[count], &file[6..]].concat()
+}
+
+/// The listing, with the roots that its first line names changed.
+fn with_roots(file: &[u8], change: impl FnOnce(&mut Vec<String>)) -> String {
+    let text = right(file);
+    let Some((nodes, behind)) = text.split_once(" root ") else { return text };
+    let (roots, behind) = behind.split_once(" rounds ").expect("the rounds behind the roots");
+    let mut roots = roots.split(' ').map(String::from).collect();
+    change(&mut roots);
+    format!("{nodes} root {} rounds {behind}", roots.join(" "))
 }
 
 /// The file with zeros in these bytes, where it has them.
@@ -41,9 +81,8 @@ fn zeroed(file: &[u8], from: usize, to: usize) -> Vec<u8> {
 
 /// Each word of the records with its bytes the other way round.
 fn reversed(file: &[u8]) -> Vec<u8> {
-    let mut file = file.to_vec();
-    let length = file.len();
-    for record in file[HEAD.min(length)..].chunks_mut(RECORD).filter(|r| r.len() == RECORD) {
+    let (mut file, first) = (file.to_vec(), first_record(file));
+    for record in file[first..].chunks_mut(RECORD).filter(|r| r.len() == RECORD) {
         record[1..9].reverse();
         record[9..].reverse();
     }
@@ -52,8 +91,9 @@ fn reversed(file: &[u8]) -> Vec<u8> {
 
 /// The given list instead of the normalised one.
 fn unnormalised(file: &[u8]) -> String {
-    let Ok((list, root)) = read_house_file(file) else { return right(file) };
-    let mut text = format!("nodes {} root {root} rounds 0\n", list.len());
+    let Ok((list, roots)) = read_house_file(file) else { return right(file) };
+    let roots = roots.iter().map(u64::to_string).collect::<Vec<_>>().join(" ");
+    let mut text = format!("nodes {} root {roots} rounds 0\n", list.len());
     for (place, [tag, first, second]) in list.iter().enumerate() {
         text += &format!("{place} {} {first} {second}\n", model::KINDS[*tag as usize]);
     }
@@ -68,17 +108,20 @@ const WRONG: &[Wrong] = &[
     ("a newline too many", |file| right(file) + "\n"),
     ("carriage returns", |file| right(file).replace('\n', "\r\n")),
     ("two spaces", |file| right(file).replace("refused ", "refused  ")),
-    ("a longer file is cut to the longest", |file| right(&file[..file.len().min(LONGEST_FILE)])),
+    ("a longer file is cut to the longest good one", |file| {
+        right(&file[..file.len().min(LONGEST_FILE)])
+    }),
+    ("a longer file is cut to the longest", |file| right(&file[..file.len().min(LONGEST_LENGTH)])),
     ("a longer file is cut to its count", |file| {
         right(&file[..asked(file).unwrap_or(0).clamp(file.len().min(HEAD), file.len())])
     }),
     ("half a record behind is not seen", |file| {
-        let surplus = file.len().saturating_sub(HEAD) % RECORD;
+        let surplus = (file.len() - first_record(file)) % RECORD;
         right(&file[..file.len() - surplus])
     }),
     ("a shorter file is filled up", |file| {
         let mut file = file.to_vec();
-        let length = asked(&file).filter(|asked| *asked <= LONGEST_FILE).unwrap_or(0);
+        let length = asked(&file).filter(|asked| *asked <= LONGEST_LENGTH).unwrap_or(0);
         file.resize(length.max(file.len()), 0);
         right(&file)
     }),
@@ -86,12 +129,24 @@ const WRONG: &[Wrong] = &[
         let right_length = asked(file).is_some_and(|asked| asked % 65_536 == file.len() % 65_536);
         right(if right_length { &file[..asked(file).unwrap().min(file.len())] } else { file })
     }),
-    ("any version", |file| match file {
+    ("any version is 1", |file| match file {
         [_, rest @ ..] => right(&[&[1], rest].concat()),
         [] => right(file),
     }),
-    ("the version before the length of the head", |file| match file.first() {
-        Some(version) if *version != 1 => refused(22),
+    ("any version but 1 is 2", |file| match file {
+        [version, rest @ ..] if *version != 1 => right(&[&[2], rest].concat()),
+        _ => right(file),
+    }),
+    ("version 2 is none", |file| match file.first() {
+        Some(2) if file.len() >= HEAD => refused(22),
+        _ => right(file),
+    }),
+    ("the version before the least length", |file| match file.first() {
+        Some(version) if !(1..=2).contains(version) => refused(22),
+        _ => right(file),
+    }),
+    ("a head of version 2 has 6 bytes", |file| match file {
+        [2, .., _] if (6..HEAD).contains(&file.len()) => refused(24),
         _ => right(file),
     }),
     ("the count before the version", |file| match count(file) {
@@ -99,45 +154,140 @@ const WRONG: &[Wrong] = &[
         _ => right(file),
     }),
     ("1,024 records are too many", |file| match count(file) {
-        Some(1_024) if file[0] == 1 => refused(23),
+        Some(1_024) if asked(file).is_some() => refused(23),
         _ => right(file),
     }),
     ("1,025 records are not too many", |file| match count(file) {
-        Some(1_025) if file[0] == 1 && asked(file) != Some(file.len()) => refused(24),
+        Some(1_025) if asked(file).is_some_and(|asked| asked != file.len()) => refused(24),
         _ => right(file),
     }),
     ("a count of 0 is the list check's 1", |file| match count(file) {
-        Some(0) if file[0] == 1 => refused(1),
+        Some(0) if asked(file).is_some() => refused(1),
         _ => right(file),
     }),
     ("the length before the count", |file| match asked(file) {
-        Some(asked) if file[0] == 1 && asked != file.len() => refused(24),
+        Some(asked) if asked != file.len() => refused(24),
         _ => right(file),
     }),
     ("the records before the length", |file| {
-        match read_house_file(&file[..asked(file).unwrap_or(0).min(file.len())]) {
-            Err(refusal) if (3..=5).contains(&refusal.number) => {
-                format!("refused {} {}\n", refusal.number, refusal.place)
-            }
-            _ => right(file),
-        }
+        let cut = &file[..asked(file).unwrap_or(0).min(file.len())];
+        refused_record(cut).unwrap_or_else(|| right(file))
     }),
-    ("the root before the records", |file| match read_house_file(&zeroed(file, 5, 9)) {
-        Err(refusal) if (3..=5).contains(&refusal.number) => {
+    ("the root before the records", |file| match refused_record(file) {
+        Some(_) if file[0] == 1 => {
             let root = u32::from_be_bytes(file[5..9].try_into().unwrap());
             if root as usize >= count(file).unwrap() { refused(6) } else { right(file) }
         }
         _ => right(file),
     }),
+    ("the number of roots before the length", |file| {
+        if roots_refused(file) { refused(46) } else { right(file) }
+    }),
+    ("the number of roots before the records", |file| match refused_record(file) {
+        Some(_) if roots_refused(file) => refused(46),
+        _ => right(file),
+    }),
+    ("the roots before their number", |file| {
+        let places = file.get(6..first_record(file)).unwrap_or(&[]).chunks(4);
+        let outside = |place: &[u8]| place.to_vec() >= file[1..5].to_vec();
+        let is_refused = right(file) == refused(46);
+        if is_refused && places.into_iter().any(outside) { refused(6) } else { right(file) }
+    }),
+    ("eight roots are too many", |file| match read_house_file(file) {
+        Ok((_, roots)) if roots.len() == MOST_ROOTS => refused(46),
+        _ => right(file),
+    }),
+    ("nine roots are not too many", |file| match root_count(file) {
+        Some(9) if right(file) == refused(46) => {
+            right(&[&root_counted(file, 8)[..38], &file[42..]].concat())
+        }
+        _ => right(file),
+    }),
+    ("no roots are one", |file| match root_count(file) {
+        Some(0) if right(file) == refused(46) => {
+            right(&[&root_counted(file, 1)[..6], &[0; 4], &file[6..]].concat())
+        }
+        _ => right(file),
+    }),
+    ("the number of roots by the length", |file| match root_count(file) {
+        Some(_) => {
+            let records = RECORD * count(file).expect("a count");
+            let roots = file.len().saturating_sub(6 + records) / 4;
+            right(&root_counted(file, roots as u8))
+        }
+        None => right(file),
+    }),
+    ("the number of records by the length", |file| match root_count(file) {
+        Some(_) => {
+            let records = (file.len() - first_record(file)) / RECORD;
+            right(&[&file[..1], &(records as u32).to_be_bytes(), &file[5..]].concat())
+        }
+        None => right(file),
+    }),
+    ("a number of roots of seven bits", |file| match root_count(file) {
+        Some(count) => right(&root_counted(file, count as u8 & 127)),
+        None => right(file),
+    }),
+    ("a number of roots of four bits", |file| match root_count(file) {
+        Some(count) => right(&root_counted(file, count as u8 & 15)),
+        None => right(file),
+    }),
+    ("the first root alone tested", |file| {
+        let (mut file, first) = (file.to_vec(), first_record(file));
+        let (count, roots) = (file.get(1..5).map(<[u8]>::to_vec), file.get_mut(10..first));
+        for root in roots.unwrap_or_default().chunks_mut(4) {
+            if count.as_ref().is_some_and(|count| root[..] >= count[..]) {
+                root.fill(0);
+            }
+        }
+        right(&file)
+    }),
+    ("roots from the other end", |file| {
+        let (mut file, first) = (file.to_vec(), first_record(file));
+        let roots = file.get_mut(6..first).unwrap_or_default();
+        roots.chunks_mut(4).for_each(<[u8]>::reverse);
+        right(&file)
+    }),
+    ("the length without the roots", |file| match root_count(file) {
+        Some(_) if count(file).is_some_and(|count| HEAD + RECORD * count != file.len()) => {
+            refused(24)
+        }
+        _ => right(file),
+    }),
+    ("the first root alone listed", |file| with_roots(file, |roots| roots.truncate(1))),
+    ("the last root alone listed", |file| {
+        with_roots(file, |roots| drop(roots.drain(..roots.len() - 1)))
+    }),
+    ("the roots listed from the last", |file| with_roots(file, |roots| roots.reverse())),
+    ("a place named twice listed once", |file| with_roots(file, |roots| roots.dedup())),
+    ("the roots as they were given", |file| match read_house_file(file) {
+        Ok((_, given)) => {
+            with_roots(file, |roots| *roots = given.iter().map(u64::to_string).collect())
+        }
+        Err(_) => right(file),
+    }),
     ("a count of two bytes", |file| right(&zeroed(file, 1, 3))),
     ("a count of three bytes", |file| right(&zeroed(file, 1, 2))),
-    ("a root of two bytes", |file| right(&zeroed(file, 5, 7))),
-    ("a root of three bytes", |file| right(&zeroed(file, 5, 6))),
+    ("a root of two bytes", |file| match file.first() {
+        Some(1) => right(&zeroed(file, 5, 7)),
+        _ => right(file),
+    }),
+    ("a root of three bytes", |file| match file.first() {
+        Some(1) => right(&zeroed(file, 5, 6)),
+        _ => right(file),
+    }),
+    ("a first root of two bytes in version 2", |file| match root_count(file) {
+        Some(1..) => right(&zeroed(file, 6, 8)),
+        _ => right(file),
+    }),
+    ("a second root of three bytes in version 2", |file| match root_count(file) {
+        Some(2..) => right(&zeroed(file, 10, 11)),
+        _ => right(file),
+    }),
     ("words from the other end", |file| right(&reversed(file))),
     ("a tag's low bits", |file| {
-        let mut file = file.to_vec();
-        let length = file.len();
-        for record in file[HEAD.min(length)..].chunks_mut(RECORD) {
+        let (mut file, first) = (file.to_vec(), first_record(file));
+        for record in file[first..].chunks_mut(RECORD) {
             record[0] &= 127;
         }
         right(&file)
@@ -183,13 +333,18 @@ fn every_wrong_program_is_told() {
 
 #[test]
 fn a_difference_is_a_case_to_send() {
-    let file = house_file(&[[0, 0, 0], [2, 0, 0]], 1);
+    let file = version_2(&[[0, 0, 0], [2, 0, 0]], &[1, 0]);
     let wrong = |file: &[u8], _| Ok(right(file).replace("add", "mul").into_bytes());
     let mut run = Listings::new(Some(Box::new(wrong)), 1);
     let difference = run.take(&file).expect("a difference");
     assert_eq!((run.cases, run.failed), (1, 1));
     assert_eq!(difference.file, Some(file));
-    for part in ["010000000200000001", "differ from line 3", "\"1 mul 0 0\"", "\"1 add 0 0\""] {
+    for part in [
+        "    0200000002020000000100000000\n",
+        "differ from line 3",
+        "\"1 mul 0 0\"",
+        "\"1 add 0 0\"",
+    ] {
         assert!(difference.whole.contains(part), "{part} is not in:\n{}", difference.whole);
     }
 }
@@ -247,7 +402,8 @@ fn a_program_that_is_run_is_heard_whole() {
     let program = Program::new(Path::new(env!("CARGO_BIN_EXE_differential")), &["list"]);
     let mut rng = Rng::new(3);
     let mut some: Vec<Vec<u8>> = (0..12).map(|_| random_file(&mut rng)).collect();
-    some.extend([vec![], vec![1; 1_000_000], house_file(&vec![[1, 0, 0]; 1_024], 1_023)]);
+    some.extend([vec![], vec![1; 1_000_000], version_1(&vec![[1, 0, 0]; 1_024], 1_023)]);
+    some.push(version_2(&vec![[1, 0, 0]; 1_024], &[1_023; 8]));
     for file in some {
         for delivery in Delivery::ALL {
             assert_eq!(program.list(&file, delivery), Ok(right(&file).into_bytes()));

@@ -56,6 +56,22 @@ fn a_section_has_cases_of_both_fields_and_of_none() {
 }
 
 #[test]
+fn a_section_has_cases_of_one_root_of_several_and_of_too_many() {
+    let rooted: Vec<_> = CHOSEN.iter().filter(|cases| cases[0].0.roots().is_some()).collect();
+    assert_eq!(rooted.len(), 4);
+    for cases in rooted {
+        let counts: Vec<usize> =
+            cases.iter().filter_map(|(case, _)| case.roots().map(<[u64]>::len)).collect();
+        let of = |range: std::ops::RangeInclusive<usize>| {
+            counts.iter().filter(|count| range.contains(count)).count()
+        };
+        let name = cases[0].0.call.signature().name;
+        assert!(of(1..=1) >= 75 && of(2..=8) >= 50 && of(8..=8) >= 5, "{name}");
+        assert!(of(0..=0) >= 2 && of(9..=usize::MAX) >= 2, "{name}");
+    }
+}
+
+#[test]
 fn a_recorded_case_has_room_in_replay() {
     for (case, _) in CHOSEN.iter().flatten() {
         for (store, words) in case.call.signature().stores.iter().zip(&case.stores) {

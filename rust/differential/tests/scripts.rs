@@ -82,7 +82,8 @@ fn a_file_is_listed() {
 #[test]
 fn a_refusal_has_its_reason() {
     let sandbox = Sandbox::new("refusal");
-    let said = "refused 24 0: the length is not 9 + 17 × count\n";
+    let said = "refused 24 0: the length is not 9 + 17 × records (version 2: 6 + 4 × roots + 17 × \
+                records)\n";
     assert_eq!(sandbox.shell("./normlist bad"), ("refused 24 0\n".into(), said.into(), 1));
     for number in REFUSALS {
         let (_, said, status) = sandbox.shell(&format!("echo {number} | ./normlist"));

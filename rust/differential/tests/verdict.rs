@@ -2,7 +2,7 @@
 
 use std::process::Command;
 
-use differential::compare::Comparison;
+use differential::compare::{AGAIN, ALONE, Comparison, ENTRIES, UNION, VALUES, WHOLE};
 use differential::report::{Missing, Summary};
 use model::{Call, Field};
 
@@ -17,14 +17,46 @@ fn an_absent_program_counts_as_failed() {
     assert_eq!(output.status.code(), Some(1));
 }
 
+/// What only calls with roots can meet.
+const OF_ROOTS: [&str; 14] = [
+    "refusal 46",
+    "1 root",
+    "2 roots",
+    "8 roots",
+    "roots at one place",
+    "46 for 0 roots",
+    "46 for 9 roots",
+    "46 for 257 roots",
+    "6 for n at each position",
+    "6 for 18446744073709551615 at each position",
+    "3 or 4 before 46",
+    "5 before 46",
+    "46 before 6",
+    "46 or 6 before the stores",
+];
+
 #[test]
 fn a_second_check_that_was_never_made_counts_as_failed() {
     for (call, field) in Call::ALL.into_iter().flat_map(|call| Field::ALL.map(|f| (call, f))) {
         let summary = Summary::of_call(&Comparison::new(call, field, 1, None));
-        let has = matches!(call, Call::Normalize | Call::Lower);
-        assert_eq!(summary.missing.contains(&Missing::Second), has, "{}", summary.name);
+        let never = |check| summary.missing.contains(&Missing::Second(check));
+        let checks = [AGAIN, WHOLE, VALUES, ALONE, UNION, ENTRIES].map(never);
+        let wanted = match call {
+            Call::Build => [false, false, true, false, false, false],
+            Call::Compact => [false, false, true, true, true, false],
+            Call::Normalize => [true, true, true, false, false, false],
+            Call::Lower => [false, false, false, false, false, true],
+            _ => [false; 6],
+        };
+        assert_eq!(checks, wanted, "{}", summary.name);
+        let unmet = |what: &str| summary.missing.contains(&Missing::Unmet(what.to_string()));
         for what in ["acceptance", "refusal 49", "49 before another refusal"] {
-            assert!(summary.missing.contains(&Missing::Unmet(what.to_string())), "{what}");
+            assert!(unmet(what), "{what}");
+        }
+        let has_roots =
+            matches!(call, Call::Build | Call::Compact | Call::Normalize | Call::Evaluate);
+        for what in OF_ROOTS {
+            assert_eq!(unmet(what), has_roots, "{}: {what}", summary.name);
         }
     }
 }

@@ -10,6 +10,7 @@ use crate::mutants::Mutant;
 use crate::refusal::{
     LIMIT, LOWER_WORK, Refusal, check_assignment, check_columns, check_list, check_record,
 };
+use crate::roots::{answered, listed, rooted};
 
 /// The values that an accepted call answers, and its writable stores afterwards.
 struct Accepted {
@@ -74,10 +75,10 @@ fn field(case: &Case, judge: &mut dyn Judge) -> Result<Field, Refusal> {
     Err(opening.filter(|_| judge.has(Mutant::FieldLate)).unwrap_or(Refusal::new(49)))
 }
 
-/// The call's list, where it passes the list check.
+/// The call's list, where it passes the list check with the roots that the call has.
 fn list(case: &Case, field: Field) -> Result<Vec<Record>, Refusal> {
     let n = case.number("n").expect("a call on a list");
-    check_list(field, &case.stores[0], n, case.number("root"))
+    check_list(field, &case.stores[0], n, case.roots())
 }
 
 /// The call's columns, where Prepare's tests let them pass; Lower has a list before them.
@@ -99,6 +100,11 @@ fn enough(stores: &[(&Vec<u64>, usize)]) -> Result<(), Refusal> {
         return Err(Refusal::new(2));
     }
     Ok(())
+}
+
+/// The records that a list can have at most, of the call's number.
+fn lent_records(case: &Case) -> usize {
+    case.number("n").expect("a call on a list").min(LIMIT) as usize
 }
 
 fn step(case: &Case, field: Field, judge: &mut dyn Judge) -> Result<Accepted, Refused> {
@@ -127,55 +133,56 @@ fn step(case: &Case, field: Field, judge: &mut dyn Judge) -> Result<Accepted, Re
 }
 
 fn build(case: &Case, field: Field, judge: &mut dyn Judge) -> Result<Accepted, Refused> {
-    let [_, _, root] = case.scalars[..] else { panic!("three numbers") };
-    let [_, result, map] = &case.stores[..] else { panic!("three stores") };
-    let requests = list(case, field)?;
-    enough(&[(result, 3 * requests.len()), (map, requests.len())])?;
+    let [_, _, result, map] = &case.stores[..] else { panic!("four stores") };
+    let n = lent_records(case);
+    let enough = enough(&[(result, 3 * n), (map, n)]);
+    let (requests, roots, ()) = rooted(case, field, enough, judge)?;
     let (built, places) = judge.build(&requests);
+    let new_roots = roots.iter().map(|&root| places[root as usize]).collect();
     Ok(Accepted {
-        values: vec![built.len() as u64, places[root as usize]],
+        values: listed(built.len(), 0, &roots, new_roots, judge),
         after: vec![filled(result.len(), built.as_flattened()), filled(map.len(), &places)],
     })
 }
 
 fn compact(case: &Case, field: Field, judge: &mut dyn Judge) -> Result<Accepted, Refused> {
-    let [_, _, root] = case.scalars[..] else { panic!("three numbers") };
-    let [_, result] = &case.stores[..] else { panic!("two stores") };
-    let records = list(case, field)?;
-    enough(&[(result, 3 * records.len())])?;
-    let (kept, root) = judge.compact(&records, root);
+    let [_, _, result] = &case.stores[..] else { panic!("three stores") };
+    let enough = enough(&[(result, 3 * lent_records(case))]);
+    let (records, roots, ()) = rooted(case, field, enough, judge)?;
+    let (kept, new_roots) = judge.compact(&records, &roots);
     Ok(Accepted {
-        values: vec![kept.len() as u64, root],
+        values: listed(kept.len(), 0, &roots, new_roots, judge),
         after: vec![filled(result.len(), kept.as_flattened())],
     })
 }
 
 fn normalize(case: &Case, field: Field, judge: &mut dyn Judge) -> Result<Accepted, Refused> {
-    let [_, _, root] = case.scalars[..] else { panic!("three numbers") };
-    let [_, result, work] = &case.stores[..] else { panic!("three stores") };
-    let records = list(case, field)?;
-    enough(&[(result, 3 * records.len()), (work, 6 * records.len())])?;
-    let (normal, root, rounds) = judge.normalize(&records, root);
+    let [_, _, result, work] = &case.stores[..] else { panic!("four stores") };
+    let n = lent_records(case);
+    let enough = enough(&[(result, 3 * n), (work, 6 * n)]);
+    let (records, roots, ()) = rooted(case, field, enough, judge)?;
+    let (normal, new_roots, rounds) = judge.normalize(&records, &roots);
     Ok(Accepted {
-        values: vec![normal.len() as u64, root, rounds],
+        values: listed(normal.len(), rounds, &roots, new_roots, judge),
         after: vec![filled(result.len(), normal.as_flattened()), filled(work.len(), &[])],
     })
 }
 
 fn evaluate(case: &Case, field: Field, judge: &mut dyn Judge) -> Result<Accepted, Refused> {
-    let [_, _, root, m] = case.scalars[..] else { panic!("four numbers") };
-    let records = list(case, field)?;
-    let entries = check_assignment(field, &case.stores[1], m)?;
+    let [_, _, m] = case.scalars[..] else { panic!("three numbers") };
+    let entries = check_assignment(field, &case.stores[2], m);
+    let (records, roots, entries) = rooted(case, field, entries, judge)?;
     let unassigned =
         |record: &Record| record[0] == 0 && entries.iter().all(|entry| entry[0] != record[1]);
     if let Some(place) = records.iter().position(unassigned) {
-        if !reached(&records, root)[place] {
+        if !reached(&records, &roots)[place] {
             judge.note(Event::UnreachableInput);
         }
         return Err(Refusal::at(12, place).into());
     }
-    let [c0, c1] = judge.evaluate(&records, root, &entries);
-    Ok(Accepted { values: vec![c0, c1], after: vec![] })
+    let values = judge.evaluate(&records, &roots, &entries);
+    let values = answered(&roots, values, judge);
+    Ok(Accepted { values: values.concat(), after: vec![] })
 }
 
 fn prepare(case: &Case, field: Field, judge: &mut dyn Judge) -> Result<Accepted, Refused> {

@@ -2,6 +2,8 @@
 
 use std::fmt::Write;
 
+use crate::refusal::MOST_ROOTS;
+
 /// Tag, first word, second word; or key number, c0, c1.
 pub type Record = [u64; 3];
 
@@ -43,14 +45,16 @@ pub struct Signature {
 }
 
 const LIST: Store = Store("list", false);
+const ROOTS: Store = Store("roots", false);
 const RESULT: Store = Store("result", true);
 const WORK: Store = Store("work", true);
 const LENGTHS: Store = Store("lengths", false);
 const ENTRIES: Store = Store("entries", false);
 
-/// The numbers and the refusals of a call on a list with a root.
-const ROOTED: &[&str] = &["field", "n", "root"];
-const ROOTED_REFUSALS: &[u64] = &[1, 2, 3, 4, 5, 6, 49];
+/// The numbers, the answer words and the refusals of a call that answers a list with its roots.
+const ROOTED: &[&str] = &["field", "n"];
+const ROOTED_ANSWER: usize = 3 + MOST_ROOTS;
+const ROOTED_REFUSALS: &[u64] = &[1, 2, 3, 4, 5, 6, 46, 49];
 
 /// The calls' signatures, in the order of `Call`.
 static SIGNATURES: [Signature; 7] = [
@@ -64,30 +68,30 @@ static SIGNATURES: [Signature; 7] = [
     Signature {
         name: "build",
         scalars: ROOTED,
-        stores: &[LIST, RESULT, Store("map", true)],
-        answer: 4,
+        stores: &[LIST, ROOTS, RESULT, Store("map", true)],
+        answer: ROOTED_ANSWER,
         refusals: ROOTED_REFUSALS,
     },
     Signature {
         name: "compact",
         scalars: ROOTED,
-        stores: &[LIST, RESULT],
-        answer: 4,
+        stores: &[LIST, ROOTS, RESULT],
+        answer: ROOTED_ANSWER,
         refusals: ROOTED_REFUSALS,
     },
     Signature {
         name: "normalize",
         scalars: ROOTED,
-        stores: &[LIST, RESULT, WORK],
-        answer: 4,
+        stores: &[LIST, ROOTS, RESULT, WORK],
+        answer: ROOTED_ANSWER,
         refusals: ROOTED_REFUSALS,
     },
     Signature {
         name: "evaluate",
-        scalars: &["field", "n", "root", "m"],
-        stores: &[LIST, Store("assignment", false)],
-        answer: 4,
-        refusals: &[1, 2, 3, 4, 5, 6, 11, 12, 49],
+        scalars: &["field", "n", "m"],
+        stores: &[LIST, ROOTS, Store("assignment", false)],
+        answer: 1 + 2 * MOST_ROOTS,
+        refusals: &[1, 2, 3, 4, 5, 6, 11, 12, 46, 49],
     },
     Signature {
         name: "prepare",
@@ -139,6 +143,12 @@ impl Case {
     pub fn number(&self, name: &str) -> Option<u64> {
         let mut names = self.call.signature().scalars.iter();
         names.position(|&scalar| scalar == name).map(|place| self.scalars[place])
+    }
+
+    /// The roots, where the call takes some.
+    pub fn roots(&self) -> Option<&[u64]> {
+        let mut stores = self.call.signature().stores.iter();
+        stores.position(|store| store.0 == "roots").map(|place| &self.stores[place][..])
     }
 
     /// The stores that the call may write, as lent.

@@ -21,14 +21,14 @@ pub trait Judge {
     /// The list built from requests, and each request's place.
     fn build(&mut self, requests: &[Record]) -> (Vec<Record>, Vec<u64>);
 
-    /// The compacted list and its root.
-    fn compact(&mut self, list: &[Record], root: u64) -> (Vec<Record>, u64);
+    /// The compacted list and its roots.
+    fn compact(&mut self, list: &[Record], roots: &[u64]) -> (Vec<Record>, Vec<u64>);
 
-    /// The normalised list, its root and the rounds kept.
-    fn normalize(&mut self, list: &[Record], root: u64) -> (Vec<Record>, u64, u64);
+    /// The normalised list, its roots and the rounds kept.
+    fn normalize(&mut self, list: &[Record], roots: &[u64]) -> (Vec<Record>, Vec<u64>, u64);
 
-    /// The root's value; every input of the list has an entry.
-    fn evaluate(&mut self, list: &[Record], root: u64, assignment: &[Record]) -> Pair;
+    /// The roots' values; every input of the list has an entry.
+    fn evaluate(&mut self, list: &[Record], roots: &[u64], assignment: &[Record]) -> Vec<Pair>;
 
     /// Each column's form: 0 sparse, 1 dense, 2 basis.
     fn forms(&mut self, columns: &[Vec<u64>]) -> Vec<u64>;
@@ -91,16 +91,16 @@ impl Judge for Paper {
         crate::steps::build(self, requests)
     }
 
-    fn compact(&mut self, list: &[Record], root: u64) -> (Vec<Record>, u64) {
-        crate::lists::compact(self, list, root)
+    fn compact(&mut self, list: &[Record], roots: &[u64]) -> (Vec<Record>, Vec<u64>) {
+        crate::lists::compact(self, list, roots)
     }
 
-    fn normalize(&mut self, list: &[Record], root: u64) -> (Vec<Record>, u64, u64) {
-        crate::normalize::normalize(self, list, root)
+    fn normalize(&mut self, list: &[Record], roots: &[u64]) -> (Vec<Record>, Vec<u64>, u64) {
+        crate::normalize::normalize(self, list, roots)
     }
 
-    fn evaluate(&mut self, list: &[Record], root: u64, assignment: &[Record]) -> Pair {
-        crate::lists::evaluate(self, list, root, assignment)
+    fn evaluate(&mut self, list: &[Record], roots: &[u64], assignment: &[Record]) -> Vec<Pair> {
+        crate::lists::evaluate(self, list, roots, assignment)
     }
 
     fn forms(&mut self, columns: &[Vec<u64>]) -> Vec<u64> {

@@ -18,6 +18,7 @@ mod lists;
 mod mutants;
 mod normalize;
 mod refusal;
+mod roots;
 mod steps;
 
 pub use calls::expected;
@@ -26,15 +27,18 @@ pub use columns::{basis_cost, overhead, saving, standalone_cost};
 pub use events::{Event, Tally};
 pub use field::Field;
 pub use house_file::{
-    FILE_LIMIT, HEAD, KINDS, RECORD, VERSION, house_file, listing, read_house_file,
+    BEFORE_ROOTS, FILE_LIMIT, HEAD, KINDS, RECORD, ROOT, before_records, file_length, listing,
+    read_house_file, version_1, version_2,
 };
 pub use judge::{Judge, Paper};
 pub use keys::{FIELDS, ZK, is_key};
-pub use lists::values;
+pub use lists::{reached, values};
 pub use mutants::Mutant;
 pub use refusal::{
-    COLUMNS, ENTRIES, LIMIT, LONGEST, LOWER_WORK, Refusal, check_columns, check_list, check_record,
+    COLUMNS, ENTRIES, LIMIT, LONGEST, LOWER_WORK, MOST_ROOTS, Refusal, check_columns, check_list,
+    check_record,
 };
+pub use roots::coincide;
 
 /// The word behind what a call has filled.
 pub const BLANK: u64 = 0;

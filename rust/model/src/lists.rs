@@ -1,4 +1,4 @@
-//! What a root reaches, compaction, and the values of a list.
+//! What roots reach, compaction, and the values of a list.
 
 use std::collections::HashMap;
 
@@ -17,10 +17,10 @@ pub(crate) fn operands([tag, first, second]: Record) -> Vec<u64> {
     }
 }
 
-/// Marks of the records that the root reaches.
-pub(crate) fn reached(list: &[Record], root: u64) -> Vec<bool> {
+/// Marks of the records that a root reaches.
+pub fn reached(list: &[Record], roots: &[u64]) -> Vec<bool> {
     let mut marks = vec![false; list.len()];
-    marks[root as usize] = true;
+    roots.iter().for_each(|&root| marks[root as usize] = true);
     for place in (0..list.len()).rev() {
         if marks[place] {
             for operand in operands(list[place]) {
@@ -31,9 +31,14 @@ pub(crate) fn reached(list: &[Record], root: u64) -> Vec<bool> {
     marks
 }
 
-/// The reachable records in order, with their operands and the root renamed.
-pub(crate) fn compact(paper: &mut Paper, list: &[Record], root: u64) -> (Vec<Record>, u64) {
-    let marks = reached(list, root);
+/// The reachable records in order, with their operands and the roots renamed.
+pub(crate) fn compact(
+    paper: &mut Paper,
+    list: &[Record],
+    roots: &[u64],
+) -> (Vec<Record>, Vec<u64>) {
+    let marked = if paper.is(Mutant::FirstRootMarked) { &roots[..1] } else { roots };
+    let marks = reached(list, marked);
     let mut renamed = vec![0; list.len()];
     let mut kept: Vec<Record> = Vec::new();
     let mut seen: HashMap<Record, u64> = HashMap::new();
@@ -61,8 +66,9 @@ pub(crate) fn compact(paper: &mut Paper, list: &[Record], root: u64) -> (Vec<Rec
     if duplicates {
         paper.met(DuplicatesKept);
     }
-    let new_root = if paper.is(Mutant::NoRename) { root } else { renamed[root as usize] };
-    (kept, new_root)
+    let rename =
+        |&root: &u64| if paper.is(Mutant::NoRename) { root } else { renamed[root as usize] };
+    (kept, roots.iter().map(rename).collect())
 }
 
 /// The value of every record: an input's is its key's element.
@@ -82,13 +88,13 @@ pub fn values(field: Field, list: &[Record], element: impl Fn(u64) -> Pair) -> V
     values
 }
 
-/// The root's value under an assignment; a key's last entry counts.
+/// The roots' values under an assignment; a key's last entry counts.
 pub(crate) fn evaluate(
     paper: &mut Paper,
     list: &[Record],
-    root: u64,
+    roots: &[u64],
     assignment: &[Record],
-) -> Pair {
+) -> Vec<Pair> {
     let mut elements: HashMap<u64, Pair> = HashMap::new();
     let mut repeated = false;
     for &[key, c0, c1] in assignment {
@@ -99,5 +105,6 @@ pub(crate) fn evaluate(
     if repeated {
         paper.met(RepeatedKey);
     }
-    values(paper.field, list, |key| elements[&key])[root as usize]
+    let values = values(paper.field, list, |key| elements[&key]);
+    roots.iter().map(|&root| values[root as usize]).collect()
 }

@@ -1,7 +1,8 @@
 //! Definitions made wrong on purpose, each of which a comparison has to tell from the right one.
 //!
 //! No list tells these from the right ones: b's second operand before its first for one factor
-//! of a, the second operand of a rotation tried first as the inner one, rotation before factor.
+//! of a, the second operand of a rotation tried first as the inner one, rotation before factor, a
+//! place that several roots name counted once in the fanout.
 
 use crate::case::Call;
 use crate::field::{Field, P};
@@ -38,7 +39,23 @@ mutants! {
     Unordered = "operands left in the order asked",
     DoubleNegation = "neg of neg taken away",
     DuplicatesDropped = "compaction drops duplicates",
-    NoRename = "compaction keeps the old root",
+    NoRename = "compaction keeps the old roots",
+    FirstRootMarked = "the first root's records kept alone",
+    RootsReversed = "the roots answered from the last",
+    LastRootForAll = "the last root answered for all",
+    EqualOnce = "equal answers of neighbouring roots given once",
+    Padded = "the last root's answer repeated up to eight",
+    RoundsLast = "the rounds kept answered behind the roots",
+    FirstRootTested = "the first root alone tested",
+    NarrowRoots = "a root's low 32 bits tested",
+    EightRefused = "eight roots refused",
+    NineTaken = "the ninth root passed over",
+    NoneTaken = "the first place taken for no roots",
+    RootsByte = "the number of roots cut to a byte",
+    RootsAtOnce = "the number of roots tested before the list",
+    RootsEarly = "the number of roots tested before the records",
+    RootsLate = "the number of roots tested after them",
+    StoresFirst = "the roots tested behind the stores",
     FirstEntry = "the first entry of a key counts",
     LeastRotation = "a rotation takes the least equal place",
     AnyRotation = "a rotation takes a later record",
@@ -49,7 +66,8 @@ mutants! {
     NotShorter = "a round kept that is no shorter",
     WithoutRewrite = "a round kept without a rewrite",
     OneRound = "one round only",
-    NoRootMention = "the root not counted in the fanout",
+    NoRootMention = "no root counted in the fanout",
+    FirstRootMention = "the first root alone counted in the fanout",
     ReachableFanout = "fanout from reachable records only",
     CompactedReturn = "the last list returned compacted",
     UnreachableSkipped = "unreachable records not rewritten",
@@ -80,6 +98,9 @@ mutants! {
 const ON_LISTS: &[Call] =
     &[Call::Step, Call::Build, Call::Compact, Call::Normalize, Call::Evaluate, Call::Lower];
 
+/// The calls with roots.
+const ROOTED: &[Call] = &[Call::Build, Call::Compact, Call::Normalize, Call::Evaluate];
+
 /// The calls that compute in their field.
 const COMPUTING: &[Call] =
     &[Call::Step, Call::Build, Call::Normalize, Call::Evaluate, Call::Prepare, Call::Lower];
@@ -98,6 +119,11 @@ impl Mutant {
             | Unordered
             | DoubleNegation => &[Call::Step, Call::Build],
             DuplicatesDropped | NoRename => &[Call::Compact],
+            FirstRootMarked => &[Call::Compact, Call::Normalize],
+            RootsReversed | LastRootForAll | EqualOnce | Padded | FirstRootTested | NarrowRoots
+            | EightRefused | NineTaken | NoneTaken | RootsByte | RootsAtOnce | RootsEarly
+            | RootsLate | StoresFirst => ROOTED,
+            RoundsLast => &[Call::Build, Call::Compact, Call::Normalize],
             FirstEntry => &[Call::Evaluate],
             SixForSeven => &[Call::Step, Call::Build, Call::Evaluate],
             FieldLate | ModulusTaken => &Call::ALL,
@@ -111,7 +137,9 @@ impl Mutant {
             | SparseOnTie => &[Call::Prepare, Call::Lower],
             LeastRotation | AnyRotation | SecondFactorFirst | FactorsByB | SecondCandidateFirst
             | SwappedDifference | NotShorter | WithoutRewrite | OneRound | NoRootMention
-            | ReachableFanout | CompactedReturn | UnreachableSkipped => &[Call::Normalize],
+            | FirstRootMention | ReachableFanout | CompactedReturn | UnreachableSkipped => {
+                &[Call::Normalize]
+            }
         }
     }
     /// Whether answers over this field show the mistake.

@@ -22,20 +22,24 @@ const ROTATIONS: [[[Event; 2]; 2]; 2] = [
     [[RotateMul00, RotateMul01], [RotateMul10, RotateMul11]],
 ];
 
-/// The normalised list, its root and the rounds kept.
-pub(crate) fn normalize(paper: &mut Paper, list: &[Record], root: u64) -> (Vec<Record>, u64, u64) {
-    let (mut list, mut root, mut rounds) = (list.to_vec(), root, 0);
+/// The normalised list, its roots and the rounds kept.
+pub(crate) fn normalize(
+    paper: &mut Paper,
+    list: &[Record],
+    roots: &[u64],
+) -> (Vec<Record>, Vec<u64>, u64) {
+    let (mut list, mut roots, mut rounds) = (list.to_vec(), roots.to_vec(), 0);
     let most = if paper.is(Mutant::OneRound) { 1 } else { 2 * list.len() as u64 };
     while rounds < most {
-        let (fired, replayed, replayed_root) = replay(paper, &list, root);
-        let (shorter, new_root) = compact(paper, &replayed, replayed_root);
+        let (fired, replayed, replayed_roots) = replay(paper, &list, &roots);
+        let (shorter, new_roots) = compact(paper, &replayed, &replayed_roots);
         if !keeps(paper, fired, shorter.len(), list.len()) {
             break;
         }
-        (list, root, rounds) = (shorter, new_root, rounds + 1);
+        (list, roots, rounds) = (shorter, new_roots, rounds + 1);
     }
     if paper.is(Mutant::CompactedReturn) {
-        (list, root) = compact(paper, &list, root);
+        (list, roots) = compact(paper, &list, &roots);
     }
     if rounds >= 2 {
         paper.met(TwoRounds);
@@ -43,7 +47,7 @@ pub(crate) fn normalize(paper: &mut Paper, list: &[Record], root: u64) -> (Vec<R
     if rounds >= 300 {
         paper.met(ManyRounds);
     }
-    (list, root, rounds)
+    (list, roots, rounds)
 }
 
 /// Whether a round is kept: a rewrite fired, and the compacted list is strictly shorter.
@@ -58,9 +62,9 @@ fn keeps(paper: &mut Paper, fired: bool, after: usize, before: usize) -> bool {
     (fired || paper.is(Mutant::WithoutRewrite)) && shorter
 }
 
-/// How often each record is mentioned, by any record and as the root.
-fn fanout(paper: &Paper, list: &[Record], root: u64) -> Vec<u64> {
-    let marks = paper.is(Mutant::ReachableFanout).then(|| reached(list, root));
+/// How often each record is mentioned, by any record and as a root.
+fn fanout(paper: &Paper, list: &[Record], roots: &[u64]) -> Vec<u64> {
+    let marks = paper.is(Mutant::ReachableFanout).then(|| reached(list, roots));
     let mut mentions = vec![0; list.len()];
     for (place, &record) in list.iter().enumerate() {
         if marks.as_ref().is_some_and(|marks| !marks[place]) {
@@ -70,9 +74,12 @@ fn fanout(paper: &Paper, list: &[Record], root: u64) -> Vec<u64> {
             mentions[operand as usize] += 1;
         }
     }
-    if !paper.is(Mutant::NoRootMention) {
-        mentions[root as usize] += 1;
-    }
+    let counted = match paper.mutant {
+        Some(Mutant::NoRootMention) => 0,
+        Some(Mutant::FirstRootMention) => 1,
+        _ => roots.len(),
+    };
+    roots[..counted.min(roots.len())].iter().for_each(|&root| mentions[root as usize] += 1);
     mentions
 }
 
@@ -80,6 +87,8 @@ fn fanout(paper: &Paper, list: &[Record], root: u64) -> Vec<u64> {
 struct Round<'a> {
     list: &'a [Record],
     fanout: Vec<u64>,
+    /// The fanout without the roots behind the first.
+    first_fanout: Vec<u64>,
     places: HashMap<Record, [u64; 2]>,
 }
 
@@ -91,10 +100,11 @@ enum Rewrite {
     Rotation(u64, u64),
 }
 
-/// The records replayed into an empty builder: whether a rewrite fired, the list, its root.
-fn replay(paper: &mut Paper, list: &[Record], root: u64) -> (bool, Vec<Record>, u64) {
-    let round = Round { list, fanout: fanout(paper, list, root), places: ends(list) };
-    let reachable = reached(list, root);
+/// The records replayed into an empty builder: whether a rewrite fired, the list, its roots.
+fn replay(paper: &mut Paper, list: &[Record], roots: &[u64]) -> (bool, Vec<Record>, Vec<u64>) {
+    let (all, first) = (fanout(paper, list, roots), fanout(paper, list, &roots[..1]));
+    let round = Round { list, fanout: all, first_fanout: first, places: ends(list) };
+    let reachable = reached(list, roots);
     let mut builder = Builder::over(paper, &[]);
     let mut mapped: Vec<u64> = Vec::with_capacity(list.len());
     let mut fired = false;
@@ -111,7 +121,7 @@ fn replay(paper: &mut Paper, list: &[Record], root: u64) -> (bool, Vec<Record>, 
     if replayed.len() as u64 > LIMIT {
         paper.met(LongRound);
     }
-    (fired, replayed, mapped[root as usize])
+    (fired, replayed, roots.iter().map(|&root| mapped[root as usize]).collect())
 }
 
 /// The place of a record, or of what it is rewritten to, in the round's new list.
@@ -149,8 +159,7 @@ impl Round<'_> {
     /// A factor that two muls of fanout 1 share.
     fn factor(&self, paper: &mut Paper, tag: u64, a: u64, b: u64) -> Option<Rewrite> {
         let (one, other) = (self.list[a as usize], self.list[b as usize]);
-        let single = |place: u64| self.fanout[place as usize] == 1;
-        if one[0] != 4 || other[0] != 4 || !single(a) || !single(b) {
+        if one[0] != 4 || other[0] != 4 {
             return None;
         }
         let tried = match paper.mutant {
@@ -159,6 +168,14 @@ impl Round<'_> {
             _ => [(0, 0), (0, 1), (1, 0), (1, 1)],
         };
         let (i, j) = tried.into_iter().find(|&(i, j)| one[1 + i] == other[1 + j])?;
+        let [single, single_at_first] = [&self.fanout, &self.first_fanout]
+            .map(|fanout| fanout[a as usize] == 1 && fanout[b as usize] == 1);
+        if !single {
+            if single_at_first {
+                paper.met(LaterRootForbids);
+            }
+            return None;
+        }
         paper.met(FACTORS[tag as usize - 2][i][j]);
         Some(Rewrite::Factor(one[1 + i], one[2 - i], other[2 - j]))
     }
@@ -168,7 +185,9 @@ impl Round<'_> {
         let [tag, a, b] = self.list[place as usize];
         for (side, inner, other) in [(0, a, b), (1, b, a)] {
             let [inner_tag, x, y] = self.list[inner as usize];
-            if inner_tag != tag || self.fanout[inner as usize] != 1 {
+            let [single, single_at_first] =
+                [&self.fanout, &self.first_fanout].map(|fanout| fanout[inner as usize] == 1);
+            if inner_tag != tag || !(single || single_at_first) {
                 continue;
             }
             let mut candidates = [(0, x, y), (1, y, x)];
@@ -176,9 +195,13 @@ impl Round<'_> {
                 candidates.reverse();
             }
             for (which, taken, rest) in candidates {
-                if let Some(existing) = self.before(paper, tag, taken, other, place) {
-                    paper.met(ROTATIONS[usize::from(tag == 4)][side][which]);
-                    return Some(Rewrite::Rotation(existing, rest));
+                match self.before(paper, tag, taken, other, place) {
+                    Some(existing) if single => {
+                        paper.met(ROTATIONS[usize::from(tag == 4)][side][which]);
+                        return Some(Rewrite::Rotation(existing, rest));
+                    }
+                    Some(_) => paper.met(LaterRootHolds),
+                    None => {}
                 }
             }
         }

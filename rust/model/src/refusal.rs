@@ -7,6 +7,9 @@ use crate::keys::is_key;
 /// The most records of a list.
 pub const LIMIT: u64 = 4_096;
 
+/// The most roots of a list.
+pub const MOST_ROOTS: usize = 8;
+
 /// The most entries of an assignment.
 pub const ENTRIES: u64 = 4_096;
 
@@ -62,14 +65,19 @@ pub fn check_record(field: Field, [tag, first, second]: Record, place: u64) -> O
     }
 }
 
-/// The records of a list that passes the check; one without a root may be empty.
+/// Whether a list may have so many roots.
+pub(crate) fn is_root_count(count: usize) -> bool {
+    (1..=MOST_ROOTS).contains(&count)
+}
+
+/// The records of a list that passes the check; one without roots may be empty.
 pub fn check_list(
     field: Field,
     store: &[u64],
     n: u64,
-    root: Option<u64>,
+    roots: Option<&[u64]>,
 ) -> Result<Vec<Record>, Refusal> {
-    if (n == 0 && root.is_some()) || n > LIMIT {
+    if (n == 0 && roots.is_some()) || n > LIMIT {
         return Err(Refusal::new(1));
     }
     if (store.len() as u64) < 3 * n {
@@ -81,7 +89,10 @@ pub fn check_list(
             return Err(Refusal::at(number, place));
         }
     }
-    if root.is_some_and(|root| root >= n) {
+    if roots.is_some_and(|roots| !is_root_count(roots.len())) {
+        return Err(Refusal::new(46));
+    }
+    if roots.is_some_and(|roots| roots.iter().any(|&root| root >= n)) {
         return Err(Refusal::new(6));
     }
     Ok(list)

@@ -92,7 +92,7 @@ fn of_exported(kind: &str) -> &'static str {
     match kind {
         "&[u64]" => "const uint64_t *, size_t",
         "&mut [u64]" => "uint64_t *, size_t",
-        "&mut [u64; 4]" | "&mut [u64; 18]" => "uint64_t *",
+        answer if answer.starts_with("&mut [u64; ") => "uint64_t *",
         "usize" | "u64" => "uint64_t",
         _ => panic!("no C type for {kind}"),
     }
@@ -137,11 +137,44 @@ fn the_header_declares_what_the_rust_calls() {
     assert_eq!(complaint("rust.c", &assertions(&called, of_rust), &["-std=c99"]), "");
 }
 
+/// The functions that the archive exports.
+fn exported() -> Vec<Function> {
+    functions(&text("crates/ace_c/src/lib.rt"), "pub extern \"C\" fn ace_")
+}
+
 #[test]
 fn the_header_declares_what_is_exported() {
-    let exported = functions(&text("crates/ace_c/src/lib.rt"), "pub extern \"C\" fn ace_");
+    let exported = exported();
     assert!(are_exported(&exported));
     assert_eq!(complaint("exported.c", &assertions(&exported, of_exported), &["-std=c99"]), "");
+}
+
+/// The name that the header gives the number of words that a function answers.
+fn width(function: &str) -> &'static str {
+    match function {
+        "ace_build" | "ace_compact" | "ace_normalize" => "LIST_WORDS",
+        "ace_evaluate" => "EVALUATE_WORDS",
+        "ace_prepare" => "PREPARE_WORDS",
+        _ => "ANSWER_WORDS",
+    }
+}
+
+#[test]
+fn the_header_says_how_many_words_are_answered() {
+    let (header, defined) = (text("include/ace.h"), numbers::defined());
+    let mut answers = 0;
+    for Function { name, types, .. } in exported() {
+        let Some(words) = types.last().and_then(|kind| kind.strip_prefix("&mut [u64; ")) else {
+            continue;
+        };
+        let words = words.trim_end_matches(']');
+        let behind = header.split(&format!("void {name}(")).nth(1).expect("a declaration");
+        let parameters = behind.split(')').next().expect("parameters");
+        assert!(parameters.ends_with(&format!("*answer /* {words} words */")), "{name}");
+        assert_eq!(defined[width(&name)].to_string(), words, "{name}");
+        answers += 1;
+    }
+    assert_eq!(answers, EXPORTED.len() - 1);
 }
 
 #[test]
@@ -161,9 +194,9 @@ fn a_wrong_signature_does_not_compile() {
     }
 }
 
-/// What examples/c/normalise.c prints: document 01's listing, then the rest.
+/// What examples/c/normalise.c prints: the listing of document 01's example, with a root more, then the rest.
 const PRINTED: &str = "\
-nodes 5 root 4 rounds 1
+nodes 5 root 4 0 rounds 1
 0 in 0 0
 1 in 1 0
 2 in 2 0

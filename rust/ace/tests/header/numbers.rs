@@ -31,9 +31,14 @@ fn inputs(n: u64) -> Vec<u64> {
 }
 
 /// What Compact answers in field 1, with a result store that is long enough.
-fn compacted(list: &[u64], n: u64, root: u64) -> Vec<u64> {
+fn compacted(list: &[u64], n: u64, roots: &[u64]) -> Vec<u64> {
     let mut result = vec![9; list.len()];
-    answered(|answer| words::compact(1, list, n, root, &mut result, answer))
+    answered(|answer| words::compact(1, list, n, roots, &mut result, answer))
+}
+
+/// What Compact answers to so many roots.
+fn rooted(roots: u64) -> Vec<u64> {
+    compacted(&[0, 0, 0], 1, &vec![0; roots as usize])
 }
 
 /// What Step answers to an input or a constant on an empty list.
@@ -44,7 +49,7 @@ fn stepped(field: u64, room: usize, tag: u64, first: u64) -> Vec<u64> {
 
 /// What Evaluate answers in field 1.
 fn evaluated(list: &[u64], n: u64, assignment: &[u64], m: u64) -> Vec<u64> {
-    answered(|answer| words::evaluate(1, list, n, 0, assignment, m, answer))
+    answered(|answer| words::evaluate(1, list, n, &[0], assignment, m, answer))
 }
 
 /// What Prepare answers to columns of zeros in field 1.
@@ -66,12 +71,13 @@ fn lowered(field: u64, period: u64, work: u64) -> (Vec<u64>, Vec<u64>) {
 /// Each refusal's name in the header, and the answer of a call that is driven to it.
 fn refusals() -> Vec<(&'static str, Vec<u64>, u64)> {
     vec![
-        ("COUNT", compacted(&[], 0, 0), 0),
-        ("STORE", compacted(&[0, 0], 1, 0), 0),
-        ("TAG", compacted(&[0, 0, 0, 6, 0, 0], 2, 0), 1),
-        ("WORD", compacted(&[0, 0, 0, 0, 0, 1], 2, 0), 1),
-        ("OPERAND", compacted(&[0, 0, 0, 5, 1, 0], 2, 0), 1),
-        ("ROOT", compacted(&[0, 0, 0], 1, 1), 0),
+        ("COUNT", compacted(&[], 0, &[0]), 0),
+        ("STORE", compacted(&[0, 0], 1, &[0]), 0),
+        ("TAG", compacted(&[0, 0, 0, 6, 0, 0], 2, &[0]), 1),
+        ("WORD", compacted(&[0, 0, 0, 0, 0, 1], 2, &[0]), 1),
+        ("OPERAND", compacted(&[0, 0, 0, 5, 1, 0], 2, &[0]), 1),
+        ("ROOT", compacted(&[0, 0, 0], 1, &[0, 1]), 0),
+        ("ROOTS", rooted(0), 0),
         ("ROOM", stepped(1, 0, 0, 0), 0),
         ("ENTRIES", evaluated(&[1, 0, 0], 1, &[], 4_097), 0),
         ("INPUT", evaluated(&[1, 0, 0, 0, 0, 0], 2, &[], 0), 1),
@@ -119,10 +125,11 @@ fn every_limit_is_where_the_calls_begin_to_refuse() {
     for (name, within, outside, number) in [
         (
             "records",
-            compacted(&inputs(records), records, 0),
-            compacted(&inputs(records + 1), records + 1, 0),
+            compacted(&inputs(records), records, &[0]),
+            compacted(&inputs(records + 1), records + 1, &[0]),
             1,
         ),
+        ("roots", rooted(of("MOST_ROOTS")), rooted(of("MOST_ROOTS") + 1), 46),
         (
             "entries",
             evaluated(&[0, 0, 0], 1, &inputs(entries), entries),
@@ -145,7 +152,10 @@ fn every_limit_is_where_the_calls_begin_to_refuse() {
 fn answers_blank_and_zk_are_the_header_s() {
     let defined = defined();
     assert_eq!(defined["ANSWER_WORDS"] as usize, stepped(1, 3, 0, 0).len());
+    assert_eq!(defined["LIST_WORDS"] as usize, rooted(1).len());
+    assert_eq!(defined["EVALUATE_WORDS"] as usize, evaluated(&[1, 0, 0], 1, &[], 0).len());
     assert_eq!(defined["PREPARE_WORDS"] as usize, prepared(&[1]).len());
+    assert_eq!(defined["MOST_ROOTS"] as usize, words::MOST_ROOTS);
     assert_eq!(defined["BLANK"], ace::BLANK);
     let (answer, result) = lowered(1, 1, defined["LOWER_WORK"]);
     assert_eq!(answer[..2], [0, 3]);
@@ -177,9 +187,11 @@ fn every_number_of_the_header_is_tested() {
     let tested = [
         "ANSWER_WORDS",
         "BLANK",
+        "EVALUATE_WORDS",
         "FIELD_P",
         "FIELD_Q",
         "INTERFACE",
+        "LIST_WORDS",
         "LONGEST_COLUMN",
         "LONGEST_PERIOD",
         "LONGEST_PERIOD_Q",
@@ -187,6 +199,7 @@ fn every_number_of_the_header_is_tested() {
         "MOST_COLUMNS",
         "MOST_ENTRIES",
         "MOST_RECORDS",
+        "MOST_ROOTS",
         "P",
         "PREPARE_WORDS",
         "Q",

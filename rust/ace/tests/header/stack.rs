@@ -7,6 +7,9 @@ use super::numbers::defined;
 /// The most records of a list.
 const MOST: u64 = 4_096;
 
+/// As many roots as there may be, the last record among them.
+const ROOTS: [u64; 8] = [MOST - 1, 0, 1, 2, MOST / 2, MOST - 2, MOST - 3, MOST - 1];
+
 /// Two inputs, a chain of negations of the first, and the sum of the second and the chain's end,
 /// which hands work on along the whole chain.
 fn negations() -> Vec<u64> {
@@ -35,15 +38,15 @@ fn calls_on_a_long_chain_of_negations() {
         }));
         assert!(on_the_stack(move || {
             let (mut result, mut map) = (negations(), negations());
-            ace::build(field, &negations(), MOST, MOST - 1, &mut result, &mut map).is_ok()
+            ace::build(field, &negations(), MOST, &ROOTS, &mut result, &mut map).is_ok()
         }));
         assert!(on_the_stack(move || {
             let (mut result, mut work) = (negations(), vec![9; 6 * MOST as usize]);
-            ace::normalize(field, &negations(), MOST, MOST - 1, &mut result, &mut work).is_ok()
+            ace::normalize(field, &negations(), MOST, &ROOTS, &mut result, &mut work).is_ok()
         }));
         assert!(on_the_stack(move || {
             let mut result = negations();
-            ace::compact(field, &negations(), MOST, MOST - 1, &mut result).is_ok()
+            ace::compact(field, &negations(), MOST, &ROOTS, &mut result).is_ok()
         }));
     }
 }
@@ -58,7 +61,7 @@ fn calls_on_many_entries_and_columns() {
     for field in Field::ALL {
         assert!(on_the_stack(move || {
             let entries: Vec<u64> = (0..MOST).flat_map(|key| [key, 1, 0]).collect();
-            ace::evaluate(field, &negations(), MOST, MOST - 1, &entries, MOST).is_ok()
+            ace::evaluate(field, &negations(), MOST, &ROOTS, &entries, MOST).is_ok()
         }));
         assert!(on_the_stack(move || ace::prepare(field, &[128; 16], &mixed(2_048)).is_ok()));
         assert!(on_the_stack(move || {

@@ -5,7 +5,7 @@ use std::ops::ControlFlow::Continue;
 use model::{Call, Case, Field, Record};
 
 use super::faults::COORDINATES;
-use super::lists::{expressions, small_lists, small_records};
+use super::lists::{expressions, several_roots, small_lists, small_records};
 use super::make::{column_case, list_case, step_case};
 use super::{Flow, Sink};
 use crate::Rng;
@@ -51,21 +51,34 @@ pub(super) fn step(field: Field, rng: &mut Rng, thorough: bool, sink: Sink) -> F
     Continue(())
 }
 
-/// Every short list with every root.
-pub(super) fn rooted(call: Call, field: Field, rng: &mut Rng, thorough: bool, sink: Sink) -> Flow {
+/// Every short list with every root, with every pair of roots where it has three records or fewer,
+/// and with several roots.
+fn short(call: Call, field: Field, rng: &mut Rng, thorough: bool, sink: Sink) -> Flow {
     for n in 1..=4 {
         let stride = if n < 4 { 1 } else { 29 };
         for list in some(small_lists(field, n), thorough, stride) {
             for root in 0..n as u64 {
-                sink(list_case(call, field, rng, &list, root))?;
+                sink(list_case(call, field, rng, &list, &[root]))?;
             }
+            let pairs = if n < 4 { n * n } else { 0 } as u64;
+            for [one, other] in (0..pairs).map(|pair| [pair / n as u64, pair % n as u64]) {
+                sink(list_case(call, field, rng, &list, &[one, other]))?;
+            }
+            let roots = several_roots(rng, &list);
+            sink(list_case(call, field, rng, &list, &roots))?;
         }
     }
+    Continue(())
+}
+
+/// Every short list, and one of every record, good or bad; of Normalise, short expressions.
+pub(super) fn rooted(call: Call, field: Field, rng: &mut Rng, thorough: bool, sink: Sink) -> Flow {
+    short(call, field, rng, thorough, sink)?;
     for record in any_records() {
-        for root in [0, 1, u64::MAX] {
-            sink(list_case(call, field, rng, &[record], root))?;
+        for roots in [&[0][..], &[1], &[u64::MAX], &[0, 1], &[], &[0; 9]] {
+            sink(list_case(call, field, rng, &[record], roots))?;
         }
-        sink(list_case(call, field, rng, &[[0, 1, 0], record], 1))?;
+        sink(list_case(call, field, rng, &[[0, 1, 0], record], &[1]))?;
     }
     if call != Call::Normalize {
         return Continue(());
@@ -74,7 +87,11 @@ pub(super) fn rooted(call: Call, field: Field, rng: &mut Rng, thorough: bool, si
         [(2, 4, false, 7), (2, 4, true, 101), (3, 4, false, 211)]
     {
         for list in some(expressions(inputs, operations, subtract), thorough, stride) {
-            sink(list_case(call, field, rng, &list, list.len() as u64 - 1))?;
+            sink(list_case(call, field, rng, &list, &[list.len() as u64 - 1]))?;
+            if rng.once_in(8) {
+                let roots = several_roots(rng, &list);
+                sink(list_case(call, field, rng, &list, &roots))?;
+            }
         }
     }
     Continue(())

@@ -1,7 +1,7 @@
 //! Faults, and the good values beside them, that are put into a case.
 
 use model::field::{P, Q};
-use model::{Call, Case, LIMIT, LOWER_WORK, records};
+use model::{Call, Case, LIMIT, LOWER_WORK, MOST_ROOTS, records};
 
 use crate::Rng;
 
@@ -31,6 +31,9 @@ pub(super) const PERIODS: [u64; 13] = [
     1 << 63,
     u64::MAX,
 ];
+
+/// Numbers of roots at the limits, and ones that a byte would mistake for 1.
+const ROOT_COUNTS: [usize; 8] = [1, 2, MOST_ROOTS, MOST_ROOTS + 1, 16, 255, 257, 4_096];
 
 /// Places that no short list has.
 const FAR: [u64; 3] = [1 << 32, 1 << 63, u64::MAX];
@@ -76,6 +79,7 @@ pub(super) fn faults(case: &Case, rng: &mut Rng) -> Vec<Fault> {
         faults.extend(lengths.map(|length| Fault::Length(place, length)));
         faults.extend(match store.0 {
             "list" => list_words(case, place, rng),
+            "roots" => root_words(case, place),
             "assignment" => assignment_words(case, place, rng),
             "lengths" => length_words(case, place, rng),
             "entries" => entry_words(case, place, rng),
@@ -109,6 +113,7 @@ fn needed(case: &Case, store: &str) -> usize {
         ("result", Call::Lower) => case.stores[3].len(),
         ("work", _) => 6 * n,
         ("map", _) => n,
+        ("roots", _) => case.stores[1].len(),
         ("assignment", _) => 3 * counted(case, "m"),
         ("lengths", _) => 16,
         ("entries", Call::Prepare) => total(&case.stores[0]),
@@ -125,7 +130,6 @@ fn values(case: &Case, name: &str) -> Vec<u64> {
     match name {
         "field" => NO_FIELD.to_vec(),
         "n" => [&COUNTS[..], &[n.wrapping_add(1), n.wrapping_sub(1), n | 1 << 32]].concat(),
-        "root" => [&FAR[..], &[n, n.wrapping_add(1), n.wrapping_sub(1), 0]].concat(),
         "m" => [&COUNTS[..], &[own.wrapping_add(1), own.wrapping_sub(1)]].concat(),
         "tag" => vec![0, 1, 2, 3, 4, 5, 6, 1 << 32 | 2, u64::MAX],
         "first" | "second" => {
@@ -176,6 +180,17 @@ fn list_words(case: &Case, store: usize, rng: &mut Rng) -> Vec<Fault> {
                 set(2, &[own, own + 1, own.saturating_sub(1), 1 << 32, u64::MAX]);
             }
         }
+    }
+    faults
+}
+
+/// Numbers of roots that are too many or none, and each root inside and outside the list.
+fn root_words(case: &Case, store: usize) -> Vec<Fault> {
+    let mut faults = ROOT_COUNTS.map(|count| Fault::Length(store, count)).to_vec();
+    let n = case.number("n").unwrap_or(0);
+    let places = [&FAR[..], &[n, n.wrapping_add(1), n.wrapping_sub(1), 0, n | 1 << 32]].concat();
+    for root in 0..case.stores[store].len().min(MOST_ROOTS) {
+        faults.extend(places.iter().map(|&place| Fault::Word(store, root, place)));
     }
     faults
 }

@@ -6,8 +6,10 @@ use model::{Call, Case, Field, Judge, LIMIT, Record, ZK, overhead};
 
 use super::columns::{column, saving_exactly};
 use super::exhaustive::unit_columns;
-use super::faults::{NO_FIELD, PERIODS, faults};
-use super::lists::{chain, colliding, every_kind, growing, inputs, negations, of_size, unchanged};
+use super::faults::{Fault, NO_FIELD, PERIODS, faults};
+use super::lists::{
+    chain, colliding, every_kind, growing, inputs, negations, of_size, several_roots, unchanged,
+};
 use super::make::{column_case, list_case, period, roomy};
 use super::{Flow, Sink};
 use crate::{Rng, Rust};
@@ -80,7 +82,13 @@ pub(super) fn rewriting() -> Vec<Vec<Record>> {
     lists.push([&inputs(3)[..], &[[4, 0, 1], [4, 0, 2], [2, 3, 4], [3, 3, 5]]].concat());
     // Only an unreachable record is rewritten.
     lists.push([&inputs(3)[..], &[[2, 0, 1], [4, 0, 1], [4, 0, 2], [2, 4, 5]]].concat());
+    lists.push(meeting());
     lists
+}
+
+/// A sum of products, at place 5, that a round brings to the product behind it, at place 7.
+pub(super) fn meeting() -> Vec<Record> {
+    [&inputs(3)[..], &[[4, 0, 1], [4, 0, 2], [2, 3, 4], [2, 1, 2], [4, 0, 6]]].concat()
 }
 
 /// The lists of document 01's examples A, B and C.
@@ -90,16 +98,39 @@ pub(super) fn examples() -> Vec<(Vec<Record>, u64)> {
     vec![(a, 5), (b, 6), (inputs(2), 0)]
 }
 
-/// Long lists and the lists made by hand, for the calls with a root.
+/// Long lists and the lists made by hand, for the calls with roots.
 pub(super) fn rooted(call: Call, field: Field, rng: &mut Rng, thorough: bool, sink: Sink) -> Flow {
     for (list, root) in examples() {
-        sink(list_case(call, field, rng, &list, root))?;
+        sink(list_case(call, field, rng, &list, &[root]))?;
     }
     for list in rewriting() {
         for root in 0..list.len() as u64 {
-            sink(list_case(call, field, rng, &list, root))?;
+            sink(list_case(call, field, rng, &list, &[root]))?;
+            for other in 0..list.len() as u64 {
+                sink(list_case(call, field, rng, &list, &[root, other]))?;
+            }
         }
     }
+    for list in long(field, rng, thorough) {
+        let last = list.len() as u64 - 1;
+        let roots = [last, list.len() as u64 / 2];
+        for root in roots.into_iter().take(if list.len() < LIMIT as usize { 1 } else { 2 }) {
+            sink(list_case(call, field, rng, &list, &[root]))?;
+        }
+        let several = several_roots(rng, &list);
+        sink(list_case(call, field, rng, &list, &several))?;
+        sink(list_case(call, field, rng, &list, &eight_roots(last)))?;
+    }
+    Continue(())
+}
+
+/// Eight roots up to the last place, the second and the last one at one place.
+pub(super) fn eight_roots(last: u64) -> [u64; 8] {
+    [last / 2, last, 0, last / 3, last / 5, last - last / 7, last / 4, last]
+}
+
+/// Lists of 4,096 records and nearly so many, and ones that take many rounds.
+fn long(field: Field, rng: &mut Rng, thorough: bool) -> Vec<Vec<Record>> {
     let limit = LIMIT as usize;
     let mut long = vec![
         inputs(1),
@@ -123,13 +154,7 @@ pub(super) fn rooted(call: Call, field: Field, rng: &mut Rng, thorough: bool, si
         long.push(of_size(field, rng, limit - 1));
     }
     long.push(chain(if thorough { LIMIT / 3 } else { 310 }));
-    for list in long {
-        let roots = [list.len() as u64 - 1, list.len() as u64 / 2];
-        for root in roots.into_iter().take(if list.len() < limit { 1 } else { 2 }) {
-            sink(list_case(call, field, rng, &list, root))?;
-        }
-    }
-    Continue(())
+    long
 }
 
 /// Sets of columns at the edges of the choice between forms.
@@ -248,15 +273,32 @@ fn bases(call: Call, field: Field, rng: &mut Rng) -> Vec<Case> {
         _ => {
             let full = inputs(LIMIT);
             vec![
-                list_case(call, field, rng, &list, 5),
-                list_case(call, field, rng, &full, LIMIT - 1),
+                list_case(call, field, rng, &list, &[5]),
+                list_case(call, field, rng, &list, &eight_roots(5)),
+                list_case(call, field, rng, &full, &[LIMIT - 1]),
             ]
         }
     }
 }
 
-/// Each fault in each base, and pairs of faults in the first, all of them where thorough; last,
-/// numbers that no field has, with every fault at once.
+/// Each pair of these faults in a base, all of them where thorough.
+fn paired(base: &Case, single: &[Fault], rng: &mut Rng, thorough: bool, sink: Sink) -> Flow {
+    for (place, one) in single.iter().enumerate() {
+        for other in &single[place + 1..] {
+            if !thorough && !rng.once_in(8) {
+                continue;
+            }
+            let mut case = base.clone();
+            one.apply(&mut case, rng);
+            other.apply(&mut case, rng);
+            sink(case)?;
+        }
+    }
+    Continue(())
+}
+
+/// Each fault in each base, and pairs of faults in the first, with roots in one with eight of them
+/// too; last, numbers that no field has, with every fault at once.
 pub(super) fn faulty(call: Call, field: Field, rng: &mut Rng, thorough: bool, sink: Sink) -> Flow {
     let bases = bases(call, field, rng);
     for base in &bases {
@@ -267,16 +309,10 @@ pub(super) fn faulty(call: Call, field: Field, rng: &mut Rng, thorough: bool, si
         }
     }
     let single = faults(&bases[0], rng);
-    for (place, one) in single.iter().enumerate() {
-        for other in &single[place + 1..] {
-            if !thorough && !rng.once_in(8) {
-                continue;
-            }
-            let mut case = bases[0].clone();
-            one.apply(&mut case, rng);
-            other.apply(&mut case, rng);
-            sink(case)?;
-        }
+    paired(&bases[0], &single, rng, thorough, sink)?;
+    if bases[0].roots().is_some() {
+        let several = faults(&bases[1], rng);
+        paired(&bases[1], &several, rng, thorough, sink)?;
     }
     for number in NO_FIELD {
         let mut case = bases[0].clone();

@@ -204,6 +204,17 @@ pub(super) fn root(rng: &mut Rng, list: &[Record]) -> u64 {
     if rng.once_in(2) { list.len() as u64 - 1 } else { rng.below(list.len() as u64) }
 }
 
+/// Two to eight roots, some of them at one place.
+pub(super) fn several_roots(rng: &mut Rng, list: &[Record]) -> Vec<u64> {
+    let count = 2 + rng.weighted(&[6, 4, 2, 1, 1, 1, 3]);
+    let mut roots = vec![root(rng, list)];
+    while roots.len() < count {
+        let next = if rng.once_in(6) { rng.pick(&roots) } else { root(rng, list) };
+        roots.push(next);
+    }
+    roots
+}
+
 /// The records that can stand at a place, over keys 0 and 1 and constants 0, 1 and −1.
 pub(super) fn small_records(field: Field, place: u64) -> Vec<Record> {
     let minus_one = field.minus_one();

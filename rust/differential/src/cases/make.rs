@@ -59,11 +59,11 @@ pub(super) fn roomy(
     }
 }
 
-/// A call on a list with a root, its stores long enough.
-pub fn list_case(call: Call, field: Field, rng: &mut Rng, list: &[Record], root: u64) -> Case {
+/// A call on a list with these roots, its stores long enough.
+pub fn list_case(call: Call, field: Field, rng: &mut Rng, list: &[Record], roots: &[u64]) -> Case {
     let n = list.len();
-    let mut scalars = vec![field.number, n as u64, root];
-    let mut stores = vec![source(rng, words(list))];
+    let mut scalars = vec![field.number, n as u64];
+    let mut stores = vec![source(rng, words(list)), roots.to_vec()];
     match call {
         Call::Build => stores.extend([store(rng, 3 * n), store(rng, n)]),
         Call::Compact => stores.push(store(rng, 3 * n)),
@@ -73,7 +73,7 @@ pub fn list_case(call: Call, field: Field, rng: &mut Rng, list: &[Record], root:
             scalars.push(entries.len() as u64);
             stores.push(source(rng, words(&entries)));
         }
-        _ => panic!("no call on a list with a root"),
+        _ => panic!("no call on a list with roots"),
     }
     Case { call, scalars, stores }
 }

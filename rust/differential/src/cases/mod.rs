@@ -8,13 +8,13 @@ mod fixed;
 mod lists;
 mod make;
 
-use std::ops::ControlFlow;
+use std::ops::ControlFlow::{self, Continue};
 
 use model::{Call, Case, Field};
 
 use crate::Rng;
 
-pub use files::{LONGEST_FILE, fixed_files, random_file};
+pub use files::{LONGEST_FILE, LONGEST_LENGTH, fixed_files, random_file};
 pub use lists::{chain, colliding, expression, small_lists, unchanged};
 pub use make::{column_case, list_case};
 
@@ -53,13 +53,16 @@ pub fn exhaustive(call: Call, field: Field, rng: &mut Rng, thorough: bool, sink:
 pub fn telling(call: Call, field: Field, rng: &mut Rng, sink: Sink) -> Flow {
     exhaustive(call, field, rng, false, sink)?;
     faulty(call, field, rng, false, sink)?;
-    (0..20_000).try_for_each(|_| sink(random(call, field, rng)))?;
+    for _ in 0..20_000 {
+        sink(random(call, field, rng))?;
+        several_roots(call, field, rng).map_or(Continue(()), &mut *sink)?;
+    }
     fixed(call, field, rng, false, sink)
 }
 
-/// A case at random, with faults in some.
+/// A case at random, with faults in some; of a list with roots, with one root.
 pub fn random(call: Call, field: Field, rng: &mut Rng) -> Case {
-    let mut case = match call {
+    let case = match call {
         Call::Step => {
             let list = lists::any(field, rng);
             let request = lists::request(field, rng, &list);
@@ -69,9 +72,25 @@ pub fn random(call: Call, field: Field, rng: &mut Rng) -> Case {
         _ => {
             let list = lists::any_nonempty(field, rng);
             let root = lists::root(rng, &list);
-            make::list_case(call, field, rng, &list, root)
+            make::list_case(call, field, rng, &list, &[root])
         }
     };
+    with_faults(case, rng)
+}
+
+/// A case at random with several roots, with faults in some, where the call takes roots.
+pub fn several_roots(call: Call, field: Field, rng: &mut Rng) -> Option<Case> {
+    if !call.signature().stores.iter().any(|store| store.0 == "roots") {
+        return None;
+    }
+    let list = lists::any_nonempty(field, rng);
+    let roots = lists::several_roots(rng, &list);
+    let case = make::list_case(call, field, rng, &list, &roots);
+    Some(with_faults(case, rng))
+}
+
+/// The case, with faults in some.
+fn with_faults(mut case: Case, rng: &mut Rng) -> Case {
     let count = [0, 1, 2, 3][rng.weighted(&[12, 4, 3, 1])];
     for _ in 0..count {
         let faults = faults::faults(&case, rng);
