@@ -15,10 +15,10 @@ use Rattle.dag.specs.StoreLaws.{sound_well_formed}
 use Rattle.dag.specs.WellFormed.{WellFormed}
 use Rattle.meaning.specs.Values.{value}
 use Rattle.dag.specs.Roots.{roots_from, Inside}
-use Rattle.dag.specs.RootLaws.{inside_from, root_count}
+use Rattle.dag.specs.RootLaws.{roots_from_lem}
 use Rattle.compact.specs.Reach.{Reach, marks}
 use Rattle.compact.specs.Compact.{rank, compact}
-use Rattle.compact.specs.OperandLaws.{roots_below, below_at}
+use Rattle.compact.specs.OperandLaws.{roots_below, inside_again}
 use Rattle.compact.specs.CompactLaws.{compact_short, compact_well_formed, compact_inside, compact_values, compact_count, compact_twice}
 use Rattle.dag.specs.WordLaws.{nodes_stored, stored_pass}
 use Rattle.compact.specs.Calls.{compacted, kept_of, compact_check, compact_result}
@@ -60,9 +60,8 @@ module _ (field : Field) where
     pub answer_inside : Inside (length (compacted s n roots).list) (roots_from new_roots)
     unfolding compacted
     answer_inside =
-        let count = root_count _ _ passed.inside in
-        inside_from _ _ (omega (arith, answer_many, count.0)) (omega (arith, answer_many, count.1))
-        (below_at _ _ (compact_inside (nodes s n) roots (Within field.bounds) well_formed inside))
+        inside_again n _ (roots_from roots) new_roots passed.inside (rw (roots_from_lem roots) answer_many)
+        (compact_inside (nodes s n) roots (Within field.bounds) well_formed inside)
 
     -- it holds the compacted list
     pub answer_list : nodes (interleaved store) kept.count ≡ (compacted s n roots).list

@@ -5,7 +5,7 @@ use Rattle.ring.specs.Ring.{Ops}
 use Rattle.field.specs.declared.QuadFelt.{QuadFelt}
 use Rattle.dag.specs.Nodes.{operands, rename}
 use Rattle.dag.specs.Roots.{roots_of, roots_from, Inside}
-use Rattle.dag.specs.RootLaws.{roots_from_lem}
+use Rattle.dag.specs.RootLaws.{roots_from_lem, inside_from}
 use Rattle.dag.specs.WellFormed.{Fine}
 use Rattle.dag.specs.declared.NodeKind.{NodeKind}
 use Rattle.dag.specs.declared.NodeKind.TheVariants.{Input, Constant, Add, Sub, Mul, Neg}
@@ -47,6 +47,10 @@ inside_below n r h = below_each n (roots_of r) h.below
 
 pub roots_below : (n : ℕ) (roots : List ℕ) → Inside n (roots_from roots) → AllBelow n roots
 roots_below n roots h = rw (roots_from_lem roots) at (inside_below n (roots_from roots) h)
+
+-- as many places below m are roots of a list of m records
+pub inside_again : (n m : ℕ) (r : Roots) (is : List ℕ) → Inside n r → length is ≡ length (roots_of r) → AllBelow m is → Inside m (roots_from is)
+inside_again n m r is h many low = inside_from m is (omega (arith, many, h.some)) (omega (arith, many, h.few)) (below_at m is low)
 
 -- a record's operands come before it
 pub operands_below : (Low : QuadFelt → Type 0) (n : ℕ) (x : NodeKind) → Fine Low n x → AllBelow n (operands x)

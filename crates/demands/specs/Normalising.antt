@@ -10,7 +10,7 @@ use Rattle.dag.specs.Nodes.{nodes, words_of, filled}
 use Rattle.dag.specs.NodeLaws.{length_nodes}
 use Rattle.dag.specs.Refusals.{unless_refused, Checked}
 use Rattle.dag.specs.Roots.{roots_of, roots_from, Inside}
-use Rattle.dag.specs.RootLaws.{roots_from_lem, inside_from, root_count}
+use Rattle.dag.specs.RootLaws.{roots_from_lem}
 use Rattle.dag.specs.Check.{list_check}
 use Rattle.dag.specs.CheckLaws.{then_good}
 use Rattle.dag.specs.PassLaws.{enough_room, Rooted, rooted}
@@ -20,7 +20,7 @@ use Rattle.dag.specs.WordLaws.{nodes_stored, sound_stored, stored_pass}
 use Rattle.dag.specs.WellFormed.{WellFormed}
 use Rattle.dag.specs.declared.NodeKind.{NodeKind}
 use Rattle.meaning.specs.Values.{value}
-use Rattle.compact.specs.OperandLaws.{roots_below, below_at}
+use Rattle.compact.specs.OperandLaws.{roots_below, inside_again}
 use Rattle.compact.specs.Promises.{AllBelow}
 use Rattle.plan.specs.Plan.{fanout}
 use Rattle.normalize.specs.Rounds.{Normal, fired, rounded, normalize}
@@ -132,9 +132,7 @@ module _ (field : Field) where
 
     -- the places answered are roots of the list answered
     pub answer_inside : Inside count (roots_from places)
-    answer_inside =
-        let given = root_count _ _ passed.inside in
-        inside_from count places (omega (arith, answer_many, given.0)) (omega (arith, answer_many, given.1)) (below_at count places answered.inside)
+    answer_inside = inside_again n count (roots_from roots) places passed.inside (rw (roots_from_lem roots) answer_many) answered.inside
 
     -- the answer passes the list check
     pub answer_passes : list_check field.bounds (interleaved store) count places ≡ Ok tt

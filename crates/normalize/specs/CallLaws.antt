@@ -8,7 +8,7 @@ use Rattle.dag.specs.View.{interleaved}
 use Rattle.dag.specs.Nodes.{most_records, nodes, blank}
 use Rattle.dag.specs.NodeLaws.{length_nodes}
 use Rattle.dag.specs.Roots.{roots_of, roots_from, Inside}
-use Rattle.dag.specs.RootLaws.{roots_from_lem, roots_exact, inside_from}
+use Rattle.dag.specs.RootLaws.{roots_from_lem, roots_exact}
 use Rattle.dag.specs.Check.{room_check, list_check}
 use Rattle.dag.specs.CheckLaws.{then_good}
 use Rattle.dag.specs.PassLaws.{room_enough, rooted}
@@ -19,8 +19,7 @@ use Rattle.dag.specs.declared.Roots.{Roots}
 use Rattle.dag.specs.declared.Refusal.{Refusal}
 use Rattle.dag.specs.declared.RootedDag.{RootedDag}
 use Rattle.builder.specs.OutcomeLaws.{list_fine}
-use Rattle.compact.specs.OperandLaws.{below_at, inside_below}
-use Rattle.compact.specs.Promises.{AllBelow}
+use Rattle.compact.specs.OperandLaws.{inside_below, inside_again}
 use Rattle.dag.specs.WordLaws.{nodes_written, sound_written, copied_written, blanked_stored}
 use Rattle.normalize.specs.Rounds.{rounded, is_kept, rounds_from, normalize}
 use Rattle.normalize.specs.RoundLaws.{rounded_inside, rounded_many}
@@ -99,7 +98,7 @@ module _ (field : Field) where
           let l = rounded field.elements (nodes (interleaved result) count) (roots_of rs) in
           let low = rounded_inside field.elements (element_laws field) (nodes (interleaved result) count) (list_fine field (interleaved result) count h.sound) (roots_of rs) (rw (length_nodes (interleaved result) count) (inside_below count rs a)) in
           let many : length l.roots ≡ length (roots_of rs) = rounded_many field.elements (nodes (interleaved result) count) (roots_of rs) in
-          rw (o.left.roots_are, new_count) (inside_from (length l.list) l.roots (omega (arith, many, a.some)) (omega (arith, many, a.few)) (below_at _ _ low))
+          rw (o.left.roots_are, new_count) (inside_again count (length l.list) rs l.roots a many low)
 
       pub running_on : Running field s n roots after q.count q.roots (k + 1)
       running_on =
