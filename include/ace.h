@@ -1,4 +1,4 @@
-/* The ACE constraint DAG: seven calls on lent words, each in one of two fields.
+/* The ACE constraint DAG: eight calls on lent words, each in one of two fields.
  *
  * The field's number comes first in every call; another is refused before every other test:
  *   ACE_FIELD_P  elements c0 + c1 * u, where u * u = 7, with c0 and c1 modulo ACE_P
@@ -30,7 +30,7 @@
  *    9 Alpha                             20 S0
  *   10 ZPowN                             21 QuotientChunkCoord(offset, chunk, coord)
  *
- * A store is a pointer and its length in words. An empty store is a non-null pointer with
+ * A store is a pointer and its length in words, a text's in bytes. An empty store is a non-null pointer with
  * length 0. A store that is written, answer among them, overlaps no other store; stores that are
  * only read may overlap each other.
  *
@@ -43,9 +43,11 @@
  *   ace_prepare    lengths a word a column, entries the sum of the lengths
  *   ace_lower      as ace_prepare, list 3n, work ACE_LOWER_WORK, places a word a column, and a
  *                  result of 3 for each record that comes out: 3 * ACE_MOST_RECORDS always do
+ *   ace_draw       list 3n, roots, and a text of as many bytes as the drawing has:
+ *                  ACE_DRAWING_BYTES + n * ACE_DRAWING_RECORD_BYTES always do
  *   roots          1 to ACE_MOST_ROOTS, a word a root: their number is the store's length
- *   answer         ACE_ANSWER_WORDS in ace_step and ace_lower, ACE_LIST_WORDS in ace_build,
- *                  ace_compact and ace_normalize, ACE_EVALUATE_WORDS in ace_evaluate,
+ *   answer         ACE_ANSWER_WORDS in ace_step, ace_lower and ace_draw, ACE_LIST_WORDS in
+ *                  ace_build, ace_compact and ace_normalize, ACE_EVALUATE_WORDS in ace_evaluate,
  *                  ACE_PREPARE_WORDS in ace_prepare
  * Less is refused, save for answer, whose length is not passed. More may be lent, save of roots:
  * words of a source behind those above are not read. A result, map, place or work store need hold
@@ -57,7 +59,7 @@
  *
  * A refusal changes no store, save that ace_lower's 7 leaves its work store blank. After a call
  * that accepts, the words of a result, map or place store behind the last one filled are
- * ACE_BLANK, and a work store is so throughout.
+ * ACE_BLANK, and a work store is so throughout; bytes behind a text are 0.
  *
  * The calls allocate nothing and keep nothing: they may run side by side on stores of their own.
  * Of a C library they need memcpy and memset alone; a box without one has to give these two.
@@ -102,7 +104,11 @@
 /* The words of ace_lower's work store. */
 #define ACE_LOWER_WORK 12288
 
-/* The words of an answer: a step's and lowering's, a list's, evaluating's, preparing's. */
+/* The most bytes of a drawing: these, and so many more for each record. */
+#define ACE_DRAWING_BYTES 14
+#define ACE_DRAWING_RECORD_BYTES 65
+
+/* The words of an answer: a step's, lowering's and drawing's, a list's, evaluating's, preparing's. */
 #define ACE_ANSWER_WORDS 4
 #define ACE_LIST_WORDS 11
 #define ACE_EVALUATE_WORDS 17
@@ -136,6 +142,8 @@
 #define ACE_REFUSED_LENGTH 14
 /* the period is no power of two from 1 to 2^32 (field 2: 2^27), or is below the longest column */
 #define ACE_REFUSED_PERIOD 15
+/* the text store is shorter than the text */
+#define ACE_REFUSED_TEXT 41
 /* there are no roots, or more than 8 */
 #define ACE_REFUSED_ROOTS 46
 /* the field's number is neither 1 nor 2 */
@@ -209,6 +217,15 @@ void ace_lower(uint64_t field, const uint64_t *list, size_t list_len, uint64_t n
                uint64_t *work, size_t work_len,
                uint64_t *places, size_t places_len,
                uint64_t *answer /* 4 words */);
+
+/* The list as Graphviz DOT: a line a record in order, as n0 [label="in 5"]; then a line an operand,
+ * as n5 -> n3; first before second. A constant's coordinates above half the prime are less it, as
+ * const -1 0. The roots are tested and not drawn; bytes behind the text are 0.
+ * Refuses with 49, 1 to 5, 46, 6, 41. Accepted: the text's length in bytes. */
+void ace_draw(uint64_t field, const uint64_t *list, size_t list_len, uint64_t n,
+              const uint64_t *roots, size_t roots_len,
+              uint8_t *text, size_t text_len,
+              uint64_t *answer /* 4 words */);
 
 #ifdef __cplusplus
 }

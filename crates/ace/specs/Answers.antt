@@ -14,7 +14,7 @@ use Rattle.columns.specs.Prepare.{most_columns}
 use Rattle.columns.specs.declared.Form.{Form}
 use Rattle.columns.specs.declared.Prepared.{Prepared}
 
--- how many words an answer has: of Step and Lower, of a list, of Evaluate, of Prepare
+-- how many words an answer has: of Step, Lower and Draw, of a list, of Evaluate, of Prepare
 abbrev pub answer_width : ℕ
 answer_width = 4
 
@@ -68,6 +68,7 @@ abbrev pub prepare_words : Result Prepared Refusal → List ℕ
 prepare_words (Ok p) = form_words p.forms.items
 prepare_words (Err r) = refused_words prepare_width r
 
-abbrev pub lower_words : Result ℕ Refusal → List ℕ
-lower_words (Ok count) = 0 ∷ count ∷ 0 ∷ 0 ∷ []
-lower_words (Err r) = refused_words answer_width r
+-- one number: a list's count, a text's length
+abbrev pub number_words : Result ℕ Refusal → List ℕ
+number_words (Ok n) = 0 ∷ n ∷ 0 ∷ 0 ∷ []
+number_words (Err r) = refused_words answer_width r

@@ -12,7 +12,8 @@ use Rattle.normalize.specs.Calls as Normalising
 use Rattle.evaluate.specs.Calls as Evaluation
 use Rattle.columns.specs.Prepare as Prepare
 use Rattle.lower.specs.Lower as Lowering
-use Rattle.ace.specs.Answers.{answer_width, list_width, evaluate_width, prepare_width, refused_words, step_words, list_words, normalize_words, evaluate_words, prepare_words, lower_words}
+use Rattle.draw.specs.Calls as Drawing
+use Rattle.ace.specs.Answers.{answer_width, list_width, evaluate_width, prepare_width, refused_words, step_words, list_words, normalize_words, evaluate_words, prepare_words, number_words}
 
 -- the answer of a call of unknown field, in so many words
 abbrev pub unknown_words : ℕ → List ℕ
@@ -71,7 +72,7 @@ prepare_answer number lengths entries = in_field number (unknown_words prepare_w
 module _ (number : ℕ) (list : List ℕ) (n : ℕ) (lengths entries : List ℕ) (period : ℕ) (result work places : List ℕ) where
   unfoldable pub lower_answer : List ℕ
   lower_answer =
-      in_field number (unknown_words answer_width) (λ prime. lower_words (Lowering.lower_answer (field_of prime) (interleaved list) n lengths entries period result work places))
+      in_field number (unknown_words answer_width) (λ prime. number_words (Lowering.lower_answer (field_of prime) (interleaved list) n lengths entries period result work places))
 
   unfoldable pub lower_result : List ℕ
   lower_result = in_field number result (λ prime. Lowering.lower_result (field_of prime) (interleaved list) n lengths entries period result work places)
@@ -81,3 +82,11 @@ module _ (number : ℕ) (list : List ℕ) (n : ℕ) (lengths entries : List ℕ)
 
   unfoldable pub lower_places : List ℕ
   lower_places = in_field number places (λ prime. Lowering.lower_places (field_of prime) (interleaved list) n lengths entries period result work places)
+
+-- Draw: the answer's words, and the text store
+unfoldable pub draw_answer : ℕ → List ℕ → ℕ → List ℕ → List ℕ → List ℕ
+draw_answer number list n roots text =
+    in_field number (unknown_words answer_width) (λ prime. number_words (Drawing.draw_answer (field_of prime) (interleaved list) n roots (length text)))
+
+unfoldable pub draw_text : ℕ → List ℕ → ℕ → List ℕ → List ℕ → List ℕ
+draw_text number list n roots text = in_field number text (λ prime. Drawing.draw_text (field_of prime) (interleaved list) n roots text)

@@ -21,7 +21,7 @@ use normalize::NormalEnd;
 // The interface that include/ace.h names: a caller built against another number is wrong.
 const INTERFACE: u64 = 3;
 
-// The words of Step's and Lower's answers.
+// The words of Step's, Lower's and Draw's answers.
 pub const ANSWER_WORDS: usize = 4;
 
 // The words of Build's, Compact's and Normalise's answers.
@@ -136,12 +136,12 @@ fn prepare_words(answer: Result<Prepared, Refusal>) -> [u64; PREPARE_WORDS]
     }
 }
 
-// The words of Lower's answer.
-fn lower_words(answer: Result<usize, Refusal>) -> [u64; ANSWER_WORDS]
-    ensures { result ≡ Answers.lower_words answer }
+// The words of Lower's and Draw's answers: the list's count, the text's length.
+fn number_words(answer: Result<usize, Refusal>) -> [u64; ANSWER_WORDS]
+    ensures { result ≡ Answers.number_words answer }
 {
     match answer {
-        Ok(count) => [0, count as u64, 0, 0],
+        Ok(number) => [0, number as u64, 0, 0],
         Err(r) => refused_words(r),
     }
 }
@@ -337,7 +337,7 @@ fn lower(
     ensures res { res.new ≡ Calls.lower_result field list.now n lengths.now entries.now period res.old work.old places.old }
     ensures work { work.new ≡ Calls.lower_work field list.now n lengths.now entries.now period res.old work.old places.old }
     ensures places { places.new ≡ Calls.lower_places field list.now n lengths.now entries.now period res.old work.old places.old }
-    ensures answer { Answers.lower_words result ≡ Calls.lower_answer field list.now n lengths.now entries.now period res.old work.old places.old }
+    ensures answer { Answers.number_words result ≡ Calls.lower_answer field list.now n lengths.now entries.now period res.old work.old places.old }
 {
     lower::lower(
         prime_of(field)?,
@@ -370,7 +370,37 @@ pub fn ace_lower(
     ensures places { places.new ≡ Calls.lower_places field list.now n lengths.now entries.now period res.old work.old places.old }
     ensures answer { answer.new ≡ Calls.lower_answer field list.now n lengths.now entries.now period res.old work.old places.old }
 {
-    *answer = lower_words(lower(field, list, n, lengths, entries, period, res, work, places));
+    *answer = number_words(lower(field, list, n, lengths, entries, period, res, work, places));
+}
+
+// Draw, in a numbered field.
+#[tactic(auto, unfolding(crate::specs::Calls::draw_answer, crate::specs::Calls::draw_text))]
+fn draw(
+    field: u64,
+    list: &[u64],
+    n: usize,
+    roots: &[u64],
+    text: &mut [u8],
+) -> Result<usize, Refusal>
+    ensures text { text.new ≡ Calls.draw_text field list.now n roots.now text.old }
+    ensures answer { Answers.number_words result ≡ Calls.draw_answer field list.now n roots.now text.old }
+{
+    draw::draw(prime_of(field)?, list, n, roots, text)
+}
+
+// Draw. Accepted: the text's length in bytes.
+pub fn ace_draw(
+    field: u64,
+    list: &[u64],
+    n: usize,
+    roots: &[u64],
+    text: &mut [u8],
+    answer: &mut [u64; ANSWER_WORDS],
+)
+    ensures text { text.new ≡ Calls.draw_text field list.now n roots.now text.old }
+    ensures answer { answer.new ≡ Calls.draw_answer field list.now n roots.now text.old }
+{
+    *answer = number_words(draw(field, list, n, roots, text));
 }
 
 // The interface's number.

@@ -121,6 +121,22 @@ pub extern "C" fn ace_lower(
     );
 }
 
+// Draw. Accepted: the text's length in bytes.
+#[unsafe(no_mangle)]
+pub extern "C" fn ace_draw(
+    field: u64,
+    list: &[u64],
+    n: usize,
+    roots: &[u64],
+    text: &mut [u8],
+    answer: &mut [u64; 4],
+)
+    ensures text { text.new ≡ Calls.draw_text field list.now n roots.now text.old }
+    ensures answer { answer.new ≡ Calls.draw_answer field list.now n roots.now text.old }
+{
+    ace::ace_draw(field, list, n, roots, text, answer);
+}
+
 // The interface's number.
 #[unsafe(no_mangle)]
 pub extern "C" fn ace_interface() -> u64

@@ -96,3 +96,10 @@ pub numbers_tell : (v f₁ f₂ f₃ w g₁ g₂ g₃ : ℕ) → Fields v f₁ f
     → (v ≡ w) × (f₁ ≡ g₁) × (f₂ ≡ g₂) × (f₃ ≡ g₃)
 unfolding key_number
 numbers_tell v f₁ f₂ f₃ w g₁ g₂ g₃ h k e = (omega arith, omega arith, omega arith, omega arith)
+
+-- a key's number is a word
+pub key_word : (k : ℕ) → is_key k ≡ true → k < 2 ^ 64
+unfolding is_key
+key_word k e =
+    let v = ltb-true (k / 2 ^ 48) 22 (and_true (ltb (k / 2 ^ 48) 22) (ltb (k % 2 ^ 48) (2 ^ (16 * get_or field_counts (k / 2 ^ 48) 0))) e).0 in
+    omega arith

@@ -3,7 +3,8 @@ use Rattle.std.specs.Prelude.{ℕ, ◌<◌, ◌↔◌, ◌≡◌, refl, Ok, Err}
 use Rattle.std.proofs.Common.{sym, ◌∙◌, arith}
 use Rattle.dag.specs.Refusals.{number, unless_refused, Checked}
 use Rattle.dag.specs.declared.Refusal.{Refusal}
-use Rattle.dag.specs.declared.Refusal.TheVariants.{CountOutOfRange, StoreTooShort, UnknownTag, Malformed, OperandNotEarlier, RootOutside, NoRoom, TooManyEntries, Unassigned, TooManyColumns, ColumnLength, SharedPeriod, FileTooShort, FileVersion, FileCount, FileLength, RootCount, FieldNumber}
+use Rattle.dag.specs.declared.Refusal.TheVariants.{CountOutOfRange, StoreTooShort, UnknownTag, Malformed, OperandNotEarlier, RootOutside, NoRoom, TooManyEntries, Unassigned, TooManyColumns, ColumnLength, SharedPeriod}
+use Rattle.dag.specs.declared.Refusal.TheVariants.{FileTooShort, FileVersion, FileCount, FileLength, TextTooShort, RootCount, FieldNumber}
 
 pub number_positive : (r : Refusal) → 0 < number r
 number_positive CountOutOfRange = omega arith
@@ -22,6 +23,7 @@ number_positive FileTooShort = omega arith
 number_positive FileVersion = omega arith
 number_positive FileCount = omega arith
 number_positive FileLength = omega arith
+number_positive TextTooShort = omega arith
 number_positive RootCount = omega arith
 number_positive FieldNumber = omega arith
 

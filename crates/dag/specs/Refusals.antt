@@ -1,7 +1,8 @@
 -- What a refusal tells: its number and its place; and what a test answers.
 use Rattle.std.specs.Prelude.{ℕ, zero, suc, Bool, true, false, Result, Ok, Err}
 use Rattle.dag.specs.declared.Refusal.{Refusal}
-use Rattle.dag.specs.declared.Refusal.TheVariants.{CountOutOfRange, StoreTooShort, UnknownTag, Malformed, OperandNotEarlier, RootOutside, NoRoom, TooManyEntries, Unassigned, TooManyColumns, ColumnLength, SharedPeriod, FileTooShort, FileVersion, FileCount, FileLength, RootCount, FieldNumber}
+use Rattle.dag.specs.declared.Refusal.TheVariants.{CountOutOfRange, StoreTooShort, UnknownTag, Malformed, OperandNotEarlier, RootOutside, NoRoom, TooManyEntries, Unassigned, TooManyColumns, ColumnLength, SharedPeriod}
+use Rattle.dag.specs.declared.Refusal.TheVariants.{FileTooShort, FileVersion, FileCount, FileLength, TextTooShort, RootCount, FieldNumber}
 
 abbrev pub number : Refusal → ℕ
 number CountOutOfRange = 1
@@ -20,6 +21,7 @@ number FileTooShort = 21
 number FileVersion = 22
 number FileCount = 23
 number FileLength = 24
+number TextTooShort = 41
 number RootCount = 46
 number FieldNumber = 49
 
@@ -41,6 +43,7 @@ place FileTooShort = 0
 place FileVersion = 0
 place FileCount = 0
 place FileLength = 0
+place TextTooShort = 0
 place RootCount = 0
 place FieldNumber = 0
 

@@ -86,6 +86,7 @@ pub enum Refusal {
     FileVersion,
     FileCount,
     FileLength,
+    TextTooShort,
     RootCount,
     FieldNumber,
 }
@@ -112,6 +113,7 @@ impl Refusal {
             Refusal::FileVersion => 22,
             Refusal::FileCount => 23,
             Refusal::FileLength => 24,
+            Refusal::TextTooShort => 41,
             Refusal::RootCount => 46,
             Refusal::FieldNumber => 49,
         }

@@ -12,7 +12,8 @@ use Rattle.normalize.specs.Calls.{normalize_check, normalize_answer}
 use Rattle.evaluate.specs.Calls.{evaluate_check, evaluate_answer}
 use Rattle.columns.specs.Prepare.{columns, prepare_check, answer, prepare}
 use Rattle.lower.specs.Lower.{whole_check, lower_answer}
-use Rattle.ace.specs.Answers.{step_words, list_words, normalize_words, evaluate_words, prepare_words, lower_words}
+use Rattle.draw.specs.Calls.{draw_check, draw_answer}
+use Rattle.ace.specs.Answers.{step_words, list_words, normalize_words, evaluate_words, prepare_words, number_words}
 
 -- an answer's first word
 abbrev pub outcome : List ℕ → ℕ
@@ -42,11 +43,15 @@ module _ (field : Field) where
     unfolding evaluate_answer
     evaluate_accepts roots a m = zero_accepts (λ w. outcome (evaluate_words w)) Err _ (λ r. refl) refl (evaluate_check field s n roots a m)
 
+    pub draw_accepts : (roots : List ℕ) (text_room : ℕ) → (outcome (number_words (draw_answer field s n roots text_room)) ≡ 0) ↔ (draw_check field s n roots text_room ≡ Ok tt)
+    unfolding draw_answer
+    draw_accepts roots text_room = zero_accepts (λ w. outcome (number_words w)) Err _ (λ r. refl) refl (draw_check field s n roots text_room)
+
     pub lower_accepts : (ls es : List ℕ) (period : ℕ) (result work places : List ℕ)
-        → (outcome (lower_words (lower_answer field s n ls es period result work places)) ≡ 0) ↔ (whole_check field s n ls es period result work places ≡ Ok tt)
+        → (outcome (number_words (lower_answer field s n ls es period result work places)) ≡ 0) ↔ (whole_check field s n ls es period result work places ≡ Ok tt)
     unfolding lower_answer
     lower_accepts ls es period result work places =
-        zero_accepts (λ w. outcome (lower_words w)) Err _ (λ r. refl) refl (whole_check field s n ls es period result work places)
+        zero_accepts (λ w. outcome (number_words w)) Err _ (λ r. refl) refl (whole_check field s n ls es period result work places)
 
   module _ (cs : List (List ℕ)) where
     by_tests : (c : Checked) → answer (modulus field) cs c ≡ unless_refused c (λ r. answer (modulus field) cs (Err r)) (answer (modulus field) cs (Ok tt))

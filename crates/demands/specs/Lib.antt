@@ -11,3 +11,4 @@ pub mod Evaluating
 pub mod Numbered
 pub mod Before
 pub mod OneRoot
+pub mod Drawing

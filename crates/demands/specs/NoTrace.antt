@@ -7,6 +7,7 @@ use Rattle.dag.specs.Store.{stored}
 use Rattle.builder.specs.Calls.{build_check, build_result, build_map}
 use Rattle.compact.specs.Calls.{compact_check, compact_result}
 use Rattle.normalize.specs.Calls.{normalize_check, normalize_result, normalize_work}
+use Rattle.draw.specs.Calls.{draw_check, draw_text}
 use Rattle.lower.specs.Lower.{lower_check, whole_check, lower_result, lower_work, lower_places}
 
 module _ (field : Field) where
@@ -32,6 +33,10 @@ module _ (field : Field) where
       pub normalize_work_lem : normalize_work field s n roots (interleaved result).room work ≡ normalize_work field s n roots (interleaved result').room work'
       unfolding normalize_work
       normalize_work_lem = rw (← same_room result result' same, ← same_room work work' same-work, accepted, same-work)
+
+  pub draw_text_lem : (s : View) (n : ℕ) (roots text text' : List ℕ) → length text ≡ length text' → draw_check field s n roots (length text) ≡ Ok tt → draw_text field s n roots text ≡ draw_text field s n roots text'
+  unfolding draw_text
+  draw_text_lem s n roots text text' same accepted = rw (← same, accepted)
 
   module _ (s : View) (n : ℕ) (ls es : List ℕ) (period : ℕ) (result result' work work' places places' : List ℕ)
       (same : length result ≡ length result') (same-work : length work ≡ length work') (same-places : length places ≡ length places') where

@@ -24,9 +24,10 @@ use Rattle.normalize.specs.Calls.{normalize_check, normalize_answer, normalize_r
 use Rattle.columns.specs.Prepare.{prepare_check, prepare}
 use Rattle.lower.specs.Lower.{whole_check}
 use Rattle.lower.specs.Lower as Lowering
-use Rattle.ace.specs.Answers.{answer_width, list_width, evaluate_width, prepare_width, step_words, list_words, normalize_words, evaluate_words, prepare_words, lower_words}
+use Rattle.draw.specs.Calls as Drawing
+use Rattle.ace.specs.Answers.{answer_width, list_width, evaluate_width, prepare_width, step_words, list_words, normalize_words, evaluate_words, prepare_words, number_words}
 use Rattle.ace.specs.Calls as Calls
-use Rattle.demands.specs.Accepted.{outcome, step_accepts, build_accepts, compact_accepts, normalize_accepts, evaluate_accepts, prepare_accepts, lower_accepts}
+use Rattle.demands.specs.Accepted.{outcome, step_accepts, build_accepts, compact_accepts, normalize_accepts, evaluate_accepts, prepare_accepts, lower_accepts, draw_accepts}
 use Rattle.demands.specs.Normalising.{Done, count_of, places_of, rounds_of, answer_done, answer_many}
 use Rattle.demands.specs.Evaluating.{Values, evaluate_same}
 
@@ -74,6 +75,10 @@ module _ (number : ℕ) (none : numbered number ≡ None) where
   unfolding Calls.lower_result Calls.lower_work Calls.lower_places Calls.lower_answer
   lower_unknown list n lengths entries period result work places = (by_unknown number _ _ none, by_unknown number _ _ none, by_unknown number _ _ none, by_unknown number _ _ none)
 
+  pub draw_unknown : (list : List ℕ) (n : ℕ) (roots text : List ℕ) → (Calls.draw_answer number list n roots text ≡ Calls.unknown_words answer_width) × (Calls.draw_text number list n roots text ≡ text)
+  unfolding Calls.draw_answer Calls.draw_text
+  draw_unknown list n roots text = (by_unknown number _ _ none, by_unknown number _ _ none)
+
 -- For a number that names a field each call is that field's, so that what is shown of every field holds of it.
 module _ (number : ℕ) (prime : Prime) (known : numbered number ≡ Some prime) where
   pub step_known : (list : List ℕ) (n t a b : ℕ)
@@ -116,7 +121,7 @@ module _ (number : ℕ) (prime : Prime) (known : numbered number ≡ Some prime)
   module _ (list : List ℕ) (n : ℕ) (lengths entries : List ℕ) (period : ℕ) (result work places : List ℕ) where
     pub lower_known :
         (Calls.lower_answer number list n lengths entries period result work places
-        ≡ lower_words (Lowering.lower_answer (field_of prime) (interleaved list) n lengths entries period result work places))
+        ≡ number_words (Lowering.lower_answer (field_of prime) (interleaved list) n lengths entries period result work places))
         × (Calls.lower_result number list n lengths entries period result work places
         ≡ Lowering.lower_result (field_of prime) (interleaved list) n lengths entries period result work places)
         × (Calls.lower_work number list n lengths entries period result work places
@@ -125,6 +130,12 @@ module _ (number : ℕ) (prime : Prime) (known : numbered number ≡ Some prime)
         ≡ Lowering.lower_places (field_of prime) (interleaved list) n lengths entries period result work places)
     unfolding Calls.lower_answer Calls.lower_result Calls.lower_work Calls.lower_places
     lower_known = (by_known number _ _ known, by_known number _ _ known, by_known number _ _ known, by_known number _ _ known)
+
+  pub draw_known : (list : List ℕ) (n : ℕ) (roots text : List ℕ)
+      → (Calls.draw_answer number list n roots text ≡ number_words (Drawing.draw_answer (field_of prime) (interleaved list) n roots (length text)))
+      × (Calls.draw_text number list n roots text ≡ Drawing.draw_text (field_of prime) (interleaved list) n roots text)
+  unfolding Calls.draw_answer Calls.draw_text
+  draw_known list n roots text = (by_known number _ _ known, by_known number _ _ known)
 
 -- the number names a field, and there the tests pass
 abbrev pub Accepted : ℕ → (Prime → Checked) → Type 0
@@ -176,6 +187,10 @@ module _ (number : ℕ) (list : List ℕ) (n : ℕ) where
   unfolding Calls.lower_answer
   lower_number lengths entries period result work places =
       accepted_in number (Calls.unknown_words answer_width) refl _ _ (λ prime. lower_accepts (field_of prime) (interleaved list) n lengths entries period result work places)
+
+  pub draw_number : (roots text : List ℕ) → (outcome (Calls.draw_answer number list n roots text) ≡ 0) ↔ Accepted number (λ prime. Drawing.draw_check (field_of prime) (interleaved list) n roots (length text))
+  unfolding Calls.draw_answer
+  draw_number roots text = accepted_in number (Calls.unknown_words answer_width) refl _ _ (λ prime. draw_accepts (field_of prime) (interleaved list) n roots (length text))
 
 pub prepare_number : (number : ℕ) (lengths entries : List ℕ)
     → (outcome (Calls.prepare_answer number lengths entries) ≡ 0) ↔ Accepted number (λ prime. prepare_check (modulus (field_of prime)) lengths entries)

@@ -11,6 +11,7 @@ use Rattle.builder.specs.Calls.{step_check, has_room, stepped, step_room_check, 
 use Rattle.compact.specs.Calls.{compacted, compact_check, compact_answer, compact_result}
 use Rattle.normalize.specs.Calls.{normalize_check, normalized, normalize_answer, normalize_result, normalize_work}
 use Rattle.evaluate.specs.Calls.{evaluate_check, evaluate_answer}
+use Rattle.draw.specs.Calls.{drawn, draw_check, draw_answer, draw_text}
 use Rattle.columns.specs.Columns.{log_within}
 use Rattle.periodic.specs.Periodic.{build_periodic_nodes}
 use Rattle.columns.specs.Prepare.{columns}
@@ -74,6 +75,14 @@ module _ (field : Field) where
     pub evaluate_answer_lem : (roots a : List ℕ) (m : ℕ) → evaluate_answer field s n roots a m ≡ evaluate_answer field u n roots a m
     unfolding evaluate_answer evaluate_check
     evaluate_answer_lem roots a m = rw (same_check roots, same_nodes)
+
+    pub draw_answer_lem : (roots : List ℕ) (text_room : ℕ) → draw_answer field s n roots text_room ≡ draw_answer field u n roots text_room
+    unfolding draw_answer draw_check drawn
+    draw_answer_lem roots text_room = rw (same_check roots, same_nodes)
+
+    pub draw_text_lem : (roots text : List ℕ) → draw_text field s n roots text ≡ draw_text field u n roots text
+    unfolding draw_text draw_check drawn
+    draw_text_lem roots text = rw (same_check roots, same_nodes)
 
     module _ (ls es : List ℕ) (period : ℕ) where
       same_lowered : lowered field s n ls es period ≡ lowered field u n ls es period

@@ -1,4 +1,4 @@
--- Examples A to L, I and J in both fields, and M of several roots: each is an answer of a definition and the answer that is stated.
+-- Examples A to L, I and J in both fields, M of several roots, and N of drawings: each is an answer of a definition and the answer that is stated.
 use Rattle.std.specs.Prelude.{ℕ, zero, suc, ◌*◌, ◌-◌, List, [], ◌∷◌, ◌++◌, map, ◌≡◌, refl, length, replicate, Err, Result, Ok}
 use Rattle.field.specs.Fields.{field_of, goldilocks}
 use Rattle.dag.specs.declared.Refusal.{Refusal}
@@ -28,10 +28,13 @@ use Rattle.periodic.specs.Builder.{turns, done}
 use Rattle.periodic.specs.Periodic.{build_periodic_nodes}
 use Rattle.lower.specs.Lower.{lower_room, lower_stores, period_good, lower_check, lowered, whole_check, lower_answer, lower_result}
 use Rattle.normalize.specs.Calls.{normalized}
-use Rattle.text.specs.Text.{ascii, digits, decimal, ended, line}
+use Rattle.text.specs.Text.{ascii, digits, decimal, integer, ended, line, pieces, rows}
 use Rattle.house_file.specs.File.{number, words_at, file_view, is_version, root_count, roots_place, file_root, is_count, head_check, form_check, held_check, file_check}
-use Rattle.listing.specs.Kinds.{kind}
-use Rattle.listing.specs.Listing.{first_line, record_line, record_lines, listed, refused_line, listing}
+use Rattle.wording.specs.Kinds.{kind}
+use Rattle.wording.specs.Refused.{refused_line}
+use Rattle.listing.specs.Listing.{first_line, record_line, listed, listing}
+use Rattle.signed.specs.Signed.{signed}
+use Rattle.draw.specs.Drawing.{coordinate, numbers, label, node_text, edge_text, node_line, edge_line, drawing}
 
 -- the two sides of an example
 pub record Example : Type 1 where
@@ -263,6 +266,30 @@ M-union = record {
   stated = record { list = Input 0 ∷ Input 1 ∷ Input 2 ∷ Mul 0 2 ∷ []; roots = 3 ∷ 1 ∷ [] };
 }
 
+-- a list of every kind, and −1 in both fields
+abbrev every_kind : ℕ → List NodeKind
+every_kind m = Input 5 ∷ Constant (new (m - 1) 0) ∷ Add 0 1 ∷ Sub 2 0 ∷ Mul 3 3 ∷ Neg 4 ∷ []
+
+abbrev drawn_kinds : List ℕ
+drawn_kinds =
+    ascii "digraph g {\nn0 [label=\"in 5\"];\nn1 [label=\"const -1 0\"];\nn2 [label=\"add\"];\nn3 [label=\"sub\"];\nn4 [label=\"mul\"];\nn5 [label=\"neg\"];\n"
+    ++ ascii "n2 -> n0;\nn2 -> n1;\nn3 -> n2;\nn3 -> n0;\nn4 -> n3;\nn4 -> n3;\nn5 -> n4;\n}\n"
+
+-- their drawing, byte for byte
+abbrev N : Example
+N = record { Answer = List ℕ; computed = drawing p (every_kind p); stated = drawn_kinds }
+
+abbrev N-second : Example
+N-second = record { Answer = List ℕ; computed = drawing q (every_kind q); stated = drawn_kinds }
+
+-- a constant at both ends of the range
+abbrev N-ends : Example
+N-ends = record {
+  Answer = List ℕ;
+  computed = label p (Constant (new 9223372034707292160 9223372034707292161));
+  stated = ascii "const 9223372034707292160 -9223372034707292160";
+}
+
 three_sparse : K-three.computed ≡ K-three.stated
 unfolding unit choices log_within log_length occurrences is_sparse standalone places_from with_new values_from values weight heaviest dominant is_scaled scalings combination_cost offset equal_entries gain same_entries is_among saving savings goes_over form up_to
 three_sparse = refl
@@ -280,7 +307,7 @@ unfolding unit choices log_within log_length occurrences is_sparse standalone pl
 copies_sparse = refl
 
 pub examples : List Example
-examples = A ∷ A-refused ∷ B ∷ C-normalized ∷ C-compacted ∷ D ∷ E ∷ F ∷ G ∷ H ∷ I ∷ I-refused ∷ I-second ∷ J ∷ J-second ∷ K-three ∷ K-four-below ∷ K-four-with ∷ K-copies ∷ L ∷ L-copied ∷ M ∷ M-order ∷ M-refused ∷ M-second ∷ M-twice ∷ M-union ∷ []
+examples = A ∷ A-refused ∷ B ∷ C-normalized ∷ C-compacted ∷ D ∷ E ∷ F ∷ G ∷ H ∷ I ∷ I-refused ∷ I-second ∷ J ∷ J-second ∷ K-three ∷ K-four-below ∷ K-four-with ∷ K-copies ∷ L ∷ L-copied ∷ M ∷ M-order ∷ M-refused ∷ M-second ∷ M-twice ∷ M-union ∷ N ∷ N-second ∷ N-ends ∷ []
 
 pub all_examples : All examples
 unfolding
@@ -292,6 +319,6 @@ unfolding
     saving savings goes_over form up_to lower_check lower_stores lower_room interleaved stored rootless_check check_at record_check formed
     earlier is_key prepare_check first_refused total columns period_good lowered build_periodic_nodes turns done record_at nodes decode words
     words_of filled choices list_check roots_check room_check whole_check lower_answer lower_result normalized ascii digits decimal ended line number
-    words_at file_view is_version root_count roots_place file_root is_count head_check form_check held_check file_check kind first_line record_line record_lines listed refused_line listing
-    greatest
-all_examples = (refl, (refl, (refl, (refl, (refl, (refl, (refl, (refl, (refl, (refl, (refl, (refl, (refl, (refl, (refl, (three_sparse, (four_below, (four_with, (copies_sparse, (refl, (refl, (refl, (refl, (refl, (refl, (refl, (refl, tt)))))))))))))))))))))))))))
+    words_at file_view is_version root_count roots_place file_root is_count head_check form_check held_check file_check kind first_line record_line listed refused_line listing
+    greatest integer pieces rows signed coordinate numbers label node_text edge_text node_line edge_line drawing
+all_examples = (refl, (refl, (refl, (refl, (refl, (refl, (refl, (refl, (refl, (refl, (refl, (refl, (refl, (refl, (refl, (three_sparse, (four_below, (four_with, (copies_sparse, (refl, (refl, (refl, (refl, (refl, (refl, (refl, (refl, (refl, (refl, (refl, tt))))))))))))))))))))))))))))))

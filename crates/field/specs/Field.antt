@@ -1,6 +1,6 @@
 -- The two fields: residues modulo p, and pairs of them with u² = 7; residues modulo q, which have no second part.
-use Rattle.std.specs.Prelude.{◌≡◌, ℕ, ◌+◌, ◌-◌, ◌^◌, ◌<◌, Bool, ◌&&◌, ◌==◌, refl}
-use Rattle.std.proofs.Common.{sym, ap, ap₂, arith, lit<}
+use Rattle.std.specs.Prelude.{◌≡◌, ℕ, ◌+◌, ◌-◌, ◌^◌, ◌<◌, ◌≤◌, Bool, ◌&&◌, ◌==◌, refl}
+use Rattle.std.proofs.Common.{sym, ap, ap₂, arith, lit<, lit≤}
 use Rattle.ring.specs.Ring.{Ops, Laws, with_low}
 use Rattle.ring.specs.Residue.{residues, residues_laws}
 use Rattle.ring.specs.Pair.{IsPair, pairs, pairs_laws}
@@ -76,6 +76,11 @@ large BabyBear = lit< tt
 pub zero_second : (prime : Prime) → 0 < second_below prime
 zero_second Goldilocks = lit< tt
 zero_second BabyBear = lit< tt
+
+-- what second coordinates are below is at most the modulus
+pub second_most : (prime : Prime) → second_below prime ≤ modulus_of prime
+second_most Goldilocks = omega arith
+second_most BabyBear = lit≤ tt
 
 -- The laws hold of the residues modulo any number above 1, of the pairs over any ring, and of their first parts.
 pub of_residues : (prime : Prime) → Laws (felt prime)

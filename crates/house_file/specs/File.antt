@@ -122,3 +122,11 @@ read_answer file room = unless_refused (read_check file room) Err (Ok (filed fil
 -- the list, blanks behind it
 unfoldable pub read_list : List ℕ → List ℕ → List ℕ
 read_list file list = unless_refused (read_check file (interleaved list).room) (λ r. list) (stored list (file_list file))
+
+-- what is made of a file: of why it is refused, or of the file
+abbrev pub of_file : {A : Type 0} → (Refusal → A) → (List ℕ → A) → List ℕ → A
+of_file refuse give file = unless_refused (file_check file) refuse (give file)
+
+-- so many bytes of an input decide what is made of it: one more than the longest file of good form has
+abbrev pub enough : ℕ
+enough = 6 + 4 * most_named + 17 * most_filed + 1

@@ -20,7 +20,7 @@ use Rattle.dag.specs.declared.Refusal.{Refusal}
 use Rattle.dag.specs.declared.Refusal.TheVariants.{FileTooShort, FileVersion, FileCount, FileLength}
 use Rattle.house_file.specs.declared.Filed.{Filed}
 use Rattle.house_file.specs.Promises.{Headed, Formed, Passed, Done}
-use Rattle.house_file.specs.File.{number, version, is_version, file_count, roots_place, file_roots, most_filed, record_place, file_view, file_list, is_count, head_check, form_check, held_check, file_check, store_check, read_check, read_answer, read_list, filed}
+use Rattle.house_file.specs.File.{number, version, is_version, file_count, roots_place, file_roots, most_filed, record_place, file_view, file_list, is_count, head_check, form_check, held_check, file_check, of_file, store_check, read_check, read_answer, read_list, filed}
 
 -- the roots begin by byte 6
 pub place_most : (file : List ℕ) → roots_place file ≤ 6
@@ -86,7 +86,7 @@ room_enough file room h = go (form_check file) refl
     go (Err r) e = refl
 
 -- what an answer tells of the tests
-pub read_refused : (file : List ℕ) (room : ℕ) (r : Refusal) → read_answer file room ≡ Err r → read_check file room ≡ Err r
+read_refused : (file : List ℕ) (room : ℕ) (r : Refusal) → read_answer file room ≡ Err r → read_check file room ≡ Err r
 unfolding read_answer
 read_refused file room r = go (read_check file room)
   where
@@ -161,3 +161,15 @@ pub number_next : (file : List ℕ) (at i v b : ℕ) → v ≡ number file at i 
     → (v * 256 + b ≡ number file at (i + 1)) × (v * 256 + b < 256 ^ (i + 1))
 unfolding number
 number_next file at i v b e k f l = rw (add-one i) (ap₂ (λ x y. x * 256 + y) e f, omega (arith, pow-suc 256 i))
+
+-- what is made of a file that was read into a store for the longest
+module _ {A : Type 0} (refuse : Refusal → A) (give : List ℕ → A) (file : List ℕ) (room : ℕ) (h : most_filed ≤ room) where
+  pub made_refused : (r : Refusal) → read_answer file room ≡ Err r → refuse r ≡ of_file refuse give file
+  made_refused r e = rw (← room_enough file room h, read_refused file room r e)
+
+  pub made_good : read_check file room ≡ Ok tt → give file ≡ of_file refuse give file
+  made_good e = rw (← room_enough file room h, e)
+
+-- a store of the words that the longest file's records take
+pub store_room : (words : List ℕ) → length words ≡ record_words * most_filed → most_filed ≤ (interleaved words).room
+store_room words e = filed_room words most_filed e (omega arith)

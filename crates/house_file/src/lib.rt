@@ -19,6 +19,9 @@ pub const FILED_WORDS: usize = dag::RECORD_WORDS * MOST_FILED as usize;
 // The most roots that a file can name.
 const MOST_NAMED: usize = 255;
 
+// So many bytes of an input decide what is made of it: one more than the longest file of good form has.
+pub const ENOUGH: usize = 18435;
+
 // What reading a file answers: how many records its list has, and its roots.
 #[derive(Drop)]
 pub struct Filed {

@@ -23,8 +23,9 @@ use Rattle.dag.specs.Refusals.{Checked, unless_refused}
 use Rattle.house_file.specs.File.{most_filed, file_count, file_roots, file_view, held_check, read_answer, read_list}
 use Rattle.house_file.specs.declared.Filed.{Filed}
 use Rattle.house_file.specs.Promises as FileContracts
-use Rattle.house_file.specs.FileLaws.{filed_room, room_enough, read_refused, Read, read_done, read_agrees, passed as file-passed}
-use Rattle.listing.specs.Listing.{listed, refused_line, words_listing, listing}
+use Rattle.house_file.specs.FileLaws.{room_enough, made_refused, Read, read_done, read_agrees, passed as file-passed}
+use Rattle.wording.specs.Refused.{refused_line}
+use Rattle.listing.specs.Listing.{listed, held_listing, words_listing, listing}
 use Rattle.listing.specs.Promises.{answer_text, Tells}
 
 -- Normalise's answer, past its tests
@@ -73,7 +74,7 @@ agree_listing u v n left right a roots result_room work_room = let h = alike u v
 module _ (file list : List ℕ) (h : most_filed ≤ (interleaved list).room) where
   pub file_refused : (r : Refusal) → read_answer file (interleaved list).room ≡ Err r → refused_line r ≡ listing file
   unfolding listing
-  file_refused r e = rw (← room_enough file (interleaved list).room h, read_refused file (interleaved list).room r e)
+  file_refused r e = made_refused refused_line held_listing file (interleaved list).room h r e
 
   module _ (filed : Filed) (e : read_answer file (interleaved list).room ≡ Ok filed) where
     done : Read file (interleaved list).room filed
@@ -99,9 +100,6 @@ module _ (file list : List ℕ) (h : most_filed ≤ (interleaved list).room) whe
           rw done.filed_is
           (agree_listing (interleaved after) (file_view file) (file_count file) left (omega arith) same (file_roots file) result_room work_room ∙ file_listed)
 
--- stores of the words that the longest file's records take, and of twice as many
-pub store_room : (words : List ℕ) → length words ≡ record_words * most_filed → most_filed ≤ (interleaved words).room
-store_room words e = filed_room words most_filed e (omega arith)
-
+-- a store of twice as many words as the longest file's records take
 pub work_room_is : (words : List ℕ) → length words ≡ 2 * (record_words * most_filed) → 2 * most_filed ≤ (interleaved words).room
 work_room_is words e = words_room words (2 * most_filed) (omega (arith, e))

@@ -1,16 +1,16 @@
 -- The installers' listing as a list of bytes: of an answer, of a refusal, and of a whole house file.
-use Rattle.std.specs.Prelude.{ℕ, zero, suc, ◌+◌, ◌*◌, List, [], ◌∷◌, ◌++◌, map, length}
+use Rattle.std.specs.Prelude.{ℕ, ◌+◌, ◌*◌, List, [], ◌∷◌, ◌++◌, map, length}
 use Rattle.field.specs.Fields.{goldilocks}
 use Rattle.dag.specs.View.{View}
 use Rattle.dag.specs.Nodes.{at, first, second}
-use Rattle.dag.specs.Refusals.{number, place, unless_refused}
+use Rattle.dag.specs.Refusals.{unless_refused}
 use Rattle.dag.specs.declared.NodeKind.{NodeKind}
-use Rattle.dag.specs.declared.Refusal.{Refusal}
 use Rattle.normalize.specs.Rounds.{Normal}
 use Rattle.normalize.specs.Calls.{normalize_check, normalized}
-use Rattle.text.specs.Text.{ascii, decimal, line}
-use Rattle.house_file.specs.File.{most_filed, most_named, file_count, file_roots, file_view, file_check}
-use Rattle.listing.specs.Kinds.{kind}
+use Rattle.text.specs.Text.{ascii, decimal, line, rows}
+use Rattle.house_file.specs.File.{file_count, file_roots, file_view, of_file}
+use Rattle.wording.specs.Kinds.{kind}
+use Rattle.wording.specs.Refused.{refused_line}
 
 -- count, roots and rounds kept
 unfoldable pub first_line : ℕ → List ℕ → ℕ → List ℕ
@@ -22,31 +22,26 @@ unfoldable pub record_line : ℕ → NodeKind → List ℕ
 record_line i x = line (decimal i ∷ kind x ∷ decimal (first x) ∷ decimal (second x) ∷ [])
 
 -- the lines of the first n records
-unfoldable pub record_lines : List NodeKind → ℕ → List ℕ
-record_lines l zero = []
-record_lines l (suc n) = record_lines l n ++ record_line n (at l n)
+abbrev pub record_lines : List NodeKind → ℕ → List ℕ
+record_lines l = rows (λ i. record_line i (at l i))
 
 -- an answer: the first line, then a line a record
 unfoldable pub listed : Normal → List ℕ
 listed a = first_line (length a.list) a.roots a.rounds ++ record_lines a.list (length a.list)
-
--- a refusal: its number and its place
-unfoldable pub refused_line : Refusal → List ℕ
-refused_line r = line (ascii "refused" ∷ decimal (number r) ∷ decimal (place r) ∷ [])
 
 -- what Normalise answers to the list that a store holds
 unfoldable pub words_listing : View → ℕ → List ℕ → ℕ → ℕ → List ℕ
 words_listing s n roots result_room work_room =
     unless_refused (normalize_check goldilocks s n roots result_room work_room) refused_line (listed (normalized goldilocks s n roots))
 
--- a whole file
+-- the listing of what Normalise answers to the list that a file holds
+abbrev pub held_listing : List ℕ → List ℕ
+held_listing file = listed (normalized goldilocks (file_view file) (file_count file) (file_roots file))
+
+-- a whole file: that listing, or the refused line
 unfoldable pub listing : List ℕ → List ℕ
-listing file = unless_refused (file_check file) refused_line (listed (normalized goldilocks (file_view file) (file_count file) (file_roots file)))
+listing = of_file refused_line held_listing
 
 -- a listing of n records has no more bytes: 68 in its first line, 53 in each other
 abbrev pub most_bytes : ℕ → ℕ
 most_bytes n = 68 + 53 * n
-
--- so many bytes of an input decide its listing: one more than the longest file of good form has
-abbrev pub enough : ℕ
-enough = 6 + 4 * most_named + 17 * most_filed + 1

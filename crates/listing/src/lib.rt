@@ -1,28 +1,25 @@
 // The installers' listing: the text of what Normalise answers to a house file.
 #![tactic(auto)]
 
+ghost use Rattle.std.specs.Prelude.{◌≡◌, ◌+◌, ◌≤◌, length, take};
+ghost use Rattle.dag.specs.View.{interleaved};
+ghost use Rattle.dag.specs.Nodes as Nodes;
+ghost use Rattle.dag.specs.Roots.{roots_of};
+ghost use Rattle.text.specs.Promises.{HasRoom, Laid, Writes, Wrote};
+ghost use Rattle.house_file.specs.File.{enough};
+ghost use Rattle.listing.specs.Listing as Listing;
+ghost use Rattle.listing.specs.Promises as Promises;
+
 use dag::{NodeKind, Refusal, Words};
 use field::Prime;
 use house_file::FILED_WORDS;
 use normalize::NormalEnd;
 use text::{End, Text};
-
-pub mod kinds;
-
-ghost use Rattle.std.specs.Prelude.{◌≡◌, ◌+◌, ◌≤◌, length, take};
-ghost use Rattle.dag.specs.View.{interleaved};
-ghost use Rattle.dag.specs.Nodes as Nodes;
-ghost use Rattle.dag.specs.Roots.{roots_of};
-ghost use Rattle.text.specs.Text.{end_byte, laid};
-ghost use Rattle.text.specs.Promises.{HasRoom, Laid, Wrote};
-ghost use Rattle.listing.specs.Listing as Listing;
-ghost use Rattle.listing.specs.Promises as Promises;
+use wording::kinds::kind_of;
+use wording::write_refused;
 
 // No listing of a house file has more bytes.
 pub const MOST_BYTES: usize = 54340;
-
-// So many bytes of an input decide its listing: one more than the longest file of good form has.
-pub const ENOUGH: usize = 18435;
 
 // Writes the line of the record x at place i.
 #[tactic(auto, using(crate::specs::LineLaws::length_record))]
@@ -32,7 +29,7 @@ fn put_record(text: &mut Text, i: usize, x: NodeKind)
 {
     let words = Words::from(x);
     text.number(i as u64, End::Space);
-    text.word(kinds::kind_of(x), End::Space);
+    text.word(kind_of(x), End::Space);
     text.number(words.first, End::Space);
     text.number(words.second, End::Newline);
 }
@@ -45,16 +42,6 @@ fn put_records(text: &mut Text, list: &[u64], n: usize)
     for i in 0..n {
         put_record(text, i, dag::node_at(list, i));
     }
-}
-
-// Writes a word, a space, a number and the byte that ends it.
-#[tactic(auto, using(crate::specs::LineLaws::length_named))]
-fn put_named(text: &mut Text, name: &[u8], n: u64, end: End)
-    requires { HasRoom text.old (Promises.named name.now n (end_byte end)) }
-    ensures { Wrote text.old (Promises.named name.now n (end_byte end)) text.new }
-{
-    text.word(name, End::Space);
-    text.number(n, end);
 }
 
 // Writes roots, a space behind each.
@@ -73,10 +60,10 @@ fn put_first(text: &mut Text, end: &NormalEnd)
     requires { HasRoom text.old (Listing.first_line end.now.dag.count (roots_of end.now.dag.roots) end.now.rounds) }
     ensures { Wrote text.old (Listing.first_line end.now.dag.count (roots_of end.now.dag.roots) end.now.rounds) text.new }
 {
-    put_named(text, b"nodes", end.dag.count as u64, End::Space);
+    text.named(b"nodes", end.dag.count as u64, End::Space);
     text.word(b"root", End::Space);
     put_roots(text, end.dag.roots.places.as_slice());
-    put_named(text, b"rounds", end.rounds as u64, End::Newline);
+    text.named(b"rounds", end.rounds as u64, End::Newline);
 }
 
 // Writes the listing of an answer: a first line, then a line a record. Answers its length.
@@ -88,18 +75,6 @@ fn write_listing(list: &[u64], end: &NormalEnd, out: &mut [u8]) -> usize
     let mut text = Text::new(out);
     put_first(&mut text, end);
     put_records(&mut text, list, end.dag.count);
-    text.finish()
-}
-
-// Writes the line of a refusal. Answers its length.
-#[tactic(auto, using(crate::specs::LineLaws::length_refused), unfolding(text::specs::Text::ascii))]
-fn write_refused(r: Refusal, out: &mut [u8]) -> usize
-    requires { length (Listing.refused_line r) ≤ length out.old }
-    ensures { Laid out.old (Listing.refused_line r) out.new result }
-{
-    let mut text = Text::new(out);
-    put_named(&mut text, b"refused", r.number(), End::Space);
-    text.number(r.place() as u64, End::Newline);
     text.finish()
 }
 
@@ -134,8 +109,8 @@ fn list_file(file: &[u8], out: &mut [u8]) -> usize
 
 // Writes the listing of an input of which the first n bytes of a buffer are read. Answers its length.
 pub fn list_input(buffer: &[u8], n: usize, out: &mut [u8]) -> usize
-    requires { (Listing.enough ≤ length buffer.now) × (n ≤ length buffer.now) × (length (Listing.listing (take n buffer.now)) ≤ length out.old) }
-    ensures listed { Promises.Lists buffer.now n out.old out.new result }
+    requires { (enough ≤ length buffer.now) × (n ≤ length buffer.now) × (length (Listing.listing (take n buffer.now)) ≤ length out.old) }
+    ensures listed { Writes Listing.listing buffer.now n out.old out.new result }
     ensures fits { result ≤ length out.new }
 {
     list_file(&buffer[..n], out)

@@ -12,7 +12,7 @@ use std::io::{Read, Write};
 fn list<R: Read, W: Write>(input: &mut R, output: &mut W) -> io::Result<()>
     ensures { OnOk result (IfSome (R.remaining input.old) (λ file. Appends (W.contents output.old) (W.contents output.new) (listing file))) }
 {
-    let mut buffer = [0u8; listing::ENOUGH];
+    let mut buffer = [0u8; house_file::ENOUGH];
     let n = streams::read_full(input, &mut buffer)?;
     let mut text = [0u8; listing::MOST_BYTES];
     let length = listing::list_input(&buffer, n, &mut text);

@@ -1,9 +1,9 @@
 -- A number's digits: those of a tenth and one more, and how many there are.
-use Rattle.std.specs.Prelude.{ℕ, zero, suc, ◌+◌, ◌/◌, ◌%◌, ◌^◌, ◌≤◌, ◌<◌, [], ◌∷◌, ◌++◌, ◌≡◌, length}
-use Rattle.std.proofs.Common.{sym, ◌∙◌, ap, pow-suc, arith, lt-ltb, le-ltb, length-append}
+use Rattle.std.specs.Prelude.{ℕ, zero, suc, ◌+◌, ◌/◌, ◌%◌, ◌^◌, ◌≤◌, ◌<◌, List, [], ◌∷◌, ◌++◌, ◌≡◌, length}
+use Rattle.std.proofs.Common.{sym, ◌∙◌, ap, pow-suc, arith, lt-ltb, le-ltb, length-append, lt_of_lt_of_le, lit≤}
 use Rattle.std.proofs.Math.Decide.{dec_le}
 use Rattle.std.proofs.Math.Nat.{pow-zero}
-use Rattle.text.specs.Text.{digits, decimal, ended}
+use Rattle.text.specs.Text.{digits, decimal, ended, named, space}
 use Rattle.text.specs.WritingLaws.{length_ended}
 
 -- one digit, or those of a tenth and one more
@@ -56,3 +56,18 @@ decimal_short k n h = digits_short (suc n) k n h
 
 pub number_short : (k n end : ℕ) → n < 10 ^ suc k → length (ended (decimal n) end) ≤ k + 2
 number_short k n end h = let s = decimal_short k n h in omega (arith, length_ended (decimal n) end)
+
+-- a 64-bit word has at most 20 digits
+pub word_digits : (n : ℕ) → n < 2 ^ 64 → length (decimal n) ≤ 20
+word_digits n h = decimal_short 19 n (lt_of_lt_of_le h (lit≤ tt))
+
+pub word_short : (n end : ℕ) → n < 2 ^ 64 → length (ended (decimal n) end) ≤ 21
+word_short n end h = omega (arith, length_ended (decimal n) end, word_digits n h)
+
+pub length_named : (word : List ℕ) (n end : ℕ) → length (named word n end) ≡ length (ended word space) + length (ended (decimal n) end)
+unfolding named
+length_named word n end = length-append (ended word space) (ended (decimal n) end)
+
+-- a number of at most four digits behind a word
+pub named_short : (word : List ℕ) (n end : ℕ) → n < 10000 → length (named word n end) ≤ length word + 6
+named_short word n end h = omega (arith, length_named word n end, length_ended word space, number_short 3 n end h)

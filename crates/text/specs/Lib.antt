@@ -1,4 +1,9 @@
 pub mod Text
 pub mod DecimalLaws
+pub mod IntegerLaws
+pub mod CutLaws
+pub mod CountLaws
 pub mod Promises
 pub mod WritingLaws
+pub mod PieceLaws
+pub mod OutputLaws

@@ -24,3 +24,11 @@ pub record Laid (s text after : List ℕ) (r : ℕ) : Type 0 where
   pub store_is : after ≡ laid (length s) text
   pub length_is : r ≡ length text
   pub fits : length text ≤ length s
+
+-- the first n bytes of a buffer are an input's: all of them, or as many as the buffer holds
+abbrev pub Read : List ℕ → List ℕ → ℕ → Type 0
+Read input buffer n = take (length buffer) input ≡ take n buffer
+
+-- whatever input was read into a buffer, the text that is made of it is written whole
+abbrev pub Writes : (List ℕ → List ℕ) → List ℕ → ℕ → List ℕ → List ℕ → ℕ → Type 0
+Writes made buffer n before after r = (input : List ℕ) → Read input buffer n → Laid before (made input) after r

@@ -1,5 +1,5 @@
 use Rattle.std.proofs.Common.{arith}
-use Rattle.listing.specs.CutLaws.{lists}
+use Rattle.listing.specs.InputLaws.{lists}
 use Rattle.listing.proofs.list_input.Goals as goal
 
 pub returns-clause-listed : goal.returns-clause-listed

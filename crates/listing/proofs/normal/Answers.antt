@@ -1,6 +1,7 @@
 use Rattle.std.proofs.Common.{ℕ, ◌≡◌, Err, sym, subst, rules}
 use Rattle.std.proofs.lemmas.List.{length-replicate}
-use Rattle.listing.specs.CallLaws.{words_told, file_refused, file_done, store_room, work_room_is}
+use Rattle.listing.specs.CallLaws.{words_told, file_refused, file_done, work_room_is}
+use Rattle.house_file.specs.FileLaws.{store_room}
 use Rattle.listing.specs.Promises.{Tells}
 use Rattle.listing.proofs.normal.Goals as goal
 

@@ -8,4 +8,4 @@ pub returns : goal.returns
 unfolding ascii roots_of
 returns c =
     wrote_as (first_is _ _ _)
-    (and_then c.put_named.ensures (and_then c.word.ensures (and_then (rw c.as_slice.ensures.value at c.put_roots.ensures) c.put_named-2.ensures)))
+    (and_then c.named.ensures (and_then c.word.ensures (and_then (rw c.as_slice.ensures.value at c.put_roots.ensures) c.named-2.ensures)))

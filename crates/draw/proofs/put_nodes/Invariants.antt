@@ -1,0 +1,10 @@
+-- The invariant: the lines of the records before this one are written.
+use Rattle.field.specs.Field.{modulus_of}
+use Rattle.dag.specs.View.{interleaved}
+use Rattle.dag.specs.Nodes.{nodes}
+use Rattle.text.specs.Promises.{Wrote}
+use Rattle.draw.specs.Drawing.{node_lines}
+use Rattle.draw.proofs.put_nodes.Given as goal
+
+abbrev pub invariant-loop-i : goal.invariant-loop-i
+invariant-loop-i l = let d = l.dag in Wrote l.initial.text (node_lines (modulus_of d.prime) (nodes (interleaved d.list.now) d.n) l.i) l.text

@@ -1,0 +1,3 @@
+pub mod FileDrawing
+pub mod Promises
+pub mod FileDrawingLaws

@@ -1,0 +1,3 @@
+// What a drawing says: definitions and theorems stand in specs/.
+
+#![tactic(auto)]

@@ -1,0 +1,4 @@
+pub mod Kinds
+pub mod KindLaws
+pub mod Refused
+pub mod RefusedLaws
