@@ -1,9 +1,10 @@
 //! The proved calls on ACE constraint lists, for Rust.
 //!
-//! Every call takes a [`Field`], lends its stores as slices of words and answers its values or a
-//! [`Refusal`]. Nothing that is lent is tested here: what the calls say of all inputs, refused ones
-//! among them, is proved where they are written. A list has `n` records of three words: tag, first
-//! word, second word, and one to eight roots, places of its own that are answered in their order.
+//! Every call takes a [`Field`], lends its stores as slices of words, or of bytes for a text, and
+//! answers its values or a [`Refusal`]. Nothing that is lent is tested here: what the calls say of
+//! all inputs, refused ones among them, is proved where they are written. A list has `n` records of
+//! three words: tag, first word, second word, and one to eight roots, places of its own that are
+//! answered in their order.
 //!
 //! | tag | record   | words                                                          |
 //! |-----|----------|----------------------------------------------------------------|
@@ -15,8 +16,8 @@
 //! | 5   | neg      | a place, 0                                                     |
 //!
 //! After a call that accepts, the words of a result, map or place store behind the last one filled
-//! are blank, and a work store is blank throughout. A refusal changes no store, save that the 7 of
-//! `lower` leaves its work store blank.
+//! are blank, a work store is blank throughout, and the bytes behind a text are 0. A refusal
+//! changes no store, save that the 7 of `lower` leaves its work store blank.
 //!
 //! A program that uses the crate names it by its path in a clone of the repository:
 //!
@@ -410,4 +411,41 @@ pub fn lower(
         words::lower(field, list, n, lengths, entries, period, result, work, places, answer)
     })?;
     Ok(count)
+}
+
+/// The list as a text of Graphviz DOT: a node for each record, then an edge for each operand, and 0
+/// bytes to the end of `text`. Answers the text's length. The roots are tested, but not drawn.
+///
+/// Lends `text`, for which 14 bytes and 65 a record always do. A constant's coordinates are signed
+/// numbers:
+///
+/// ```
+/// let field = ace::Field::Goldilocks;
+/// let list = [0, 5, 0, 1, field.modulus() - 1, 0, 4, 0, 1];
+/// let mut text = [9; 14 + 65 * 3];
+/// let length = ace::draw(field, &list, 3, &[2], &mut text).unwrap();
+/// let drawing = "\
+/// digraph g {
+/// n0 [label=\"in 5\"];
+/// n1 [label=\"const -1 0\"];
+/// n2 [label=\"mul\"];
+/// n2 -> n0;
+/// n2 -> n1;
+/// }
+/// ";
+/// assert_eq!(std::str::from_utf8(&text[..length]), Ok(drawing));
+/// assert!(text[length..].iter().all(|&byte| byte == 0));
+///
+/// let refused = ace::draw(field, &list, 3, &[2], &mut text[..length - 1]).unwrap_err();
+/// assert_eq!((refused.number, refused.place), (41, 0));
+/// ```
+pub fn draw(
+    field: Field,
+    list: &[u64],
+    n: u64,
+    roots: &[u64],
+    text: &mut [u8],
+) -> Result<usize, Refusal> {
+    let [_, length, ..] = told(|answer| words::draw(field.number(), list, n, roots, text, answer))?;
+    Ok(length as usize)
 }

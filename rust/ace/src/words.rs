@@ -12,7 +12,7 @@ pub const INTERFACE: u64 = 3;
 /// The most roots of a list.
 pub const MOST_ROOTS: usize = 8;
 
-/// The answer words of a step and of lowering.
+/// The answer words of a step, of lowering and of drawing.
 pub const ANSWER: usize = 4;
 
 /// The answer words of a call that answers a list: with the count, the rounds kept and the roots.
@@ -116,6 +116,18 @@ unsafe extern "C" {
         work_len: usize,
         places: *mut u64,
         places_len: usize,
+        answer: *mut u64,
+    );
+
+    fn ace_draw(
+        field: u64,
+        list: *const u64,
+        list_len: usize,
+        n: u64,
+        roots: *const u64,
+        roots_len: usize,
+        text: *mut u8,
+        text_len: usize,
         answer: *mut u64,
     );
 }
@@ -309,6 +321,32 @@ pub fn lower(
             work.len(),
             places.as_mut_ptr(),
             places.len(),
+            answer.as_mut_ptr(),
+        );
+    }
+}
+
+/// The list's drawing, 0 bytes behind it: its length in bytes.
+pub fn draw(
+    field: u64,
+    list: &[u64],
+    n: u64,
+    roots: &[u64],
+    text: &mut [u8],
+    answer: &mut [u64; ANSWER],
+) {
+    same_interface();
+    // SAFETY: each slice is lent with its length, and those written overlap no other.
+    unsafe {
+        ace_draw(
+            field,
+            list.as_ptr(),
+            list.len(),
+            n,
+            roots.as_ptr(),
+            roots.len(),
+            text.as_mut_ptr(),
+            text.len(),
             answer.as_mut_ptr(),
         );
     }

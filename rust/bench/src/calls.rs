@@ -35,6 +35,8 @@ pub enum Kind {
     Unchanged,
     /// Inputs that all have one hash.
     Colliding,
+    /// Constants of random coordinates.
+    Constants,
 }
 
 /// A list of this kind with about n records.
@@ -44,7 +46,18 @@ fn list<E: Sides>(kind: Kind, n: usize) -> Vec<Record> {
         Kind::Chain => cases::chain(n as u64 / 3),
         Kind::Unchanged => cases::unchanged(n),
         Kind::Colliding => cases::colliding(n as u64),
+        Kind::Constants => constants::<E>(n),
     }
+}
+
+/// n constants, of words at random.
+fn constants<E: Sides>(n: usize) -> Vec<Record> {
+    let mut rng = Rng::new(n as u64);
+    let mut constant = |_| {
+        let [c0, c1] = E::CASES.reduced([rng.word(), rng.word()]);
+        [1, c0, c1]
+    };
+    (0..n).map(&mut constant).collect()
 }
 
 /// The last place of a list.
@@ -157,6 +170,25 @@ pub fn evaluate<E: Sides>(bench: &Bench, n: usize) -> Row {
     bench.alternate(evaluating::<E>(&list, &[root]), rust)
 }
 
+/// The Rust writes into a string that has room for the text.
+pub fn draw<E: Sides>(bench: &Bench, kind: Kind, n: usize) -> Row {
+    let list = list::<E>(kind, n);
+    let (words, n, roots) = (model::words(&list), list.len() as u64, [last(&list)]);
+    let nodes = Nodes::<E>::new(&list);
+    let mut written = String::new();
+    nodes.draw(&mut written);
+    let mut text = vec![0; written.len()];
+    let ours = Side::calling(|| {
+        let length = ace::draw(E::OURS, &words, n, &roots, &mut text);
+        black_box(length.expect(ACCEPTED));
+    });
+    let rust = Side::calling(|| {
+        written.clear();
+        nodes.draw(black_box(&mut written));
+    });
+    bench.alternate(ours, rust)
+}
+
 /// A call with roots, the list that it is timed on, and the first of the roots.
 pub struct Rooted {
     pub name: &'static str,
@@ -166,7 +198,7 @@ pub struct Rooted {
 }
 
 impl Rooted {
-    /// The calls with roots over a field.
+    /// The calls that answer something of each root, over a field.
     pub fn all<E: Sides>() -> [Self; 5] {
         let (expression, unchanged) = (Kind::Expression, Kind::Unchanged);
         let normalize = normalizing::<E>;

@@ -83,7 +83,12 @@ fn timed<E: Sides>(bench: &Bench) -> Vec<Timed<'_>> {
         Timed::at::<E>("compact", &LENGTHS, |n| calls::compact::<E>(bench, n)),
         Timed::at::<E>("evaluate", &LENGTHS, |n| calls::evaluate::<E>(bench, n)),
     ];
-    normalized.into_iter().chain(others).chain(lowered).collect()
+    let drawn =
+        [("draw", &LENGTHS[..], Kind::Expression), ("draw, constants", &[4_096], Kind::Constants)];
+    let drawn = drawn.map(|(name, lengths, kind)| {
+        Timed::at::<E>(name, lengths, move |n| calls::draw::<E>(bench, kind, n))
+    });
+    normalized.into_iter().chain(others).chain(lowered).chain(drawn).collect()
 }
 
 /// The calls with roots over a field, timed with eight of them beside one.

@@ -10,6 +10,7 @@ use model::{
 
 use crate::cases::list_case;
 use crate::ours::{self, Lending};
+use crate::reader::read;
 use crate::roots::Roots;
 use crate::union::is_union;
 use crate::{Rng, Rust};
@@ -32,6 +33,9 @@ pub const UNION: &str = "unions of what each root keeps";
 /// A column's entry as its node's value.
 pub const ENTRIES: &str = "columns at a row";
 
+/// A drawing as the list that it shows.
+pub const READ: &str = "drawings read back";
+
 /// Numbers of roots that are none, one too many, and one that a byte would mistake for 1.
 const WRONG: [usize; 3] = [0, MOST_ROOTS + 1, 257];
 
@@ -42,6 +46,7 @@ fn second_checks(call: Call) -> &'static [&'static str] {
         Call::Compact => &[VALUES, ALONE, UNION],
         Call::Normalize => &[AGAIN, WHOLE, VALUES],
         Call::Lower => &[ENTRIES],
+        Call::Draw => &[READ],
         Call::Step | Call::Evaluate | Call::Prepare => &[],
     }
 }
@@ -103,6 +108,7 @@ impl Comparison {
                     self.rooted(case, &outcome, &mut found);
                 }
                 Call::Lower => self.entries(case, &outcome, &mut found),
+                Call::Draw => self.read(case, &outcome, &mut found),
                 _ => {}
             }
         }
@@ -208,6 +214,20 @@ impl Comparison {
             }
         }
         self.checked(ENTRIES);
+    }
+
+    /// Reads the drawing back.
+    fn read(&mut self, case: &Case, outcome: &Outcome, found: &mut Vec<Difference>) {
+        let (drawing, behind) = outcome.after[0].split_at(outcome.answer[1] as usize);
+        let text: Vec<u8> = drawing.iter().map(|&byte| byte as u8).collect();
+        let list = read(self.field, &text);
+        if list.is_none_or(|list| list != Rooted::lent(case).list) {
+            found.push(said(case, "the drawing shows another list"));
+        }
+        if behind.iter().any(|&byte| byte != 0) {
+            found.push(said(case, "a byte behind the drawing is not 0"));
+        }
+        self.checked(READ);
     }
 }
 

@@ -2,9 +2,10 @@
 
 pub mod cases;
 pub mod compare;
-pub mod listings;
 pub mod ours;
+pub mod printing;
 pub mod program;
+mod reader;
 pub mod record;
 pub mod report;
 pub mod required;

@@ -1,4 +1,4 @@
-//! Runs the comparison, lists a house file by the Rust, or records a sample of its answers.
+//! Runs the comparison, lists or draws a house file, or records a sample of the Rust's answers.
 //!
 //! help.txt says how.
 
@@ -13,12 +13,12 @@ use std::time::{Duration, Instant};
 
 use differential::cases::{self, Flow};
 use differential::compare::{Comparison, Difference};
-use differential::listings::Listings;
 use differential::ours::Lending;
+use differential::printing::{Printer, Printing};
 use differential::program::Program;
 use differential::report::{self, Missing, Summary, grouped, table};
 use differential::{Rng, Rust, record};
-use model::{Call, Case, Field};
+use model::{Call, Case, Field, Judge, Paper};
 
 use options::{Options, Part, Task};
 use progress::Progress;
@@ -48,7 +48,7 @@ const SEVERAL: u64 = 2;
 const SECONDS: u64 = 60;
 
 /// About the seconds that short lists and corners take.
-const FIXED: u64 = 70;
+const FIXED: u64 = 80;
 
 /// The differences of one part: printed as cases to send, and kept.
 struct Shown<'a> {
@@ -145,15 +145,15 @@ impl Run {
         Summary::of_call(&run)
     }
 
-    /// Compares the listings of the files made by hand, then of random ones.
-    fn normlist(&self) -> Summary {
+    /// Compares what a program prints of the files made by hand, then of random ones.
+    fn program(&self, printer: Printer) -> Summary {
         let options = &self.options;
-        let program = Program::new(&options.program, &[]);
-        let list = (!options.without_ours)
-            .then(|| Box::new(move |file: &[u8], delivery| program.list(file, delivery)) as _);
-        let mut run = Listings::new(list, options.seed);
-        let mut rng = Rng::new(options.seed ^ 0xff << 56);
-        let mut shown = self.shown(Part::Normlist.name());
+        let program = Program::new(&options.file(printer), &[]);
+        let run = (!options.without_ours)
+            .then(|| Box::new(move |file: &[u8], delivery| program.run(file, delivery)) as _);
+        let mut run = Printing::new(printer, run, options.seed);
+        let mut rng = Rng::new(options.seed ^ (0xff - printer as u64) << 56);
+        let mut shown = self.shown(printer.name().to_string());
         let mut take = |file: Vec<u8>| {
             if let Some(difference) = run.take(&file) {
                 shown.show(&difference);
@@ -164,7 +164,7 @@ impl Run {
         files.into_iter().step_by(options.every).for_each(&mut take);
         let wanted = self.wanted() / A_FILE;
         self.random(wanted, || take(cases::random_file(&mut rng)));
-        Summary::of_listings(&run)
+        Summary::of_printing(&run)
     }
 
     /// Compares one part and prints what it met; one that is absent counts as failed.
@@ -174,7 +174,7 @@ impl Run {
         let mut summary = match (absent(part, &self.options), part) {
             (Some(why), _) => Summary::absent(part.name(), why),
             (None, Part::Call(call, field)) => self.call(call, field),
-            (None, Part::Normlist) => self.normlist(),
+            (None, Part::Program(printer)) => self.program(printer),
         };
         self.progress.end();
         summary.seconds = begun.elapsed().as_secs_f64();
@@ -206,14 +206,18 @@ fn calls_absent() -> Option<String> {
     Some("this program was built without libace.a (`tools/archive ace` writes it)".to_string())
 }
 
+/// Why a program can't be compared, if it can't.
+fn program_absent(printer: Printer, options: &Options) -> Option<String> {
+    let (file, script) = (options.file(printer), printer.script());
+    (!file.exists()).then(|| format!("{} is not there (`{script}` builds it)", file.display()))
+}
+
 /// Why a part can't be compared, if it can't.
 fn absent(part: Part, options: &Options) -> Option<String> {
-    let program = options.program.display();
     match part {
         _ if options.without_ours => None,
         Part::Call(..) => calls_absent(),
-        Part::Normlist if options.program.exists() => None,
-        Part::Normlist => Some(format!("{program} is not there (`./normlist` builds it)")),
+        Part::Program(printer) => program_absent(printer, options),
     }
 }
 
@@ -226,7 +230,11 @@ fn say_sides(options: &Options) {
     }
     #[cfg(feature = "ours")]
     say!("the proved calls: {}", ace::ARCHIVE);
-    say!("normlist: {}", options.program.display());
+    for part in options.parts() {
+        if let Part::Program(printer) = part {
+            say!("{}: {}", printer.name(), options.file(printer).display());
+        }
+    }
 }
 
 /// The whole comparison: what each part met, a table, the verdict.
@@ -249,11 +257,11 @@ fn compare(options: Options) -> ExitCode {
     if failed == 0 { ExitCode::SUCCESS } else { ExitCode::FAILURE }
 }
 
-/// Prints the Rust's listing of the house file on standard input.
-fn list() -> Result<ExitCode, String> {
+/// Prints what a program would of the house file on standard input, by this judge.
+fn print(printer: Printer, judge: &mut dyn Judge) -> Result<ExitCode, String> {
     let mut file = Vec::new();
     std::io::stdin().read_to_end(&mut file).map_err(|error| format!("standard input: {error}"))?;
-    let text = model::listing(&file, &mut Rust(Field::GOLDILOCKS));
+    let text = printer.prints(&file, judge);
     std::io::stdout().write_all(text.as_bytes()).map_err(|error| format!("{error}"))?;
     Ok(ExitCode::SUCCESS)
 }
@@ -261,8 +269,11 @@ fn list() -> Result<ExitCode, String> {
 /// Writes the recorded sample of a call, or of every call.
 fn write_sample(options: &Options) -> Result<ExitCode, String> {
     let calls = match options.what {
-        None => Call::ALL.to_vec(),
-        Some(name) => vec![Call::named(name).ok_or("record takes a call")?],
+        None => record::CALLS.to_vec(),
+        Some(name) => {
+            let call = Call::named(name).filter(|call| record::CALLS.contains(call));
+            vec![call.ok_or("record takes a call that the Rust has")?]
+        }
     };
     let out: &PathBuf = options.out.as_ref().ok_or("record needs --out FILE")?;
     let bytes = record::stream(&calls, options.count, options.seed);
@@ -282,7 +293,8 @@ fn main() -> ExitCode {
     };
     let done = match options.task {
         Task::Compare => Ok(compare(options)),
-        Task::List => list(),
+        Task::List => print(Printer::Normlist, &mut Rust(Field::GOLDILOCKS)),
+        Task::Dot => print(Printer::Drawlist, &mut Paper::over(Field::GOLDILOCKS)),
         Task::Record => write_sample(&options),
         Task::Help => {
             say!("{}", HELP.trim_end());

@@ -1,18 +1,17 @@
 //! What the command line asks for.
 
-use std::path::PathBuf;
+use std::path::{Path, PathBuf};
 
+use differential::printing::Printer;
 use differential::report;
 use model::{Call, Field};
-
-/// The program that is compared, over house files of field 1.
-const NORMLIST: &str = "normlist";
 
 /// What is compared under one name.
 #[derive(Clone, Copy, Debug, PartialEq, Eq)]
 pub enum Part {
     Call(Call, Field),
-    Normlist,
+    /// A program, over house files of field 1.
+    Program(Printer),
 }
 
 impl Part {
@@ -20,28 +19,28 @@ impl Part {
     fn all() -> Vec<Part> {
         let calls = Call::ALL.into_iter();
         let parts = calls.flat_map(|call| Field::ALL.map(|field| Part::Call(call, field)));
-        parts.chain([Part::Normlist]).collect()
+        parts.chain(Printer::ALL.map(Part::Program)).collect()
     }
 
     /// The call or the program.
     fn what(self) -> &'static str {
         match self {
             Part::Call(call, _) => call.signature().name,
-            Part::Normlist => NORMLIST,
+            Part::Program(printer) => printer.name(),
         }
     }
 
     fn field(self) -> Field {
         match self {
             Part::Call(_, field) => field,
-            Part::Normlist => Field::GOLDILOCKS,
+            Part::Program(_) => Field::GOLDILOCKS,
         }
     }
 
     pub fn name(self) -> String {
         match self {
             Part::Call(call, field) => report::name(call, field),
-            Part::Normlist => NORMLIST.to_string(),
+            Part::Program(printer) => printer.name().to_string(),
         }
     }
 }
@@ -51,6 +50,7 @@ impl Part {
 pub enum Task {
     Compare,
     List,
+    Dot,
     Record,
     Help,
 }
@@ -61,7 +61,7 @@ pub struct Options {
     pub seconds: Option<u64>,
     pub cases: Option<u64>,
     pub seed: u64,
-    /// The one call, or normlist, that is asked for.
+    /// The one call or program that is asked for.
     pub what: Option<&'static str>,
     pub field: Option<Field>,
     pub quick: bool,
@@ -70,7 +70,8 @@ pub struct Options {
     /// One in so many of the house files made by hand.
     pub every: usize,
     pub without_ours: bool,
-    pub program: PathBuf,
+    /// The one program, where it is another file than usual.
+    pub program: Option<PathBuf>,
     pub out: Option<PathBuf>,
     pub count: usize,
 }
@@ -104,6 +105,13 @@ impl Options {
         Part::all().into_iter().filter(asked).collect()
     }
 
+    /// The file of a program.
+    pub fn file(&self, printer: Printer) -> PathBuf {
+        let usual = || Path::new("target/bin").join(printer.name());
+        let asked = self.program.clone().filter(|_| self.what == Some(printer.name()));
+        asked.unwrap_or_else(usual)
+    }
+
     /// The options of no words.
     fn unnamed() -> Self {
         Self {
@@ -118,7 +126,7 @@ impl Options {
             bare: false,
             every: 1,
             without_ours: false,
-            program: "target/bin/normlist".into(),
+            program: None,
             out: None,
             count: 300,
         }
@@ -132,6 +140,7 @@ impl Options {
             let mut value = || words.next().ok_or_else(|| format!("{word} needs a value"));
             match word.as_str() {
                 "list" => options.task = Task::List,
+                "dot" => options.task = Task::Dot,
                 "record" => options.task = Task::Record,
                 "--help" | "-h" => options.task = Task::Help,
                 "--quick" => options.quick = true,
@@ -144,15 +153,19 @@ impl Options {
                 "--seed" => options.seed = number(word, value()?)?,
                 "--count" => options.count = number(word, value()?)?,
                 "--out" => options.out = Some(value()?.into()),
-                "--program" => options.program = value()?.into(),
+                "--program" => options.program = Some(value()?.into()),
                 "--call" => options.what = Some(what(value()?)?),
                 "--field" => options.field = Some(field(value()?)?),
                 _ => return Err(format!("{word} is no option")),
             }
         }
-        if options.parts().is_empty() {
-            return Err(format!("{NORMLIST} reads house files of field 1 alone"));
+        match (&options.parts()[..], &options.program) {
+            ([], _) => {
+                let name = options.what.expect("a program");
+                Err(format!("{name} reads house files of field 1 alone"))
+            }
+            ([Part::Program(_)], _) | (_, None) => Ok(options),
+            _ => Err("--program goes with --call and a program's name".to_string()),
         }
-        Ok(options)
     }
 }

@@ -1,4 +1,4 @@
-//! A program that lists house files: the file is its standard input, the listing its output.
+//! A program of house files: the file is its standard input, what it prints its output.
 
 use std::fs::File;
 use std::io::{Read, Write};
@@ -59,7 +59,7 @@ impl Program {
     }
 
     /// What the program prints for a file, or what it did instead.
-    pub fn list(&self, file: &[u8], delivery: Delivery) -> Result<Vec<u8>, String> {
+    pub fn run(&self, file: &[u8], delivery: Delivery) -> Result<Vec<u8>, String> {
         let said = |error: std::io::Error| format!("{}: {error}", self.path.display());
         let mut child = self.started(file, delivery).map_err(said)?;
         let printed = collected(child.stdout.take().expect("piped"));
@@ -70,7 +70,7 @@ impl Program {
         });
         let printed = match printed.recv_timeout(PATIENCE) {
             Ok(printed) if (printed.len() as u64) < MOST_PRINTED => printed,
-            Ok(_) => return Err(stopped(child, "printed more than any listing has")),
+            Ok(_) => return Err(stopped(child, "printed more than of any house file")),
             Err(RecvTimeoutError::Timeout) => return Err(stopped(child, "did not end")),
             Err(RecvTimeoutError::Disconnected) => return Err(stopped(child, "can't be read")),
         };

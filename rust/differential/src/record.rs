@@ -1,4 +1,5 @@
 //! A sample of the Rust's answers, for the program `replay`; several roots are tied together.
+//! Drawing, which the Rust doesn't do, is not among its answers.
 //!
 //! A stream of 64-bit little-endian words, a section for each call: the call's number, from 1 in
 //! the order of `Call`, the number of cases, the number of the words that follow, and those: for
@@ -14,6 +15,17 @@ use model::{Call, Case, Event, Field, Mutant, Outcome, Paper, expected};
 
 use crate::cases::{self, Flow};
 use crate::{Rng, Rust};
+
+/// The calls that are recorded, in the order of `Call`.
+pub const CALLS: [Call; 7] = [
+    Call::Step,
+    Call::Build,
+    Call::Compact,
+    Call::Normalize,
+    Call::Evaluate,
+    Call::Prepare,
+    Call::Lower,
+];
 
 /// The most words of an ordinary case.
 const ORDINARY: usize = 100;

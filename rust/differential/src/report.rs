@@ -6,7 +6,7 @@ use std::fmt::{self, Write};
 use model::{Call, Event, Field};
 
 use crate::compare::Comparison;
-use crate::listings::{Listings, REFUSALS};
+use crate::printing::{Printing, REFUSALS};
 use crate::required;
 
 /// What counts as failed beside the cases that differed.
@@ -84,7 +84,8 @@ impl Summary {
     pub fn of_call(run: &Comparison) -> Self {
         let signature = run.call.signature();
         let of = |event: Event| (event.text().to_string(), run.paper.tally.of(event));
-        let mut met: Vec<(String, u64)> = required::events(run.call).into_iter().map(of).collect();
+        let events = required::events(run.call, run.field).into_iter();
+        let mut met: Vec<(String, u64)> = events.map(of).collect();
         let has = |name| signature.stores.iter().any(|store| store.0 == name);
         if has("lengths") {
             met.extend(forms(run));
@@ -108,10 +109,10 @@ impl Summary {
         Self { name, cases: 0, failed: 0, seconds: 0.0, outcomes, met: vec![], missing }
     }
 
-    /// The summary of the listings compared.
-    pub fn of_listings(run: &Listings) -> Self {
-        let counts = [run.cases, run.failed];
-        Self::new("normlist".to_string(), counts, &run.outcomes, &REFUSALS, run.met())
+    /// The summary of a program's comparisons.
+    pub fn of_printing(run: &Printing) -> Self {
+        let (name, counts) = (run.printer.name().to_string(), [run.cases, run.failed]);
+        Self::new(name, counts, &run.outcomes, &REFUSALS, run.met())
     }
 
     /// Cases accepted.

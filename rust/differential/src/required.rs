@@ -1,6 +1,6 @@
 //! What a run has to meet in each call; a run that never met one of these fails.
 
-use model::{Call, Event, Event::*};
+use model::{Call, Event, Event::*, Field};
 
 /// The rules of the steps.
 const RULES: [Event; 26] = [
@@ -94,11 +94,50 @@ const ROUNDS: [Event; 23] = [
 const ROOTS: [Event; 6] =
     [RootsTogether, ListFirst, RecordFirst, OperandFirst, RootsFirst, StoresBehind];
 
+/// What a drawing can have, and how long its text store can be.
+const DRAWING: [Event; 20] = [
+    DrawnInput,
+    DrawnConstant,
+    DrawnAdd,
+    DrawnSub,
+    DrawnMul,
+    DrawnNeg,
+    DrawnTwice,
+    DrawnOne,
+    DrawnMost,
+    FirstZero,
+    FirstOne,
+    FirstHalf,
+    FirstPastHalf,
+    FirstMinusOne,
+    SecondZero,
+    TextExact,
+    TextOneMore,
+    TextManyMore,
+    TextOneShort,
+    TextEmpty,
+];
+
+/// What a drawing can have where an element has a second coordinate.
+const SECOND: [Event; 4] = [SecondOne, SecondHalf, SecondPastHalf, SecondMinusOne];
+
+/// What refuses a list whose text store is too short as well.
+const BEFORE_TEXT: [Event; 8] = [
+    CountFirst,
+    StoreFirst,
+    TagFirst,
+    WordFirst,
+    LateFirst,
+    RootFirst,
+    RootCountFirst,
+    NoFieldFirst,
+];
+
 /// What refusing a field's number can come before.
 const NO_FIELD: [Event; 2] = [FieldAlone, FieldFirst];
 
-/// The events that a run of this call has to meet, over each field.
-pub fn events(call: Call) -> Vec<Event> {
+/// The events that a run of this call over this field has to meet.
+pub fn events(call: Call, field: Field) -> Vec<Event> {
     let events = match call {
         Call::Step => {
             let corners = [FoundOfSeveral, FullKnown, FullNew, ShortStore];
@@ -112,6 +151,10 @@ pub fn events(call: Call) -> Vec<Event> {
         Call::Evaluate => [&[RepeatedKey, UnreachableInput][..], &ROOTS].concat(),
         Call::Prepare => CHOICES.to_vec(),
         Call::Lower => [&CHOICES[..], &LOWERING].concat(),
+        Call::Draw => {
+            let second = if field.bounds[1] > 1 { &SECOND[..] } else { &[] };
+            [&DRAWING[..], second, &BEFORE_TEXT, &ROOTS].concat()
+        }
     };
     [&events[..], &NO_FIELD].concat()
 }

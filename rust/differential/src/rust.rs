@@ -6,7 +6,8 @@ use oracle::{BabyBear, QuadFelt};
 
 use crate::tie::{tie, untie};
 
-/// The Rust of docs/src over a field. It knows one root: several are tied together.
+/// The Rust of docs/src over a field. It knows one root: several are tied together. It doesn't
+/// draw: a writer over its nodes does.
 #[derive(Clone, Copy, Debug)]
 pub struct Rust(pub Field);
 
@@ -86,5 +87,9 @@ impl Judge for Rust {
         period: u64,
     ) -> (Vec<Record>, Vec<u64>) {
         over!(self.0, lower(list, columns, period))
+    }
+
+    fn draw(&mut self, list: &[Record]) -> String {
+        over!(self.0, draw(list))
     }
 }

@@ -270,3 +270,60 @@ fn a_lowered_node_is_its_column_at_every_row() {
         }
     }
 }
+
+/// The drawing of a list with every kind of record.
+const DRAWING: &str = "\
+digraph g {
+n0 [label=\"in 5\"];
+n1 [label=\"const -1 0\"];
+n2 [label=\"neg\"];
+n3 [label=\"add\"];
+n4 [label=\"sub\"];
+n5 [label=\"mul\"];
+n2 -> n0;
+n3 -> n1;
+n3 -> n2;
+n4 -> n3;
+n4 -> n0;
+n5 -> n4;
+n5 -> n4;
+}
+";
+
+/// What Draw comes to on a list with one root and a text store of so many bytes.
+fn drawn(judge: &mut dyn Judge, list: &[Record], room: usize) -> (Vec<u64>, String) {
+    let scalars = vec![judge.field().number, list.len() as u64];
+    let stores = vec![words(list), vec![0], vec![35; room]];
+    let outcome = expected(&Case { call: Call::Draw, scalars, stores }, judge);
+    let bytes = outcome.after[0].iter().map(|&byte| byte as u8).collect();
+    (outcome.answer, String::from_utf8(bytes).expect("text"))
+}
+
+#[test]
+fn request_one_draws_every_kind() {
+    let length = DRAWING.len();
+    for mut judge in judges() {
+        let minus_one = judge.field().minus_one();
+        let list = [[0, 5, 0], [1, minus_one, 0], [5, 0, 0], [2, 1, 2], [3, 3, 0], [4, 4, 4]];
+        for (room, text) in [(length, DRAWING.to_string()), (length + 2, format!("{DRAWING}\0\0"))]
+        {
+            assert_eq!(drawn(judge.as_mut(), &list, room), (vec![0, length as u64, 0, 0], text));
+        }
+        let refused = (vec![41, 0, 0, 0], "#".repeat(length - 1));
+        assert_eq!(drawn(judge.as_mut(), &list, length - 1), refused);
+    }
+}
+
+#[test]
+fn request_one_signs_coordinates() {
+    for mut judge in judges() {
+        let field = judge.field();
+        let half = (field.modulus - 1) / 2;
+        let list = [0, half, half + 1, field.modulus - 1].map(|c0| [1, c0, 0]);
+        let (_, text) = drawn(judge.as_mut(), &list, 1_000);
+        let labels = text.lines().filter_map(|line| line.strip_suffix("\"];")?.split_once('"'));
+        let labels: Vec<&str> = labels.map(|(_, label)| label).collect();
+        let signed = ["0".to_string(), format!("{half}"), format!("-{half}"), "-1".to_string()];
+        assert_eq!(labels, signed.map(|c0| format!("const {c0} 0")));
+    }
+}

@@ -4,7 +4,7 @@ use std::path::Path;
 use std::sync::LazyLock;
 
 use differential::record;
-use model::{Call, Case, Field, Outcome};
+use model::{Case, Field, Outcome};
 
 /// The cases of a section, and the seed, where the command names none.
 const COUNT: usize = 300;
@@ -18,7 +18,7 @@ const HEAD: usize = 24;
 
 /// Each call's cases, with what they come to.
 static CHOSEN: LazyLock<[Vec<(Case, Outcome)>; 7]> =
-    LazyLock::new(|| Call::ALL.map(|call| record::chosen(call, COUNT, SEED)));
+    LazyLock::new(|| record::CALLS.map(|call| record::chosen(call, COUNT, SEED)));
 
 /// The number of cases that a section's head gives.
 fn cases(section: &[u8]) -> u64 {
@@ -30,7 +30,7 @@ fn the_recorded_stream_is_the_commands() {
     let file = Path::new(env!("CARGO_MANIFEST_DIR")).join("../../crates/replay/stdin");
     let recorded = std::fs::read(file).unwrap();
     let mut rest = &recorded[..];
-    for call in Call::ALL {
+    for call in record::CALLS {
         let section = record::section(call, &CHOSEN[call as usize]);
         let name = call.signature().name;
         assert_eq!(cases(&section), COUNT as u64, "{name}");
@@ -46,7 +46,7 @@ fn the_recorded_stream_is_the_commands() {
 
 #[test]
 fn a_section_has_cases_of_both_fields_and_of_none() {
-    for call in Call::ALL {
+    for call in record::CALLS {
         let fields =
             || CHOSEN[call as usize].iter().map(|(case, _)| Field::numbered(case.scalars[0]));
         let counts = [Some(Field::GOLDILOCKS), Some(Field::BABY_BEAR), None]
@@ -83,7 +83,7 @@ fn a_recorded_case_has_room_in_replay() {
 
 #[test]
 fn a_small_sample_has_as_many_cases_as_asked_for() {
-    for call in Call::ALL {
+    for call in record::CALLS {
         assert_eq!(record::chosen(call, 20, SEED).len(), 20, "{}", call.signature().name);
     }
 }

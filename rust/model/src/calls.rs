@@ -2,6 +2,7 @@
 
 use crate::BLANK;
 use crate::case::{Call, Case, Outcome, Record};
+use crate::draw;
 use crate::events::Event;
 use crate::field::Field;
 use crate::judge::Judge;
@@ -10,7 +11,7 @@ use crate::mutants::Mutant;
 use crate::refusal::{
     LIMIT, LOWER_WORK, Refusal, check_assignment, check_columns, check_list, check_record,
 };
-use crate::roots::{answered, listed, rooted};
+use crate::roots::{answered, coincide, listed, rooted};
 
 /// The values that an accepted call answers, and its writable stores afterwards.
 struct Accepted {
@@ -39,6 +40,9 @@ pub fn expected(case: &Case, judge: &mut dyn Judge) -> Outcome {
             Outcome { answer, after: accepted.after }
         }
         Err(refused) => {
+            if case.call == Call::Draw {
+                draw::note_refused(case, refused.refusal.number, judge);
+            }
             answer[0] = refused.refusal.number;
             answer[1] = refused.refusal.place;
             Outcome { answer, after: refused.after.unwrap_or_else(|| case.writable()) }
@@ -57,6 +61,7 @@ fn called(case: &Case, judge: &mut dyn Judge) -> Result<Accepted, Refused> {
         Call::Evaluate => evaluate(case, field, judge),
         Call::Prepare => prepare(case, field, judge),
         Call::Lower => lower(case, field, judge),
+        Call::Draw => drawing(case, field, judge),
     }
 }
 
@@ -89,7 +94,11 @@ fn columns(case: &Case, field: Field) -> Result<Vec<Vec<u64>>, Refusal> {
 
 /// A store of this length: these words, then blanks.
 fn filled(length: usize, words: &[u64]) -> Vec<u64> {
-    let mut store = vec![BLANK; length];
+    laid(vec![BLANK; length], words)
+}
+
+/// The store with these words at its begin.
+fn laid(mut store: Vec<u64>, words: &[u64]) -> Vec<u64> {
     store[..words.len()].copy_from_slice(words);
     store
 }
@@ -225,4 +234,29 @@ fn lower(case: &Case, field: Field, judge: &mut dyn Judge) -> Result<Accepted, R
     let written = filled(result.len(), lowered.as_flattened());
     let after = vec![written, blank, filled(places.len(), &nodes)];
     Ok(Accepted { values: vec![lowered.len() as u64], after })
+}
+
+fn drawing(case: &Case, field: Field, judge: &mut dyn Judge) -> Result<Accepted, Refused> {
+    let [_, _, text] = &case.stores[..] else { panic!("three stores") };
+    if draw::too_early(text.len(), judge) {
+        return Err(Refusal::new(41).into());
+    }
+    let drawing = draw::of_records(case, field, judge);
+    let fitting = drawing.and_then(|drawing| draw::fitting(drawing, text.len(), judge));
+    let tested = rooted(case, field, fitting, judge);
+    let (records, roots, drawing) = tested.map_err(|refusal| refused_text(refusal, text, judge))?;
+    if coincide(&roots) {
+        judge.note(Event::RootsTogether);
+    }
+    draw::note_drawn(&records, field, text.len() - drawing.len(), judge);
+    let bytes: Vec<u64> = drawing.into_iter().map(u64::from).collect();
+    // 0 bytes stand behind a text, whatever the blank is.
+    let before = if judge.has(Mutant::BehindLeft) { text.clone() } else { vec![0; text.len()] };
+    Ok(Accepted { values: vec![bytes.len() as u64], after: vec![laid(before, &bytes)] })
+}
+
+/// Draw's refusal, which leaves the text store as it was, save by mistake.
+fn refused_text(refusal: Refusal, text: &[u64], judge: &dyn Judge) -> Refused {
+    let blanked = refusal.number == 41 && judge.has(Mutant::TextBlanked);
+    Refused { refusal, after: blanked.then(|| vec![vec![0; text.len()]]) }
 }

@@ -27,10 +27,49 @@ pub enum Call {
     Evaluate,
     Prepare,
     Lower,
+    Draw,
 }
 
-/// A lent store: its name, and whether the call may write it.
-pub struct Store(pub &'static str, pub bool);
+/// What a store is counted in; a case holds a word for each byte.
+#[derive(Clone, Copy, Debug, PartialEq, Eq)]
+pub enum Unit {
+    Word,
+    Byte,
+}
+
+use Unit::{Byte, Word};
+
+impl Unit {
+    fn name(self) -> &'static str {
+        match self {
+            Word => "word",
+            Byte => "byte",
+        }
+    }
+
+    /// The most of a store that a short text shows.
+    fn shown(self) -> usize {
+        match self {
+            Word => 60,
+            Byte => 480,
+        }
+    }
+
+    /// What a store begins with: words as numbers, bytes as a text.
+    fn begun(self, words: &[u64]) -> String {
+        match self {
+            Word => words.iter().map(|word| format!(" {word}")).collect(),
+            Byte if words.is_empty() => String::new(),
+            Byte => {
+                let bytes: Vec<u8> = words.iter().map(|&word| word as u8).collect();
+                format!(" \"{}\"", bytes.escape_ascii())
+            }
+        }
+    }
+}
+
+/// A lent store: its name, whether the call may write it, and what it is counted in.
+pub struct Store(pub &'static str, pub bool, pub Unit);
 
 /// What a call takes and answers, in the order of its signature.
 pub struct Signature {
@@ -44,12 +83,12 @@ pub struct Signature {
     pub refusals: &'static [u64],
 }
 
-const LIST: Store = Store("list", false);
-const ROOTS: Store = Store("roots", false);
-const RESULT: Store = Store("result", true);
-const WORK: Store = Store("work", true);
-const LENGTHS: Store = Store("lengths", false);
-const ENTRIES: Store = Store("entries", false);
+const LIST: Store = Store("list", false, Word);
+const ROOTS: Store = Store("roots", false, Word);
+const RESULT: Store = Store("result", true, Word);
+const WORK: Store = Store("work", true, Word);
+const LENGTHS: Store = Store("lengths", false, Word);
+const ENTRIES: Store = Store("entries", false, Word);
 
 /// The numbers, the answer words and the refusals of a call that answers a list with its roots.
 const ROOTED: &[&str] = &["field", "n"];
@@ -57,18 +96,18 @@ const ROOTED_ANSWER: usize = 3 + MOST_ROOTS;
 const ROOTED_REFUSALS: &[u64] = &[1, 2, 3, 4, 5, 6, 46, 49];
 
 /// The calls' signatures, in the order of `Call`.
-static SIGNATURES: [Signature; 7] = [
+static SIGNATURES: [Signature; 8] = [
     Signature {
         name: "step",
         scalars: &["field", "n", "tag", "first", "second"],
-        stores: &[Store("list", true)],
+        stores: &[Store("list", true, Word)],
         answer: 4,
         refusals: &[1, 2, 3, 4, 5, 7, 49],
     },
     Signature {
         name: "build",
         scalars: ROOTED,
-        stores: &[LIST, ROOTS, RESULT, Store("map", true)],
+        stores: &[LIST, ROOTS, RESULT, Store("map", true, Word)],
         answer: ROOTED_ANSWER,
         refusals: ROOTED_REFUSALS,
     },
@@ -89,7 +128,7 @@ static SIGNATURES: [Signature; 7] = [
     Signature {
         name: "evaluate",
         scalars: &["field", "n", "m"],
-        stores: &[LIST, ROOTS, Store("assignment", false)],
+        stores: &[LIST, ROOTS, Store("assignment", false, Word)],
         answer: 1 + 2 * MOST_ROOTS,
         refusals: &[1, 2, 3, 4, 5, 6, 11, 12, 46, 49],
     },
@@ -103,14 +142,21 @@ static SIGNATURES: [Signature; 7] = [
     Signature {
         name: "lower",
         scalars: &["field", "n", "period"],
-        stores: &[LIST, LENGTHS, ENTRIES, RESULT, WORK, Store("places", true)],
+        stores: &[LIST, LENGTHS, ENTRIES, RESULT, WORK, Store("places", true, Word)],
         answer: 4,
         refusals: &[1, 2, 3, 4, 5, 7, 13, 14, 15, 49],
+    },
+    Signature {
+        name: "draw",
+        scalars: ROOTED,
+        stores: &[LIST, ROOTS, Store("text", true, Byte)],
+        answer: 4,
+        refusals: &[1, 2, 3, 4, 5, 6, 41, 46, 49],
     },
 ];
 
 impl Call {
-    pub const ALL: [Call; 7] = [
+    pub const ALL: [Call; 8] = [
         Call::Step,
         Call::Build,
         Call::Compact,
@@ -118,6 +164,7 @@ impl Call {
         Call::Evaluate,
         Call::Prepare,
         Call::Lower,
+        Call::Draw,
     ];
 
     /// The call with this name.
@@ -173,9 +220,6 @@ impl Outcome {
     }
 }
 
-/// The most words of a store that a short text shows.
-const SHOWN: usize = 60;
-
 /// The words up to where the rest are all equal.
 fn explicit(words: &[u64]) -> usize {
     let Some(last) = words.last() else { return 0 };
@@ -183,13 +227,11 @@ fn explicit(words: &[u64]) -> usize {
 }
 
 /// A store on one line: its length, its words, and the word that fills the rest.
-fn store_line(name: &str, words: &[u64], whole: bool) -> String {
+fn store_line(name: &str, unit: Unit, words: &[u64], whole: bool) -> String {
     let given = explicit(words);
-    let shown = if whole { given } else { given.min(SHOWN) };
-    let mut line = format!("  {name} ({} words):", words.len());
-    for word in &words[..shown] {
-        let _ = write!(line, " {word}");
-    }
+    let shown = if whole { given } else { given.min(unit.shown()) };
+    let mut line = format!("  {name} ({} {}s):", words.len(), unit.name());
+    line.push_str(&unit.begun(&words[..shown]));
     match words.len() - given {
         _ if shown < given => line.push_str(" …"),
         0 => {}
@@ -213,29 +255,31 @@ impl Case {
         }
         text.push('\n');
         for (store, words) in signature.stores.iter().zip(&self.stores) {
-            text.push_str(&store_line(store.0, words, whole));
+            text.push_str(&store_line(store.0, store.2, words, whole));
         }
         text
     }
 
     /// Whether the short text leaves words out.
     pub fn is_long(&self) -> bool {
-        self.stores.iter().any(|store| explicit(store) > SHOWN)
+        let mut stores = self.call.signature().stores.iter().zip(&self.stores);
+        stores.any(|(store, words)| explicit(words) > store.2.shown())
     }
 }
 
 impl Outcome {
     /// The answer, and each store that `other` leaves otherwise; long ones cut unless `whole`.
     pub fn text(&self, call: Call, other: &Outcome, whole: bool) -> String {
-        let mut text = store_line("  answer", &self.answer, true);
+        let mut text = store_line("  answer", Word, &self.answer, true);
         let signature = call.signature();
         let names = signature.stores.iter().filter(|store| store.1);
         for ((store, words), others) in names.zip(&self.after).zip(&other.after) {
             let Some(place) = (0..words.len()).find(|&place| words[place] != others[place]) else {
                 continue;
             };
-            text.push_str(&store_line(&format!("  {} after", store.0), words, whole));
-            let _ = writeln!(text, "    {} word {place}: {}", store.0, words[place]);
+            text.push_str(&store_line(&format!("  {} after", store.0), store.2, words, whole));
+            let unit = store.2.name();
+            let _ = writeln!(text, "    {} {unit} {place}: {}", store.0, words[place]);
         }
         text
     }

@@ -1,4 +1,4 @@
-//! House files, and what `normlist` prints for one.
+//! House files, and what `normlist` and `drawlist` print for one.
 
 use std::fmt::Write;
 
@@ -92,17 +92,28 @@ pub fn read_house_file(file: &[u8]) -> Result<(Vec<Record>, Vec<u64>), Refusal> 
     Ok((check_list(Field::GOLDILOCKS, &words, count, Some(&roots))?, roots))
 }
 
+/// What is printed of a file: this of its list and roots, or the line of its refusal.
+fn printed(file: &[u8], text: impl FnOnce(&[Record], &[u64]) -> String) -> String {
+    match read_house_file(file) {
+        Ok((list, roots)) => text(&list, &roots),
+        Err(refusal) => format!("refused {} {}\n", refusal.number, refusal.place),
+    }
+}
+
 /// What `normlist` prints for a file, its list normalised by this judge over field 1.
 pub fn listing(file: &[u8], judge: &mut dyn Judge) -> String {
-    let (list, roots) = match read_house_file(file) {
-        Ok(read) => read,
-        Err(refusal) => return format!("refused {} {}\n", refusal.number, refusal.place),
-    };
-    let (normal, roots, rounds) = judge.normalize(&list, &roots);
-    let roots: String = roots.iter().map(|root| format!(" {root}")).collect();
-    let mut text = format!("nodes {} root{roots} rounds {rounds}\n", normal.len());
-    for (place, [tag, first, second]) in normal.iter().enumerate() {
-        let _ = writeln!(text, "{place} {} {first} {second}", KINDS[*tag as usize]);
-    }
-    text
+    printed(file, |list, roots| {
+        let (normal, roots, rounds) = judge.normalize(list, roots);
+        let roots: String = roots.iter().map(|root| format!(" {root}")).collect();
+        let mut text = format!("nodes {} root{roots} rounds {rounds}\n", normal.len());
+        for (place, [tag, first, second]) in normal.iter().enumerate() {
+            let _ = writeln!(text, "{place} {} {first} {second}", KINDS[*tag as usize]);
+        }
+        text
+    })
+}
+
+/// What `drawlist` prints for a file, its list drawn by this judge over field 1.
+pub fn file_drawing(file: &[u8], judge: &mut dyn Judge) -> String {
+    printed(file, |list, _| judge.draw(list))
 }

@@ -41,11 +41,14 @@ pub trait Judge {
         period: u64,
     ) -> (Vec<Record>, Vec<u64>);
 
+    /// The list's drawing.
+    fn draw(&mut self, list: &[Record]) -> String;
+
     /// Takes note of a corner that the call reached.
     fn note(&mut self, _event: Event) {}
 }
 
-/// Document 01's definitions over a field, with one of them wrong where a mutant is chosen.
+/// The papers' definitions over a field, with one of them wrong where a mutant is chosen.
 pub struct Paper {
     pub field: Field,
     pub mutant: Option<Mutant>,
@@ -114,6 +117,10 @@ impl Judge for Paper {
         period: u64,
     ) -> (Vec<Record>, Vec<u64>) {
         crate::columns::lower(self, list, columns, period)
+    }
+
+    fn draw(&mut self, list: &[Record]) -> String {
+        crate::draw::drawing(self, list)
     }
 
     fn note(&mut self, event: Event) {

@@ -1,4 +1,4 @@
-//! Document 01 in plain Rust, as a second opinion on every call.
+//! Document 01 in plain Rust, with what document 02 adds, as a second opinion on every call.
 //!
 //! [`expected`] gives the whole outcome of a call: its answer words and each word of each store
 //! that it may write. The refusals are document 01's, in its order, on raw words. What is accepted
@@ -9,6 +9,7 @@
 mod calls;
 mod case;
 mod columns;
+mod draw;
 mod events;
 pub mod field;
 mod house_file;
@@ -22,13 +23,13 @@ mod roots;
 mod steps;
 
 pub use calls::expected;
-pub use case::{Call, Case, Outcome, Record, Signature, Store, records, words};
+pub use case::{Call, Case, Outcome, Record, Signature, Store, Unit, records, words};
 pub use columns::{basis_cost, overhead, saving, standalone_cost};
 pub use events::{Event, Tally};
 pub use field::Field;
 pub use house_file::{
-    BEFORE_ROOTS, FILE_LIMIT, HEAD, KINDS, RECORD, ROOT, before_records, file_length, listing,
-    read_house_file, version_1, version_2,
+    BEFORE_ROOTS, FILE_LIMIT, HEAD, KINDS, RECORD, ROOT, before_records, file_drawing, file_length,
+    listing, read_house_file, version_1, version_2,
 };
 pub use judge::{Judge, Paper};
 pub use keys::{FIELDS, ZK, is_key};

@@ -92,18 +92,48 @@ mutants! {
     OtherGenerator = "another generator of each order",
     HalfOrder = "generators of half their order",
     OtherPeriod = "the other field's longest period",
+    HalfNegative = "(m−1)/2 drawn as a negative number",
+    PastHalfPositive = "(m+1)/2 drawn as it stands",
+    SecondLeftOut = "the second coordinate of a residue left out",
+    SecondEdgeFirst = "the second operand's edge before the first's",
+    EqualEdgesOnce = "two equal operands drawn as one",
+    EdgesTurned = "edges from the operands",
+    EdgesAmong = "edges among the records",
+    NoLastNewline = "the last line without its newline",
+    ExactRefused = "41 for a text that just fits",
+    TextCut = "a text cut to its store",
+    TextFirst = "41 before the list check",
+    TextBlanked = "a text store that is too short blanked",
+    BehindLeft = "the bytes behind a text left",
 }
 
 /// The calls on a list.
-const ON_LISTS: &[Call] =
-    &[Call::Step, Call::Build, Call::Compact, Call::Normalize, Call::Evaluate, Call::Lower];
+const ON_LISTS: &[Call] = &[
+    Call::Step,
+    Call::Build,
+    Call::Compact,
+    Call::Normalize,
+    Call::Evaluate,
+    Call::Lower,
+    Call::Draw,
+];
 
 /// The calls with roots.
-const ROOTED: &[Call] = &[Call::Build, Call::Compact, Call::Normalize, Call::Evaluate];
+const ROOTED: &[Call] = &[Call::Build, Call::Compact, Call::Normalize, Call::Evaluate, Call::Draw];
 
-/// The calls that compute in their field.
-const COMPUTING: &[Call] =
-    &[Call::Step, Call::Build, Call::Normalize, Call::Evaluate, Call::Prepare, Call::Lower];
+/// The calls that answer something of each root.
+const OF_ROOTS: &[Call] = &[Call::Build, Call::Compact, Call::Normalize, Call::Evaluate];
+
+/// The calls that compute in their field, or draw its elements.
+const COMPUTING: &[Call] = &[
+    Call::Step,
+    Call::Build,
+    Call::Normalize,
+    Call::Evaluate,
+    Call::Prepare,
+    Call::Lower,
+    Call::Draw,
+];
 
 impl Mutant {
     /// The calls whose answers show the mistake.
@@ -120,9 +150,9 @@ impl Mutant {
             | DoubleNegation => &[Call::Step, Call::Build],
             DuplicatesDropped | NoRename => &[Call::Compact],
             FirstRootMarked => &[Call::Compact, Call::Normalize],
-            RootsReversed | LastRootForAll | EqualOnce | Padded | FirstRootTested | NarrowRoots
-            | EightRefused | NineTaken | NoneTaken | RootsByte | RootsAtOnce | RootsEarly
-            | RootsLate | StoresFirst => ROOTED,
+            RootsReversed | LastRootForAll | EqualOnce | Padded => OF_ROOTS,
+            FirstRootTested | NarrowRoots | EightRefused | NineTaken | NoneTaken | RootsByte
+            | RootsAtOnce | RootsEarly | RootsLate | StoresFirst => ROOTED,
             RoundsLast => &[Call::Build, Call::Compact, Call::Normalize],
             FirstEntry => &[Call::Evaluate],
             SixForSeven => &[Call::Step, Call::Build, Call::Evaluate],
@@ -140,14 +170,18 @@ impl Mutant {
             | FirstRootMention | ReachableFanout | CompactedReturn | UnreachableSkipped => {
                 &[Call::Normalize]
             }
+            HalfNegative | PastHalfPositive | SecondLeftOut | SecondEdgeFirst | EqualEdgesOnce
+            | EdgesTurned | EdgesAmong | NoLastNewline | ExactRefused | TextCut | TextFirst
+            | TextBlanked | BehindLeft => &[Call::Draw],
         }
     }
+
     /// Whether answers over this field show the mistake.
     pub fn shows_in(self, field: Field) -> bool {
         use Mutant::*;
         match self {
             SixForSeven => field == Field::GOLDILOCKS,
-            SecondTaken | OtherModulus => field == Field::BABY_BEAR,
+            SecondTaken | OtherModulus | SecondLeftOut => field == Field::BABY_BEAR,
             _ => true,
         }
     }

@@ -4,13 +4,14 @@
 //! The build script copies the files from the folder that ACE_SRC names; none of their text stands
 //! in the repository. One line is added behind normalize.rs: a name for its round, so that rounds
 //! can be counted. What the files ask of their crate is given here: the error type, the degree of
-//! the extension, and a layout that holds the keys of an assignment.
+//! the extension, and a layout that holds the keys of an assignment. Drawing, which the files have
+//! not, is a plain writer over their nodes.
 
 extern crate standin as miden_crypto;
 extern crate standin as p3_dft;
 
 pub use compiler::dag::words::{
-    Dag, Element, Layout, Nodes, Record, build, compact, evaluate, forms, lower, normalize,
+    Dag, Element, Layout, Nodes, Record, build, compact, draw, evaluate, forms, lower, normalize,
     normalize_whole, step, step_from_nodes, step_from_snapshot,
 };
 
@@ -81,6 +82,7 @@ pub(crate) mod compiler {
         include!(concat!(env!("OUT_DIR"), "/normalize_module.rs"));
         include!(concat!(env!("OUT_DIR"), "/periodic_module.rs"));
 
+        mod drawing;
         pub(crate) mod words;
     }
 

@@ -8,7 +8,7 @@ use std::path::{Path, PathBuf};
 use std::process::{Command, Output};
 
 /// The exported functions.
-const EXPORTED: [&str; 8] = [
+const EXPORTED: [&str; 9] = [
     "ace_interface",
     "ace_step",
     "ace_build",
@@ -17,6 +17,7 @@ const EXPORTED: [&str; 8] = [
     "ace_evaluate",
     "ace_prepare",
     "ace_lower",
+    "ace_draw",
 ];
 
 /// The repository's root.
@@ -81,6 +82,7 @@ fn of_rust(kind: &str) -> &'static str {
     match kind {
         "*const u64" => "const uint64_t *",
         "*mut u64" => "uint64_t *",
+        "*mut u8" => "uint8_t *",
         "usize" => "size_t",
         "u64" => "uint64_t",
         _ => panic!("no C type for {kind}"),
@@ -92,6 +94,7 @@ fn of_exported(kind: &str) -> &'static str {
     match kind {
         "&[u64]" => "const uint64_t *, size_t",
         "&mut [u64]" => "uint64_t *, size_t",
+        "&mut [u8]" => "uint8_t *, size_t",
         answer if answer.starts_with("&mut [u64; ") => "uint64_t *",
         "usize" | "u64" => "uint64_t",
         _ => panic!("no C type for {kind}"),
@@ -195,7 +198,7 @@ fn a_wrong_signature_does_not_compile() {
 }
 
 /// What examples/c/normalise.c prints: the listing of document 01's example, with a root more, then the rest.
-const PRINTED: &str = "\
+const NORMALISED: &str = "\
 nodes 5 root 4 0 rounds 1
 0 in 0 0
 1 in 1 0
@@ -206,14 +209,27 @@ nodes 5 root 4 0 rounds 1
 refused 2 0
 ";
 
+/// What examples/c/draw.c prints: a drawing, then the refusal of a store that is too short.
+const DRAWN: &str = r#"digraph g {
+n0 [label="in 5"];
+n1 [label="const -1 0"];
+n2 [label="mul"];
+n2 -> n0;
+n2 -> n1;
+}
+refused 41 0
+"#;
+
 #[test]
-fn the_example_links_and_runs() {
-    let program = Path::new(env!("CARGO_TARGET_TMPDIR")).join("normalise");
-    let path = program.to_str().expect("a path in UTF-8");
-    let words = ["-std=c99", "examples/c/normalise.c", ace::ARCHIVE, "-o", path];
-    let output = run("CC", "cc", &words);
-    assert!(output.status.success(), "{}", String::from_utf8_lossy(&output.stderr));
-    let run = Command::new(program).output().expect("the example runs");
-    assert!(run.status.success());
-    assert_eq!(String::from_utf8_lossy(&run.stdout), PRINTED);
+fn the_examples_link_and_run() {
+    for (name, printed) in [("normalise", NORMALISED), ("draw", DRAWN)] {
+        let program = Path::new(env!("CARGO_TARGET_TMPDIR")).join(name);
+        let path = program.to_str().expect("a path in UTF-8");
+        let source = format!("examples/c/{name}.c");
+        let output = run("CC", "cc", &["-std=c99", &source, ace::ARCHIVE, "-o", path]);
+        assert!(output.status.success(), "{}", String::from_utf8_lossy(&output.stderr));
+        let run = Command::new(program).output().expect("the example runs");
+        assert!(run.status.success(), "{name}");
+        assert_eq!(String::from_utf8_lossy(&run.stdout), printed);
+    }
 }

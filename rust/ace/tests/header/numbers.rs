@@ -58,6 +58,12 @@ fn prepared(lengths: &[u64]) -> Vec<u64> {
     answered(|answer| words::prepare(1, lengths, &entries, answer))
 }
 
+/// What Draw answers to input 0 in field 1, with this room for its text.
+fn drawn(room: usize) -> Vec<u64> {
+    let mut text = vec![9; room];
+    answered(|answer| words::draw(1, &[0, 0, 0], 1, &[0], &mut text, answer))
+}
+
 /// What Lower answers to a column of one entry on an empty list, and the result store.
 fn lowered(field: u64, period: u64, work: u64) -> (Vec<u64>, Vec<u64>) {
     let (mut result, mut work, mut places) = (vec![9; 300], vec![9; work as usize], [9]);
@@ -84,6 +90,7 @@ fn refusals() -> Vec<(&'static str, Vec<u64>, u64)> {
         ("COLUMNS", prepared(&[1; 17]), 0),
         ("LENGTH", prepared(&[1, 3]), 1),
         ("PERIOD", lowered(1, 0, 12_288).0, 0),
+        ("TEXT", drawn(0), 0),
         ("FIELD", stepped(3, 0, 0, 0), 0),
     ]
 }
@@ -141,6 +148,7 @@ fn every_limit_is_where_the_calls_begin_to_refuse() {
         ("period", period(p, longest_p), period(p, 2 * longest_p), 15),
         ("period in q", period(q, longest_q), period(q, 2 * longest_q), 15),
         ("work", lowered(p, 1, work).0, lowered(p, 1, work - 1).0, 2),
+        ("text", drawn(33), drawn(32), 41),
         ("p", stepped(p, 3, 1, of("P") - 1), stepped(p, 3, 1, of("P")), 4),
         ("q", stepped(q, 3, 1, of("Q") - 1), stepped(q, 3, 1, of("Q")), 4),
     ] {
@@ -152,6 +160,7 @@ fn every_limit_is_where_the_calls_begin_to_refuse() {
 fn answers_blank_and_zk_are_the_header_s() {
     let defined = defined();
     assert_eq!(defined["ANSWER_WORDS"] as usize, stepped(1, 3, 0, 0).len());
+    assert_eq!(defined["ANSWER_WORDS"] as usize, drawn(33).len());
     assert_eq!(defined["LIST_WORDS"] as usize, rooted(1).len());
     assert_eq!(defined["EVALUATE_WORDS"] as usize, evaluated(&[1, 0, 0], 1, &[], 0).len());
     assert_eq!(defined["PREPARE_WORDS"] as usize, prepared(&[1]).len());
@@ -187,6 +196,8 @@ fn every_number_of_the_header_is_tested() {
     let tested = [
         "ANSWER_WORDS",
         "BLANK",
+        "DRAWING_BYTES",
+        "DRAWING_RECORD_BYTES",
         "EVALUATE_WORDS",
         "FIELD_P",
         "FIELD_Q",
@@ -207,6 +218,22 @@ fn every_number_of_the_header_is_tested() {
         "ZK",
     ];
     assert!(others.eq(tested));
+}
+
+#[test]
+fn a_drawing_has_at_most_the_headers_bytes() {
+    let sizes = defined();
+    let [ends, record] = ["DRAWING_BYTES", "DRAWING_RECORD_BYTES"].map(|name| sizes[name] as usize);
+    let past_half = Field::Goldilocks.modulus() / 2 + 1;
+    let length = |n: usize| {
+        let list = [1, past_half, past_half].repeat(n);
+        let mut text = vec![9; ends + record * n];
+        ace::draw(Field::Goldilocks, &list, n as u64, &[0], &mut text).expect("a list")
+    };
+    assert_eq!(length(1_002) - length(1_001), record);
+    // Place 0 has one digit for four.
+    assert_eq!(length(1) + 3, ends + record);
+    assert!(length(4_096) <= ends + record * 4_096);
 }
 
 /// The variants that the header lists: number, name and how many fields.

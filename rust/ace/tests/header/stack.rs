@@ -48,6 +48,10 @@ fn calls_on_a_long_chain_of_negations() {
             let mut result = negations();
             ace::compact(field, &negations(), MOST, &ROOTS, &mut result).is_ok()
         }));
+        assert!(on_the_stack(move || {
+            let mut text = vec![9; 65 * MOST as usize];
+            ace::draw(field, &negations(), MOST, &ROOTS, &mut text).is_ok()
+        }));
     }
 }
 

@@ -1,8 +1,9 @@
 //! Faults, and the good values beside them, that are put into a case.
 
 use model::field::{P, Q};
-use model::{Call, Case, LIMIT, LOWER_WORK, MOST_ROOTS, records};
+use model::{Call, Case, Field, LIMIT, LOWER_WORK, MOST_ROOTS, records};
 
+use super::drawings;
 use crate::Rng;
 
 /// Numbers of records that wrap, are too many, or are none.
@@ -118,9 +119,17 @@ fn needed(case: &Case, store: &str) -> usize {
         ("lengths", _) => 16,
         ("entries", Call::Prepare) => total(&case.stores[0]),
         ("entries", _) => total(&case.stores[1]),
+        ("text", _) => text_length(case),
         ("places", _) => case.stores[1].len(),
         _ => 3 * n,
     }
+}
+
+/// The bytes of what Draw writes, or of its store where its list is refused.
+fn text_length(case: &Case) -> usize {
+    let named = Field::numbered(case.scalars[0]);
+    let drawn = named.and_then(|field| drawings::length(field, &case.stores[0], case.scalars[1]));
+    drawn.unwrap_or(case.stores[2].len())
 }
 
 /// The values to try for a number.

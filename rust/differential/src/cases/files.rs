@@ -6,6 +6,7 @@ use model::{
     records, version_1, version_2,
 };
 
+use super::drawings::filed;
 use super::faults::{Fault, faults};
 use super::fixed::{eight_roots, examples, meeting, rewriting};
 use super::lists::{
@@ -95,7 +96,7 @@ fn of_case(case: &Case) -> Vec<Vec<u8>> {
     files.map(|file| counted(&file, n as u32)).collect()
 }
 
-/// The lists whose listings matter, with their roots.
+/// The lists whose listings and drawings matter, with their roots.
 fn good(rng: &mut Rng) -> Vec<Vec<u8>> {
     let mut lists: Vec<(Vec<Record>, u64)> = examples();
     lists.push((every_kind(FIELD).to_vec(), 5));
@@ -111,6 +112,7 @@ fn good(rng: &mut Rng) -> Vec<Vec<u8>> {
     let most = FILE_LIMIT as usize;
     // No listing is longer than this one's.
     lists.push((vec![[1, P - 1, P - 1]; most], FILE_LIMIT - 1));
+    lists.extend(filed(FIELD, most).map(|list| (list, 0)));
     let rooted_last = |list: Vec<Record>| {
         let root = list.len() as u64 - 1;
         (list, root)
@@ -320,14 +322,15 @@ fn damage(file: &mut Vec<u8>, rng: &mut Rng) {
 
 /// A file at random: a list of any kind, with a bad word or damaged bytes in some.
 pub fn random_file(rng: &mut Rng) -> Vec<u8> {
+    let call = rng.pick(&[Call::Normalize, Call::Normalize, Call::Draw]);
     let case = match rng.below(60) {
         0 => {
             let n = rng.within(FILE_LIMIT - 3, FILE_LIMIT + 1);
             let list = of_size(FIELD, rng, n as usize);
-            list_case(Call::Normalize, FIELD, rng, &list, &[list.len() as u64 - 1])
+            list_case(call, FIELD, rng, &list, &[list.len() as u64 - 1])
         }
-        1..30 => super::random(Call::Normalize, FIELD, rng),
-        _ => super::several_roots(Call::Normalize, FIELD, rng).expect("a call with roots"),
+        1..30 => super::random(call, FIELD, rng),
+        _ => super::several_roots(call, FIELD, rng).expect("a call with roots"),
     };
     let mut files = of_case(&case);
     let mut file = files.swap_remove(rng.below(files.len() as u64) as usize);

@@ -5,7 +5,7 @@ use model::{FIELDS, Field, Judge, LIMIT, Record, ZK};
 use crate::{Rng, Rust};
 
 /// Any key's number.
-fn any_key(rng: &mut Rng) -> u64 {
+pub(super) fn any_key(rng: &mut Rng) -> u64 {
     let variant = rng.below(22);
     let fields = (0..FIELDS[variant as usize]).fold(0, |fields, place| {
         let random = rng.below(65_536);

@@ -2,7 +2,7 @@
 
 use model::{Call, Case, Field, Judge, LIMIT, LOWER_WORK, Record, ZK, words};
 
-use super::{columns, lists};
+use super::{columns, drawings, lists};
 use crate::{Rng, Rust};
 
 /// Words that a store may hold before a call.
@@ -73,6 +73,7 @@ pub fn list_case(call: Call, field: Field, rng: &mut Rng, list: &[Record], roots
             scalars.push(entries.len() as u64);
             stores.push(source(rng, words(&entries)));
         }
+        Call::Draw => stores.push(drawings::text(field, rng, list)),
         _ => panic!("no call on a list with roots"),
     }
     Case { call, scalars, stores }

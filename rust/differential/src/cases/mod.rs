@@ -1,6 +1,7 @@
 //! The cases that are compared: corners by hand, short lists exhaustively, the rest at random.
 
 mod columns;
+mod drawings;
 mod exhaustive;
 mod faults;
 mod files;
@@ -10,7 +11,7 @@ mod make;
 
 use std::ops::ControlFlow::{self, Continue};
 
-use model::{Call, Case, Field};
+use model::{Call, Case, Field, Record};
 
 use crate::Rng;
 
@@ -35,6 +36,10 @@ pub fn fixed(call: Call, field: Field, rng: &mut Rng, thorough: bool, sink: Sink
         Call::Step => fixed::step(field, rng, thorough, sink),
         Call::Prepare => fixed::prepare(field, rng, thorough, sink),
         Call::Lower => fixed::lower(field, rng, thorough, sink),
+        Call::Draw => {
+            fixed::rooted(call, field, rng, thorough, sink)?;
+            drawings::fixed(field, rng, sink)
+        }
         _ => fixed::rooted(call, field, rng, thorough, sink),
     }
 }
@@ -70,7 +75,7 @@ pub fn random(call: Call, field: Field, rng: &mut Rng) -> Case {
         }
         Call::Prepare | Call::Lower => make::random_columns(call, field, rng),
         _ => {
-            let list = lists::any_nonempty(field, rng);
+            let list = rooted_list(call, field, rng);
             let root = lists::root(rng, &list);
             make::list_case(call, field, rng, &list, &[root])
         }
@@ -83,10 +88,16 @@ pub fn several_roots(call: Call, field: Field, rng: &mut Rng) -> Option<Case> {
     if !call.signature().stores.iter().any(|store| store.0 == "roots") {
         return None;
     }
-    let list = lists::any_nonempty(field, rng);
+    let list = rooted_list(call, field, rng);
     let roots = lists::several_roots(rng, &list);
     let case = make::list_case(call, field, rng, &list, &roots);
     Some(with_faults(case, rng))
+}
+
+/// A list at random for a call with roots; of drawing, with coordinates that print in every way.
+fn rooted_list(call: Call, field: Field, rng: &mut Rng) -> Vec<Record> {
+    let list = lists::any_nonempty(field, rng);
+    if call == Call::Draw { drawings::varied(field, rng, list) } else { list }
 }
 
 /// The case, with faults in some.

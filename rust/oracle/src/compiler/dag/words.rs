@@ -3,6 +3,7 @@
 use miden_crypto::field::{BabyBear, Felt, Field, QuadFelt, TwoAdicField};
 
 use super::builder::DagBuilder;
+use super::drawing;
 use super::ir::{AceDag, DagId, NodeId, NodeKind, PeriodicColumn, PeriodicColumnData};
 use super::normalize::{normalize_dag, one_round};
 use super::periodic::build_periodic_nodes;
@@ -43,7 +44,7 @@ fn key(number: u64) -> InputKey {
 }
 
 /// The number of a key.
-fn number(key: InputKey) -> u64 {
+pub(super) fn number(key: InputKey) -> u64 {
     let (variant, fields) = match key {
         InputKey::Public(i) => (0, [i, 0, 0]),
         InputKey::AuxRandAlpha => (1, [0; 3]),
@@ -77,6 +78,9 @@ pub trait Element: Field + From<Self::Entry> {
     /// An entry of a column.
     type Entry: TwoAdicField;
 
+    /// The prime that coordinates are below.
+    const MODULUS: u64;
+
     /// The element of these coordinates.
     fn of(coordinates: [u64; 2]) -> Self;
 
@@ -89,6 +93,8 @@ pub trait Element: Field + From<Self::Entry> {
 
 impl Element for QuadFelt {
     type Entry = Felt;
+
+    const MODULUS: u64 = Felt::MODULUS;
 
     fn of([c0, c1]: [u64; 2]) -> Self {
         Self::new(Felt::new(c0), Felt::new(c1))
@@ -105,6 +111,8 @@ impl Element for QuadFelt {
 
 impl Element for BabyBear {
     type Entry = Self;
+
+    const MODULUS: u64 = Self::MODULUS;
 
     fn of([c0, c1]: [u64; 2]) -> Self {
         assert_eq!(c1, 0, "a residue has no second coordinate");
@@ -286,6 +294,13 @@ pub fn lower<E: Element>(
     (records(&nodes), places)
 }
 
+/// The list's drawing.
+pub fn draw<E: Element>(list: &[Record]) -> String {
+    let mut text = String::new();
+    Nodes::<E>::new(list).draw(&mut text);
+    text
+}
+
 /// The nodes of a list, for measuring without the words.
 #[derive(Clone)]
 pub struct Nodes<E> {
@@ -304,6 +319,11 @@ impl<E: Element> Nodes<E> {
     pub fn dag(&self, root: u64) -> Dag<E> {
         let root = NodeId::in_dag(root as usize, self.id);
         Dag(AceDag::from_parts(self.id, self.nodes.clone(), root))
+    }
+
+    /// Writes the drawing of these nodes behind a text.
+    pub fn draw(&self, text: &mut String) {
+        drawing::write(text, &self.nodes).expect("a string takes all");
     }
 
     /// The number of nodes that these requests come to.
