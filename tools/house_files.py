@@ -1,8 +1,10 @@
 #!/usr/bin/env python3
-"""Writes the house files of samples/, each beside the listing that it must give, and normlist's own input and output.
+"""Writes the house files of samples/, each beside the listing and the drawing that it must give, and the programs' own
+input and output.
 
-Run it at the repository's root: tools/house_files.py
+Run it at the repository's root: tools/house_files.py. Drawings are those of ./differential dot.
 """
+import subprocess
 from pathlib import Path
 
 TAGS = {"in": 0, "const": 1, "add": 2, "sub": 3, "mul": 4, "neg": 5}
@@ -68,11 +70,14 @@ def house_file(roots, records):
 def write(name, file, listing):
     Path(f"samples/{name}.house").write_bytes(file)
     Path(f"samples/{name}.txt").write_text(listing.replace("|", "\n") + "\n")
+    drawing = subprocess.run(["./differential", "dot"], input=file, stdout=subprocess.PIPE, check=True).stdout
+    Path(f"samples/{name}.dot").write_bytes(drawing)
 
 
 Path("samples").mkdir(exist_ok=True)
 for name, roots, records, listing in SAMPLES:
     write(name, house_file(roots, records), listing)
 write("cut_short", house_file(*SAMPLES[0][1:3])[:-1], "refused 24 0")
-for source, target in (("house", "stdin"), ("txt", "stdout")):
-    Path(f"crates/normlist/{target}").write_bytes(Path(f"samples/{SAMPLES[0][0]}.{source}").read_bytes())
+for program, name, ending in (("normlist", SAMPLES[0][0], "txt"), ("drawlist", "every_kind", "dot")):
+    for source, target in (("house", "stdin"), (ending, "stdout")):
+        Path(f"crates/{program}/{target}").write_bytes(Path(f"samples/{name}.{source}").read_bytes())

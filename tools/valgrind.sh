@@ -1,12 +1,12 @@
 #!/usr/bin/env bash
-# Runs the comparison's corners in both fields under valgrind, each store an allocation of its own, and normlist on the
-# samples and on house files made by hand: nothing may be read or written outside of what is lent.
+# Runs the comparison's corners in both fields under valgrind, each store an allocation of its own, and the programs on
+# the samples and on house files made by hand: nothing may be read or written outside of what is lent.
 #
 #   tools/valgrind.sh [--cases N] [NAME ...]
 #
-# NAME is a call, or normlist; without one, all of them. N random cases more are run for each call (default 0). It takes
-# about five minutes, after proving and building what is missing or old; it is no part of the gate. ACE_SRC names the
-# folder of the Rust, as for ./differential. What can't be run counts as failed.
+# NAME is a call, normlist or drawlist; without one, all of them. N random cases more are run for each call (default 0).
+# It takes about five minutes, after proving and building what is missing or old; it is no part of the gate. ACE_SRC names
+# the folder of the Rust, as for ./differential. What can't be run counts as failed.
 set -euo pipefail
 
 # shellcheck source=tools/common.sh
@@ -21,18 +21,19 @@ if [ "${1:-}" = --cases ]; then
   cases=${2:?--cases takes a number}
   shift 2
 fi
-[ $# -gt 0 ] || set -- step build compact normalize evaluate prepare lower normlist
+[ $# -gt 0 ] || set -- step build compact normalize evaluate prepare lower draw normlist drawlist
 command -v valgrind > /dev/null || fail "valgrind is not on the PATH"
 need_rust
 fresh archive ace
-fresh program normlist
+for name in normlist drawlist; do
+  fresh program $name
+done
 rust_program differential "about half a minute"
 
 differential=rust/target/release/differential
-normlist=target/bin/normlist
 logs=target/valgrind
 rm -rf $logs
-mkdir -p $logs/normlist
+mkdir -p $logs/normlist $logs/drawlist
 watch="valgrind -q --error-exitcode=99 --redzone-size=1024 --max-stackframe=4000000 --num-callers=6"
 clean=0 bad=0
 
@@ -59,21 +60,25 @@ call() {
   verdict "$1" $status $logs/"$1".log
 }
 
-# Runs the program on every sample, then on one in 13 of the files made by hand.
+# Runs a program on every sample, then on one in 13 of the files made by hand.
 program() {
-  local status=0 sample
+  local name=$1 program=$PWD/target/bin/$1 watched status=0 sample
+  watched="$watch --log-file=$PWD/$logs/$name/%p.log $program"
   for sample in samples/*.house; do
-    $watch --log-file=$logs/normlist/%p.log $normlist < "$sample" > /dev/null || [ $? -lt 99 ] || status=99
+    $watched < "$sample" > /dev/null || [ $? -lt 99 ] || status=99
   done
-  printf '#!/bin/sh\nexec %s --log-file=%s/normlist/%%p.log %s\n' "$watch" "$PWD/$logs" "$PWD/$normlist" > $logs/watched
+  printf '#!/bin/sh\nexec %s\n' "$watched" > $logs/watched
   chmod +x $logs/watched
-  $differential --call normlist --corners --every 13 --program $logs/watched > $logs/normlist.out 2>&1 || status=$?
-  cat $logs/normlist/*.log > $logs/normlist.log
-  verdict normlist $status $logs/normlist.log
+  $differential --call "$name" --corners --every 13 --program $logs/watched > $logs/"$name".out 2>&1 || status=$?
+  cat $logs/"$name"/*.log > $logs/"$name".log
+  verdict "$name" $status $logs/"$name".log
 }
 
 for name; do
-  if [ "$name" = normlist ]; then program; else call "$name"; fi
+  case $name in
+    normlist | drawlist) program "$name" ;;
+    *) call "$name" ;;
+  esac
 done
 echo "$clean passed, $bad failed"
 [ $bad = 0 ]
