@@ -219,8 +219,8 @@ void ace_lower(uint64_t field, const uint64_t *list, size_t list_len, uint64_t n
                uint64_t *answer /* 4 words */);
 
 /* The list as Graphviz DOT: a line a record in order, as n0 [label="in 5"]; then a line an operand,
- * as n5 -> n3; first before second. A constant's coordinates above half the prime are less it, as
- * const -1 0. The roots are tested and not drawn; bytes behind the text are 0.
+ * as n5 -> n3; first before second. A coordinate above half the prime is written less the prime,
+ * p - 1 as -1. The roots are tested and not drawn; bytes behind the text are 0.
  * Refuses with 49, 1 to 5, 46, 6, 41. Accepted: the text's length in bytes. */
 void ace_draw(uint64_t field, const uint64_t *list, size_t list_len, uint64_t n,
               const uint64_t *roots, size_t roots_len,
