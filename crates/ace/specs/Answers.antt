@@ -13,8 +13,9 @@ use Rattle.columns.specs.Columns.{form_number}
 use Rattle.columns.specs.Prepare.{most_columns}
 use Rattle.columns.specs.declared.Form.{Form}
 use Rattle.columns.specs.declared.Prepared.{Prepared}
+use Rattle.encode.specs.declared.EncodedCircuit.{EncodedCircuit}
 
--- how many words an answer has: of Step, Lower and Draw, of a list, of Evaluate, of Prepare
+-- how many words an answer has: of Step, Lower, Draw and Emit, of a list, of Evaluate, of Prepare
 abbrev pub answer_width : ℕ
 answer_width = 4
 
@@ -72,3 +73,8 @@ prepare_words (Err r) = refused_words prepare_width r
 abbrev pub number_words : Result ℕ Refusal → List ℕ
 number_words (Ok n) = 0 ∷ n ∷ 0 ∷ 0 ∷ []
 number_words (Err r) = refused_words answer_width r
+
+-- the counts of variables and operations
+abbrev pub encoded_words : Result EncodedCircuit Refusal → List ℕ
+encoded_words (Ok e) = 0 ∷ e.num_vars ∷ e.num_ops ∷ 0 ∷ []
+encoded_words (Err r) = refused_words answer_width r

@@ -13,7 +13,8 @@ use Rattle.evaluate.specs.Calls as Evaluation
 use Rattle.columns.specs.Prepare as Prepare
 use Rattle.lower.specs.Lower as Lowering
 use Rattle.draw.specs.Calls as Drawing
-use Rattle.ace.specs.Answers.{answer_width, list_width, evaluate_width, prepare_width, refused_words, step_words, list_words, normalize_words, evaluate_words, prepare_words, number_words}
+use Rattle.encode.specs.Calls as Encoding
+use Rattle.ace.specs.Answers.{answer_width, list_width, evaluate_width, prepare_width, refused_words, step_words, list_words, normalize_words, evaluate_words, prepare_words, number_words, encoded_words}
 
 -- the answer of a call of unknown field, in so many words
 abbrev pub unknown_words : ℕ → List ℕ
@@ -90,3 +91,12 @@ draw_answer number list n roots text =
 
 unfoldable pub draw_text : ℕ → List ℕ → ℕ → List ℕ → List ℕ → List ℕ
 draw_text number list n roots text = in_field number text (λ prime. Drawing.draw_text (field_of prime) (interleaved list) n roots text)
+
+-- Emit
+module _ (number : ℕ) (list : List ℕ) (n : ℕ) (roots layout : List ℕ) (k : ℕ) (result : List ℕ) where
+  unfoldable pub emit_answer : List ℕ
+  emit_answer =
+      in_field number (unknown_words answer_width) (λ prime. encoded_words (Encoding.emit_answer (field_of prime) (interleaved list) n roots layout k (length result)))
+
+  unfoldable pub emit_result : List ℕ
+  emit_result = in_field number result (λ prime. Encoding.emit_result (field_of prime) (interleaved list) n roots layout k result)

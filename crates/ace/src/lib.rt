@@ -14,6 +14,7 @@ ghost use Rattle.ace.specs.Calls as Calls;
 use builder::Entered;
 use columns::{Form, MOST_COLUMNS, Prepared};
 use dag::{MOST_ROOTS, Refusal, RootedDag, Words};
+use encode::EncodedCircuit;
 use evaluate::RootValues;
 use field::{Prime, QuadFelt};
 use normalize::NormalEnd;
@@ -21,7 +22,7 @@ use normalize::NormalEnd;
 // The interface that include/ace.h names: a caller built against another number is wrong.
 const INTERFACE: u64 = 3;
 
-// The words of Step's, Lower's and Draw's answers.
+// The words of Step's, Lower's, Draw's and Emit's answers.
 pub const ANSWER_WORDS: usize = 4;
 
 // The words of Build's, Compact's and Normalise's answers.
@@ -142,6 +143,16 @@ fn number_words(answer: Result<usize, Refusal>) -> [u64; ANSWER_WORDS]
 {
     match answer {
         Ok(number) => [0, number as u64, 0, 0],
+        Err(r) => refused_words(r),
+    }
+}
+
+// The words of Emit's answer.
+fn encoded_words(answer: Result<EncodedCircuit, Refusal>) -> [u64; ANSWER_WORDS]
+    ensures { result ≡ Answers.encoded_words answer }
+{
+    match answer {
+        Ok(EncodedCircuit { num_vars, num_ops }) => [0, num_vars as u64, num_ops as u64, 0],
         Err(r) => refused_words(r),
     }
 }
@@ -401,6 +412,40 @@ pub fn ace_draw(
     ensures answer { answer.new ≡ Calls.draw_answer field list.now n roots.now text.old }
 {
     *answer = number_words(draw(field, list, n, roots, text));
+}
+
+// Emit, in a numbered field.
+#[tactic(auto, unfolding(crate::specs::Calls::emit_answer, crate::specs::Calls::emit_result))]
+fn emit(
+    field: u64,
+    list: &[u64],
+    n: usize,
+    roots: &[u64],
+    layout: &[u64],
+    k: usize,
+    res: &mut [u64],
+) -> Result<EncodedCircuit, Refusal>
+    ensures res { res.new ≡ Calls.emit_result field list.now n roots.now layout.now k res.old }
+    ensures answer { Answers.encoded_words result ≡ Calls.emit_answer field list.now n roots.now layout.now k res.old }
+{
+    encode::emit(prime_of(field)?, list, n, roots, layout, k, res)
+}
+
+// Emit. Accepted: num_vars, num_ops.
+pub fn ace_emit(
+    field: u64,
+    list: &[u64],
+    n: usize,
+    roots: &[u64],
+    layout: &[u64],
+    k: usize,
+    res: &mut [u64],
+    answer: &mut [u64; ANSWER_WORDS],
+)
+    ensures res { res.new ≡ Calls.emit_result field list.now n roots.now layout.now k res.old }
+    ensures answer { answer.new ≡ Calls.emit_answer field list.now n roots.now layout.now k res.old }
+{
+    *answer = encoded_words(emit(field, list, n, roots, layout, k, res));
 }
 
 // The interface's number.

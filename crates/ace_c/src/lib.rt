@@ -137,6 +137,24 @@ pub extern "C" fn ace_draw(
     ace::ace_draw(field, list, n, roots, text, answer);
 }
 
+// Emit. Accepted: num_vars, num_ops.
+#[unsafe(no_mangle)]
+pub extern "C" fn ace_emit(
+    field: u64,
+    list: &[u64],
+    n: usize,
+    roots: &[u64],
+    layout: &[u64],
+    k: usize,
+    res: &mut [u64],
+    answer: &mut [u64; 4],
+)
+    ensures res { res.new ≡ Calls.emit_result field list.now n roots.now layout.now k res.old }
+    ensures answer { answer.new ≡ Calls.emit_answer field list.now n roots.now layout.now k res.old }
+{
+    ace::ace_emit(field, list, n, roots, layout, k, res, answer);
+}
+
 // The interface's number.
 #[unsafe(no_mangle)]
 pub extern "C" fn ace_interface() -> u64

@@ -1,5 +1,5 @@
 -- Small steps that proofs of branching code share.
-use Rattle.std.specs.Prelude.{Bool, true, false, cond, ◌&&◌, ◌≡◌, refl}
+use Rattle.std.specs.Prelude.{Bool, true, false, cond, ◌&&◌, Option, Some, None, Ok, Err, ok_or, ◌≡◌, refl}
 use Rattle.std.proofs.Common.{sym, ◌∙◌}
 
 -- what a result is, where it is v and a definition equals it
@@ -17,3 +17,12 @@ into y p e = rw p e
 pub and_both : (a b c : Bool) → a && (b && c) ≡ (a && b) && c
 and_both true b c = refl
 and_both false b c = refl
+
+-- what a value with a refusal in its absence was
+pub none_of : {A E : Type 0} {d : Option A} {r e : E} → Err r ≡ ok_or d e → (d ≡ None) × (r ≡ e)
+none_of {d = None} q = (refl, cc)
+none_of {d = Some x} q = cc
+
+pub some_of : {A E : Type 0} {d : Option A} {x : A} (e : E) → Ok x ≡ ok_or d e → Some x ≡ d
+some_of {d = None} e q = cc
+some_of {d = Some y} e q = cc

@@ -21,6 +21,7 @@ pub mod CheckLaws
 pub mod PassLaws
 pub mod ViewLaws
 pub mod StoreLaws
+pub mod OperandLaws
 pub mod WordLaws
 pub mod BlankLaws
 pub mod ArrayLaws

@@ -4,7 +4,7 @@ use Rattle.std.proofs.Common.{sym, ◌∙◌, arith}
 use Rattle.dag.specs.Refusals.{number, unless_refused, Checked}
 use Rattle.dag.specs.declared.Refusal.{Refusal}
 use Rattle.dag.specs.declared.Refusal.TheVariants.{CountOutOfRange, StoreTooShort, UnknownTag, Malformed, OperandNotEarlier, RootOutside, NoRoom, TooManyEntries, Unassigned, TooManyColumns, ColumnLength, SharedPeriod}
-use Rattle.dag.specs.declared.Refusal.TheVariants.{FileTooShort, FileVersion, FileCount, FileLength, TextTooShort, RootCount, FieldNumber}
+use Rattle.dag.specs.declared.Refusal.TheVariants.{FileTooShort, FileVersion, FileCount, FileLength, TextTooShort, NoOperations, RootNotLast, OddLayout, RootCount, FieldNumber}
 
 pub number_positive : (r : Refusal) → 0 < number r
 number_positive CountOutOfRange = omega arith
@@ -24,6 +24,9 @@ number_positive FileVersion = omega arith
 number_positive FileCount = omega arith
 number_positive FileLength = omega arith
 number_positive TextTooShort = omega arith
+number_positive NoOperations = omega arith
+number_positive RootNotLast = omega arith
+number_positive OddLayout = omega arith
 number_positive RootCount = omega arith
 number_positive FieldNumber = omega arith
 

@@ -2,7 +2,7 @@
 use Rattle.std.specs.Prelude.{ℕ, zero, suc, Bool, true, false, Result, Ok, Err}
 use Rattle.dag.specs.declared.Refusal.{Refusal}
 use Rattle.dag.specs.declared.Refusal.TheVariants.{CountOutOfRange, StoreTooShort, UnknownTag, Malformed, OperandNotEarlier, RootOutside, NoRoom, TooManyEntries, Unassigned, TooManyColumns, ColumnLength, SharedPeriod}
-use Rattle.dag.specs.declared.Refusal.TheVariants.{FileTooShort, FileVersion, FileCount, FileLength, TextTooShort, RootCount, FieldNumber}
+use Rattle.dag.specs.declared.Refusal.TheVariants.{FileTooShort, FileVersion, FileCount, FileLength, TextTooShort, NoOperations, RootNotLast, OddLayout, RootCount, FieldNumber}
 
 abbrev pub number : Refusal → ℕ
 number CountOutOfRange = 1
@@ -22,6 +22,9 @@ number FileVersion = 22
 number FileCount = 23
 number FileLength = 24
 number TextTooShort = 41
+number NoOperations = 42
+number RootNotLast = 43
+number OddLayout = 44
 number RootCount = 46
 number FieldNumber = 49
 
@@ -44,6 +47,9 @@ place FileVersion = 0
 place FileCount = 0
 place FileLength = 0
 place TextTooShort = 0
+place NoOperations = 0
+place RootNotLast = 0
+place OddLayout = 0
 place RootCount = 0
 place FieldNumber = 0
 

@@ -1,6 +1,6 @@
 -- Stores that pass the list check, and what writing a record does to one.
 use Rattle.std.specs.Prelude.{ℕ, zero, suc, ◌+◌, ◌*◌, ◌≤◌, ◌<◌, List, [], ◌∷◌, ◌++◌, ◌≡◌, refl, get_or, length, set, take, eqb, Ok}
-use Rattle.std.proofs.Common.{append_assoc, ◌∙◌, ap, add-one, mul-suc, arith, length-set, get_or-set_same, get_or-set_other, take-suc}
+use Rattle.std.proofs.Common.{append_assoc, ◌∙◌, ap, add-one, mul-suc, arith, length-set, get_or-set_same, get_or-set_other, take-suc, take-suc-set}
 use Rattle.std.proofs.Math.Path.{sym, ap₂}
 use Rattle.std.proofs.Math.Numerals.{add-three, towards_suc}
 use Rattle.field.specs.Fields.{Bounds, Within}
@@ -65,7 +65,7 @@ same_list_agree m u v n left right e =
 
 -- a store with the words t, a, b written at place i
 module _ (s : List ℕ) (i t a b : ℕ) where
-  length_put_words : length (put_words s i t a b) ≡ length s
+  pub length_put_words : length (put_words s i t a b) ≡ length s
   length_put_words = simp length-set
 
   put_other : (k : ℕ) → (k ≡ 3 * i → ⊥) → (k ≡ 3 * i + 1 → ⊥) → (k ≡ 3 * i + 2 → ⊥) → get_or (put_words s i t a b) k 0 ≡ get_or s k 0
@@ -80,6 +80,23 @@ module _ (s : List ℕ) (i t a b : ℕ) where
   module _ (fits : i < (interleaved s).room) where
     words_fit : 3 * suc i ≤ length s
     words_fit = room_words s (suc i) fits
+
+    -- the words before them, then these three
+    pub front_put_words : take (3 * (i + 1)) (put_words s i t a b) ≡ take (3 * i) s ++ (t ∷ a ∷ b ∷ [])
+    front_put_words =
+        let one = take-suc-set s (3 * i) t (omega (arith, words_fit)) in
+        let two = take-suc-set (set s (3 * i) t) (3 * i + 1) a (simp length-set (omega (arith, words_fit))) in
+        let three = take-suc-set (set (set s (3 * i) t) (3 * i + 1) a) (3 * i + 2) b (simp length-set (omega (arith, words_fit))) in
+        let at_one : 3 * i + 1 ≡ suc (3 * i) = omega arith in
+        let at_two : 3 * i + 2 ≡ suc (3 * i + 1) = omega arith in
+        let at_three : 3 * (i + 1) ≡ suc (3 * i + 2) = omega arith in
+        ap (λ k. take k (put_words s i t a b)) at_three
+        ∙ (three
+        ∙ (ap (λ k. take k (set (set s (3 * i) t) (3 * i + 1) a) ++ (b ∷ [])) at_two
+        ∙ (ap (λ l. l ++ (b ∷ [])) two
+        ∙ (ap (λ k. (take k (set s (3 * i) t) ++ (a ∷ [])) ++ (b ∷ [])) at_one
+        ∙ (ap (λ l. (l ++ (a ∷ [])) ++ (b ∷ [])) one
+        ∙ (append_assoc (take (3 * i) s ++ (t ∷ [])) (a ∷ []) (b ∷ []) ∙ append_assoc (take (3 * i) s) (t ∷ []) (a ∷ b ∷ [])))))))
 
     put_tag : get_or (put_words s i t a b) (3 * i) 0 ≡ t
     put_tag =

@@ -87,6 +87,9 @@ pub enum Refusal {
     FileCount,
     FileLength,
     TextTooShort,
+    NoOperations,
+    RootNotLast,
+    OddLayout,
     RootCount,
     FieldNumber,
 }
@@ -114,6 +117,9 @@ impl Refusal {
             Refusal::FileCount => 23,
             Refusal::FileLength => 24,
             Refusal::TextTooShort => 41,
+            Refusal::NoOperations => 42,
+            Refusal::RootNotLast => 43,
+            Refusal::OddLayout => 44,
             Refusal::RootCount => 46,
             Refusal::FieldNumber => 49,
         }

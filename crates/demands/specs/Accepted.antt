@@ -13,7 +13,8 @@ use Rattle.evaluate.specs.Calls.{evaluate_check, evaluate_answer}
 use Rattle.columns.specs.Prepare.{columns, prepare_check, answer, prepare}
 use Rattle.lower.specs.Lower.{whole_check, lower_answer}
 use Rattle.draw.specs.Calls.{draw_check, draw_answer}
-use Rattle.ace.specs.Answers.{step_words, list_words, normalize_words, evaluate_words, prepare_words, number_words}
+use Rattle.encode.specs.Calls.{emit_check, emit_answer}
+use Rattle.ace.specs.Answers.{step_words, list_words, normalize_words, evaluate_words, prepare_words, number_words, encoded_words}
 
 -- an answer's first word
 abbrev pub outcome : List ℕ → ℕ
@@ -46,6 +47,11 @@ module _ (field : Field) where
     pub draw_accepts : (roots : List ℕ) (text_room : ℕ) → (outcome (number_words (draw_answer field s n roots text_room)) ≡ 0) ↔ (draw_check field s n roots text_room ≡ Ok tt)
     unfolding draw_answer
     draw_accepts roots text_room = zero_accepts (λ w. outcome (number_words w)) Err _ (λ r. refl) refl (draw_check field s n roots text_room)
+
+    pub emit_accepts : (roots layout : List ℕ) (k result_words : ℕ)
+        → (outcome (encoded_words (emit_answer field s n roots layout k result_words)) ≡ 0) ↔ (emit_check field s n roots layout k result_words ≡ Ok tt)
+    unfolding emit_answer
+    emit_accepts roots layout k result_words = zero_accepts (λ w. outcome (encoded_words w)) Err _ (λ r. refl) refl (emit_check field s n roots layout k result_words)
 
     pub lower_accepts : (ls es : List ℕ) (period : ℕ) (result work places : List ℕ)
         → (outcome (number_words (lower_answer field s n ls es period result work places)) ≡ 0) ↔ (whole_check field s n ls es period result work places ≡ Ok tt)

@@ -13,7 +13,7 @@ use Rattle.builder.specs.Steps.{place_of, replay}
 use Rattle.builder.specs.Calls as Builder
 use Rattle.compact.specs.Compact.{compact}
 use Rattle.compact.specs.Calls as Compaction
-use Rattle.evaluate.specs.Entries.{entries_check, entry_of, inputs_check}
+use Rattle.entries.specs.Entries.{entries_check, entry_of, inputs_check}
 use Rattle.evaluate.specs.Calls.{entry_words, given}
 use Rattle.normalize.specs.Rounds.{normalize}
 use Rattle.normalize.specs.Calls as Normalising

@@ -1,9 +1,9 @@
--- What lies behind a list, an assignment or columns is never read: stores that begin with the same words give the same answer, and the same words in every store.
+-- What lies behind a list, an assignment, a layout or columns is never read: stores that begin with the same words give the same answer, and the same words in every store.
 use Prim.Native.Nat.{ℕ, zero, suc, ◌+◌, ◌*◌, ◌<◌, ◌≤◌}
 use Rattle.std.specs.Prelude.{List, [], ◌∷◌, ◌++◌, Bool, cond, ◌≡◌, eqb, get_or, length, take, drop, Some}
 use Rattle.std.proofs.Math.Bool.{true, false}
 use Rattle.std.proofs.Math.Path.{refl, ap, ap₂, fun_ext}
-use Rattle.std.proofs.Common.{sym, ◌∙◌, arith, get_or-take, take-add, take-take}
+use Rattle.std.proofs.Common.{sym, ◌∙◌, arith, get_or-take, take-add, take-take, mul-suc, mul-le-mul_left}
 use borrow.Author.Tests.{le-leb}
 use Rattle.std.proofs.Math.Seq.{drop-append_seam}
 use Rattle.field.specs.Fields.{Field, modulus}
@@ -14,7 +14,9 @@ use Rattle.dag.specs.Nodes.{nodes, words_of}
 use Rattle.dag.specs.Refusals.{first_refused, ◌then◌, Checked}
 use Rattle.dag.specs.Store.{front, Alike}
 use Rattle.builder.specs.Calls.{has_room, step_answer, step_store}
-use Rattle.evaluate.specs.Entries.{entry_check, entries_check, entry_of}
+use Rattle.entries.specs.Entries.{key_at, entry_check, entries_check, entry_of}
+use Rattle.circuit.specs.Circuit.{layout_words}
+use Rattle.encode.specs.Calls.{input_number, circuit_constants, circuit_operations, geometry, emitted, root_is_last, circuit_check, emit_check, encoded, emit_answer, emit_result}
 use Rattle.evaluate.specs.Calls.{entry_words, element_of, given, evaluate_check, evaluate_answer}
 use Rattle.columns.specs.Columns.{log_within}
 use Rattle.periodic.specs.Periodic.{build_periodic_nodes}
@@ -51,42 +53,50 @@ module _ (field : Field) where
       ∙ (ap words_of (same_stepped field (interleaved s) (interleaved u) n h t a b room)
       ∙ sym (begins field u n t a b place count (sym (step_answer_lem field (interleaved s) (interleaved u) n h t a b room) ∙ e)))
 
-  -- an assignment: of a store long enough for m entries only their words are read
-  module _ (a c : List ℕ) (m : ℕ) (left : entry_words * m ≤ length a) (right : entry_words * m ≤ length c) (words : take (entry_words * m) a ≡ take (entry_words * m) c) where
-    same_word : (k : ℕ) → k < entry_words * m → get_or a k 0 ≡ get_or c k 0
-    same_word k h = sym (get_or-take (entry_words * m) a k 0 h) ∙ (ap (λ l. get_or l k 0) words ∙ get_or-take (entry_words * m) c k 0 h)
+  -- entries: of a store long enough for m of them only their words are read
+  module _ (width : ℕ) (a c : List ℕ) (m : ℕ) (wide : 0 < width) (left : width * m ≤ length a) (right : width * m ≤ length c) (words : take (width * m) a ≡ take (width * m) c) where
+    same_word : (k : ℕ) → k < width * m → get_or a k 0 ≡ get_or c k 0
+    same_word k h = sym (get_or-take (width * m) a k 0 h) ∙ (ap (λ l. get_or l k 0) words ∙ get_or-take (width * m) c k 0 h)
 
-    same_entry : (i : ℕ) → i < m → entry_check field.bounds entry_words a i ≡ entry_check field.bounds entry_words c i
-    unfolding entry_check
-    same_entry i h =
-        rw (same_word (entry_words * i) (omega arith), same_word (entry_words * i + 1) (omega arith), same_word (entry_words * i + 2) (omega arith))
+    same_key : (i : ℕ) → i < m → key_at width a i ≡ key_at width c i
+    same_key i h = same_word (width * i) (omega (arith, mul-suc width i, mul-le-mul_left width h, wide))
 
     same_first : (f g : ℕ → Checked) (k : ℕ) → ((i : ℕ) → i < k → f i ≡ g i) → first_refused f k ≡ first_refused g k
     unfolding first_refused
     same_first f g zero e = refl
     same_first f g (suc k) e = ap₂ ◌then◌ (same_first f g k (λ i h. e i (omega arith))) (e k (omega arith))
 
-    same_entries_lem : entries_check field.bounds entry_words a m ≡ entries_check field.bounds entry_words c m
+    same_entries_lem : ((i : ℕ) → i < m → entry_check field.bounds width a i ≡ entry_check field.bounds width c i) → entries_check field.bounds width a m ≡ entries_check field.bounds width c m
     unfolding entries_check
-    same_entries_lem = rw (le-leb (entry_words * m) (length a) left, le-leb (entry_words * m) (length c) right, same_first (entry_check field.bounds entry_words a) (entry_check field.bounds entry_words c) m same_entry)
+    same_entries_lem e = rw (le-leb (width * m) (length a) left, le-leb (width * m) (length c) right, same_first (entry_check field.bounds width a) (entry_check field.bounds width c) m e)
 
-    same_entry_of : (key k : ℕ) → k ≤ m → entry_of entry_words a k key ≡ entry_of entry_words c k key
+    same_entry_of : (key k : ℕ) → k ≤ m → entry_of width a k key ≡ entry_of width c k key
     unfolding entry_of greatest
     same_entry_of key zero h = refl
-    same_entry_of key (suc k) h = rw (same_word (entry_words * k) (omega arith), same_entry_of key k (omega arith))
+    same_entry_of key (suc k) h = rw (same_key k (omega arith), same_entry_of key k (omega arith))
 
-    same_finder : entry_of entry_words a m ≡ entry_of entry_words c m
+    same_finder : entry_of width a m ≡ entry_of width c m
     same_finder = fun_ext (λ key. same_entry_of key m (omega arith))
+
+  -- an assignment
+  module _ (a c : List ℕ) (m : ℕ) (left : entry_words * m ≤ length a) (right : entry_words * m ≤ length c) (words : take (entry_words * m) a ≡ take (entry_words * m) c) where
+    assigned_word : (k : ℕ) → k < entry_words * m → get_or a k 0 ≡ get_or c k 0
+    assigned_word = same_word entry_words a c m (omega arith) left right words
+
+    same_entry : (i : ℕ) → i < m → entry_check field.bounds entry_words a i ≡ entry_check field.bounds entry_words c i
+    unfolding entry_check
+    same_entry i h =
+        rw (assigned_word (entry_words * i) (omega arith), assigned_word (entry_words * i + 1) (omega arith), assigned_word (entry_words * i + 2) (omega arith))
 
     same_element : (key k : ℕ) → k ≤ m → element_of a (entry_of entry_words a k key) ≡ element_of c (entry_of entry_words c k key)
     unfolding element_of entry_of greatest
     same_element key zero h = refl
     same_element key (suc k) h =
-        rw (same_word (entry_words * k) (omega arith)) (go (eqb (get_or c (entry_words * k) 0) key) (same_element key k (omega arith)))
+        rw (assigned_word (entry_words * k) (omega arith)) (go (eqb (get_or c (entry_words * k) 0) key) (same_element key k (omega arith)))
       where
         go : (t : Bool) → element_of a (entry_of entry_words a k key) ≡ element_of c (entry_of entry_words c k key)
             → element_of a (cond t (Some k) (entry_of entry_words a k key)) ≡ element_of c (cond t (Some k) (entry_of entry_words c k key))
-        go true e = rw (same_word (entry_words * k + 1) (omega arith), same_word (entry_words * k + 2) (omega arith))
+        go true e = rw (assigned_word (entry_words * k + 1) (omega arith), assigned_word (entry_words * k + 2) (omega arith))
         go false e = e
 
     same_given : given a m ≡ given c m
@@ -95,7 +105,33 @@ module _ (field : Field) where
 
     pub evaluate_assignment : (s : View) (n : ℕ) (roots : List ℕ) → evaluate_answer field s n roots a m ≡ evaluate_answer field s n roots c m
     unfolding evaluate_answer evaluate_check
-    evaluate_assignment s n roots = rw (same_entries_lem, same_finder, same_given)
+    evaluate_assignment s n roots = rw (same_entries_lem entry_words a c m (omega arith) left right words same_entry, same_finder entry_words a c m (omega arith) left right words, same_given)
+
+  -- a layout
+  module _ (a c : List ℕ) (k : ℕ) (left : k ≤ length a) (right : k ≤ length c) (words : take k a ≡ take k c) (s : View) (n : ℕ) (roots : List ℕ) where
+    once : layout_words * k ≡ k
+    once = omega arith
+
+    keys : take (layout_words * k) a ≡ take (layout_words * k) c
+    keys = rw once words
+
+    layout_entry : (i : ℕ) → i < k → entry_check field.bounds layout_words a i ≡ entry_check field.bounds layout_words c i
+    unfolding entry_check
+    layout_entry i h = rw (same_key layout_words a c k (omega arith) (omega arith) (omega arith) keys i h)
+
+    layout_entries : entries_check field.bounds layout_words a k ≡ entries_check field.bounds layout_words c k
+    layout_entries = same_entries_lem layout_words a c k (omega arith) (omega arith) (omega arith) keys layout_entry
+
+    layout_finder : entry_of layout_words a k ≡ entry_of layout_words c k
+    layout_finder = same_finder layout_words a c k (omega arith) (omega arith) (omega arith) keys
+
+    pub emit_layout_answer : (result_words : ℕ) → emit_answer field s n roots a k result_words ≡ emit_answer field s n roots c k result_words
+    unfolding emit_answer emit_check circuit_check root_is_last encoded emitted geometry circuit_constants circuit_operations input_number
+    emit_layout_answer result_words = rw (layout_entries, layout_finder)
+
+    pub emit_layout_result : (result : List ℕ) → emit_result field s n roots a k result ≡ emit_result field s n roots c k result
+    unfolding emit_result emit_check circuit_check root_is_last emitted geometry circuit_constants circuit_operations input_number
+    emit_layout_result result = rw (layout_entries, layout_finder)
 
   pub prepare_answer_lem : (ls es fs : List ℕ) → total ls ≤ length es → total ls ≤ length fs → take (total ls) es ≡ take (total ls) fs → prepare (modulus field) ls es ≡ prepare (modulus field) ls fs
   unfolding prepare prepare_check

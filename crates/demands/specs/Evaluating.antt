@@ -28,10 +28,10 @@ use Rattle.dag.specs.WordLaws.{nodes_stored, stored_pass}
 use Rattle.compact.specs.Calls.{compacted, kept_of, compact_check, compact_result}
 use Rattle.compact.specs.OperandLaws.{roots_below, map_through}
 use Rattle.compact.specs.AnswerLaws as Compacted
-use Rattle.evaluate.specs.Entries.{entries_check, entry_of, has_entry, inputs_check}
+use Rattle.entries.specs.Entries.{entries_check, entry_of, has_entry, inputs_check}
 use Rattle.evaluate.specs.Calls.{entry_words, given, values_from, evaluate_check, evaluate_answer}
 use Rattle.evaluate.specs.declared.RootValues.{RootValues}
-use Rattle.evaluate.specs.CallLaws.{entries_pass}
+use Rattle.entries.specs.EntryLaws.{entries_pass}
 use Rattle.evaluate.specs.ValueStepLaws.{given_low}
 use Rattle.dag.specs.declared.Refusal.{Refusal}
 use Rattle.normalize.specs.Calls.{normalize_check, normalized, normalize_result}
@@ -41,11 +41,10 @@ use Rattle.demands.specs.Normalising.{count_of, places_of, answer_list, answer_p
 
 -- Evaluate's test of inputs, as a statement about every input
 module _ (find : ℕ → Option ℕ) where
-  Assigned : ℕ → Type 0
+  abbrev pub Assigned : ℕ → Type 0
   Assigned k = is_some (find k) ≡ true
 
   assigned : (x : NodeKind) → has_entry find x ≡ true → Keyed Assigned x
-  unfolding Assigned
   assigned (Input k) e = e
   assigned (Constant c) e = tt
   assigned (Add a b) e = tt
@@ -54,7 +53,6 @@ module _ (find : ℕ → Option ℕ) where
   assigned (Neg a) e = tt
 
   has_entry_lem : (x : NodeKind) → Keyed Assigned x → has_entry find x ≡ true
-  unfolding Assigned
   has_entry_lem (Input k) e = e
   has_entry_lem (Constant c) e = refl
   has_entry_lem (Add a b) e = refl
@@ -62,7 +60,7 @@ module _ (find : ℕ → Option ℕ) where
   has_entry_lem (Mul a b) e = refl
   has_entry_lem (Neg a) e = refl
 
-  checked_inputs : (l : List NodeKind) → inputs_check find l (length l) ≡ Ok tt → Inputs Assigned l
+  pub checked_inputs : (l : List NodeKind) → inputs_check find l (length l) ≡ Ok tt → Inputs Assigned l
   unfolding inputs_check
   checked_inputs l e i h =
       assigned (at l i) (need_good (has_entry find (at l i)) (Unassigned i) (first_good (λ i. need (has_entry find (at l i)) (Unassigned i)) (length l) e i h))
@@ -125,7 +123,7 @@ module _ (field : Field) where
 
       same_answer : evaluate_answer field t count places a m ≡ evaluate_answer field s n roots a m
       unfolding evaluate_answer
-      same_answer = rw (accepted_too, e) (ap Values (h.worth (given a m) (given_low field a m (entries_pass field.bounds entry_words a m (omega arith) tests.0).1)))
+      same_answer = rw (accepted_too, e) (ap Values (h.worth (given a m) (given_low field a m (entries_pass field.bounds entry_words a m tests.0 (omega arith)).1)))
 
     evaluates_alike : (v : List QuadFelt) → evaluate_answer field s n roots a m ≡ Values v → evaluate_answer field t count places a m ≡ Values v
     unfolding evaluate_answer

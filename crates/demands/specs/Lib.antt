@@ -12,3 +12,6 @@ pub mod Numbered
 pub mod Before
 pub mod OneRoot
 pub mod Drawing
+pub mod Emitted
+pub mod Emitting
+pub mod EmitRoom

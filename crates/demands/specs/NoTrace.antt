@@ -8,6 +8,7 @@ use Rattle.builder.specs.Calls.{build_check, build_result, build_map}
 use Rattle.compact.specs.Calls.{compact_check, compact_result}
 use Rattle.normalize.specs.Calls.{normalize_check, normalize_result, normalize_work}
 use Rattle.draw.specs.Calls.{draw_check, draw_text}
+use Rattle.encode.specs.Calls.{emit_check, emit_result}
 use Rattle.lower.specs.Lower.{lower_check, whole_check, lower_result, lower_work, lower_places}
 
 module _ (field : Field) where
@@ -37,6 +38,11 @@ module _ (field : Field) where
   pub draw_text_lem : (s : View) (n : ℕ) (roots text text' : List ℕ) → length text ≡ length text' → draw_check field s n roots (length text) ≡ Ok tt → draw_text field s n roots text ≡ draw_text field s n roots text'
   unfolding draw_text
   draw_text_lem s n roots text text' same accepted = rw (← same, accepted)
+
+  pub emit_result_lem : (s : View) (n : ℕ) (roots layout : List ℕ) (k : ℕ) (result result' : List ℕ) → length result ≡ length result' → emit_check field s n roots layout k (length result) ≡ Ok tt
+      → emit_result field s n roots layout k result ≡ emit_result field s n roots layout k result'
+  unfolding emit_result
+  emit_result_lem s n roots layout k result result' same accepted = rw (← same, accepted)
 
   module _ (s : View) (n : ℕ) (ls es : List ℕ) (period : ℕ) (result result' work work' places places' : List ℕ)
       (same : length result ≡ length result') (same-work : length work ≡ length work') (same-places : length places ≡ length places') where

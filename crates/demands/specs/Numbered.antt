@@ -25,9 +25,10 @@ use Rattle.columns.specs.Prepare.{prepare_check, prepare}
 use Rattle.lower.specs.Lower.{whole_check}
 use Rattle.lower.specs.Lower as Lowering
 use Rattle.draw.specs.Calls as Drawing
-use Rattle.ace.specs.Answers.{answer_width, list_width, evaluate_width, prepare_width, step_words, list_words, normalize_words, evaluate_words, prepare_words, number_words}
+use Rattle.encode.specs.Calls as Encoding
+use Rattle.ace.specs.Answers.{answer_width, list_width, evaluate_width, prepare_width, step_words, list_words, normalize_words, evaluate_words, prepare_words, number_words, encoded_words}
 use Rattle.ace.specs.Calls as Calls
-use Rattle.demands.specs.Accepted.{outcome, step_accepts, build_accepts, compact_accepts, normalize_accepts, evaluate_accepts, prepare_accepts, lower_accepts, draw_accepts}
+use Rattle.demands.specs.Accepted.{outcome, step_accepts, build_accepts, compact_accepts, normalize_accepts, evaluate_accepts, prepare_accepts, lower_accepts, draw_accepts, emit_accepts}
 use Rattle.demands.specs.Normalising.{Done, count_of, places_of, rounds_of, answer_done, answer_many}
 use Rattle.demands.specs.Evaluating.{Values, evaluate_same}
 
@@ -78,6 +79,11 @@ module _ (number : ℕ) (none : numbered number ≡ None) where
   pub draw_unknown : (list : List ℕ) (n : ℕ) (roots text : List ℕ) → (Calls.draw_answer number list n roots text ≡ Calls.unknown_words answer_width) × (Calls.draw_text number list n roots text ≡ text)
   unfolding Calls.draw_answer Calls.draw_text
   draw_unknown list n roots text = (by_unknown number _ _ none, by_unknown number _ _ none)
+
+  pub emit_unknown : (list : List ℕ) (n : ℕ) (roots layout : List ℕ) (k : ℕ) (result : List ℕ)
+      → (Calls.emit_answer number list n roots layout k result ≡ Calls.unknown_words answer_width) × (Calls.emit_result number list n roots layout k result ≡ result)
+  unfolding Calls.emit_answer Calls.emit_result
+  emit_unknown list n roots layout k result = (by_unknown number _ _ none, by_unknown number _ _ none)
 
 -- For a number that names a field each call is that field's, so that what is shown of every field holds of it.
 module _ (number : ℕ) (prime : Prime) (known : numbered number ≡ Some prime) where
@@ -137,6 +143,12 @@ module _ (number : ℕ) (prime : Prime) (known : numbered number ≡ Some prime)
   unfolding Calls.draw_answer Calls.draw_text
   draw_known list n roots text = (by_known number _ _ known, by_known number _ _ known)
 
+  pub emit_known : (list : List ℕ) (n : ℕ) (roots layout : List ℕ) (k : ℕ) (result : List ℕ)
+      → (Calls.emit_answer number list n roots layout k result ≡ encoded_words (Encoding.emit_answer (field_of prime) (interleaved list) n roots layout k (length result)))
+      × (Calls.emit_result number list n roots layout k result ≡ Encoding.emit_result (field_of prime) (interleaved list) n roots layout k result)
+  unfolding Calls.emit_answer Calls.emit_result
+  emit_known list n roots layout k result = (by_known number _ _ known, by_known number _ _ known)
+
 -- the number names a field, and there the tests pass
 abbrev pub Accepted : ℕ → (Prime → Checked) → Type 0
 Accepted number check = (prime : Prime) × (numbered number ≡ Some prime) × (check prime ≡ Ok tt)
@@ -191,6 +203,11 @@ module _ (number : ℕ) (list : List ℕ) (n : ℕ) where
   pub draw_number : (roots text : List ℕ) → (outcome (Calls.draw_answer number list n roots text) ≡ 0) ↔ Accepted number (λ prime. Drawing.draw_check (field_of prime) (interleaved list) n roots (length text))
   unfolding Calls.draw_answer
   draw_number roots text = accepted_in number (Calls.unknown_words answer_width) refl _ _ (λ prime. draw_accepts (field_of prime) (interleaved list) n roots (length text))
+
+  pub emit_number : (roots layout : List ℕ) (k : ℕ) (result : List ℕ)
+      → (outcome (Calls.emit_answer number list n roots layout k result) ≡ 0) ↔ Accepted number (λ prime. Encoding.emit_check (field_of prime) (interleaved list) n roots layout k (length result))
+  unfolding Calls.emit_answer
+  emit_number roots layout k result = accepted_in number (Calls.unknown_words answer_width) refl _ _ (λ prime. emit_accepts (field_of prime) (interleaved list) n roots layout k (length result))
 
 pub prepare_number : (number : ℕ) (lengths entries : List ℕ)
     → (outcome (Calls.prepare_answer number lengths entries) ≡ 0) ↔ Accepted number (λ prime. prepare_check (modulus (field_of prime)) lengths entries)

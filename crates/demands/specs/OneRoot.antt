@@ -20,7 +20,7 @@ use Rattle.builder.specs.Steps.{Replay, place_of, replay}
 use Rattle.builder.specs.Calls as Builder
 use Rattle.compact.specs.Compact.{Rooted, compact}
 use Rattle.compact.specs.Calls as Compaction
-use Rattle.evaluate.specs.Entries.{entries_check, entry_of, inputs_check}
+use Rattle.entries.specs.Entries.{entries_check, entry_of, inputs_check}
 use Rattle.evaluate.specs.Calls.{entry_words, given, values_from}
 use Rattle.evaluate.specs.Calls as Evaluation
 use Rattle.normalize.specs.Rounds.{Normal, normalize}

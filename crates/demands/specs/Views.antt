@@ -12,6 +12,7 @@ use Rattle.compact.specs.Calls.{compacted, compact_check, compact_answer, compac
 use Rattle.normalize.specs.Calls.{normalize_check, normalized, normalize_answer, normalize_result, normalize_work}
 use Rattle.evaluate.specs.Calls.{evaluate_check, evaluate_answer}
 use Rattle.draw.specs.Calls.{drawn, draw_check, draw_answer, draw_text}
+use Rattle.encode.specs.Calls.{input_number, circuit_constants, circuit_operations, geometry, emitted, root_is_last, circuit_check, emit_check, encoded, emit_answer, emit_result}
 use Rattle.columns.specs.Columns.{log_within}
 use Rattle.periodic.specs.Periodic.{build_periodic_nodes}
 use Rattle.columns.specs.Prepare.{columns}
@@ -83,6 +84,15 @@ module _ (field : Field) where
     pub draw_text_lem : (roots text : List ℕ) → draw_text field s n roots text ≡ draw_text field u n roots text
     unfolding draw_text draw_check drawn
     draw_text_lem roots text = rw (same_check roots, same_nodes)
+
+    module _ (roots layout : List ℕ) (k : ℕ) where
+      pub emit_answer_lem : (result_words : ℕ) → emit_answer field s n roots layout k result_words ≡ emit_answer field u n roots layout k result_words
+      unfolding emit_answer emit_check circuit_check root_is_last encoded emitted geometry circuit_constants circuit_operations input_number
+      emit_answer_lem result_words = rw (same_check roots, same_nodes)
+
+      pub emit_result_lem : (result : List ℕ) → emit_result field s n roots layout k result ≡ emit_result field u n roots layout k result
+      unfolding emit_result emit_check circuit_check root_is_last emitted geometry circuit_constants circuit_operations input_number
+      emit_result_lem result = rw (same_check roots, same_nodes)
 
     module _ (ls es : List ℕ) (period : ℕ) where
       same_lowered : lowered field s n ls es period ≡ lowered field u n ls es period

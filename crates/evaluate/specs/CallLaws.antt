@@ -1,58 +1,25 @@
 -- What lists and entries that pass Evaluate's tests are known to be, and what Evaluate then answers.
-use Rattle.std.specs.Prelude.{ℕ, ◌*◌, ◌≤◌, ◌<◌, List, map, Some, Ok, Err, ◌≡◌, leb, get_or, length, replicate}
-use Rattle.std.proofs.Common.{◌∙◌, arith}
+use Rattle.std.specs.Prelude.{ℕ, ◌<◌, List, map, Some, Ok, Err, ◌≡◌, get_or}
+use Rattle.std.proofs.Common.{◌∙◌}
 use Rattle.std.proofs.Math.Path.{ap}
-use borrow.Author.Tests.{leb-true}
-use Rattle.std.proofs.lemmas.List.{length-replicate}
-use Rattle.field.specs.Fields.{Field, Bounds}
+use Rattle.field.specs.Fields.{Field}
 use Rattle.field.specs.declared.QuadFelt.{QuadFelt}
 use Rattle.dag.specs.View.{View}
 use Rattle.dag.specs.Nodes.{nodes, at}
-use Rattle.dag.specs.Refusals.{first_refused, need, ◌then◌}
+use Rattle.dag.specs.Refusals.{need, ◌then◌}
 use Rattle.dag.specs.Check.{list_check}
 use Rattle.dag.specs.CheckLaws.{first_good, then_good, need_good}
 use Rattle.dag.specs.PassLaws.{rooted}
 use Rattle.dag.specs.Roots.{roots_of, roots_from}
 use Rattle.dag.specs.RootLaws.{map_agree}
-use Rattle.dag.specs.BlankLaws.{all_zero}
 use Rattle.dag.specs.declared.Refusal.{Refusal}
-use Rattle.dag.specs.declared.Refusal.TheVariants.{StoreTooShort, TooManyEntries, Unassigned}
+use Rattle.dag.specs.declared.Refusal.TheVariants.{Unassigned}
 use Rattle.dag.specs.declared.NodeKind.TheVariants.{Input}
 use Rattle.meaning.specs.Values.{value}
-use Rattle.evaluate.specs.Entries.{Lent, most_entries, entry_check, entries_check, entry_of, has_entry, inputs_check}
-use Rattle.evaluate.specs.EntryLaws.{Last, found_last}
+use Rattle.entries.specs.Entries.{entries_check, entry_of, has_entry, inputs_check}
+use Rattle.entries.specs.EntryLaws.{Last, found_last}
 use Rattle.evaluate.specs.Calls.{entry_words, element_of, given, values_from, evaluate_check, evaluate_answer}
-use Rattle.index.specs.Index.{half}
-use Rattle.evaluate.specs.KeyIndex.{Keyed}
-use Rattle.evaluate.specs.KeyIndexLaws.{keyed_none}
-use Rattle.evaluate.specs.Promises.{at_place, Passed, Sized, Filled}
-
--- a new index
-module _ {values links n m : ℕ} (z : Sized values links n m) where
-  pub links_room : m ≤ half (replicate links 0)
-  links_room = omega (arith, z.double, z.entries, length-replicate {A = ℕ} links 0)
-
-  pub links_keyed : (width : ℕ) (e : List ℕ) → Keyed width e 0 (replicate links 0)
-  links_keyed width e =
-      let a = length-replicate {A = ℕ} links 0 in
-      keyed_none width e (replicate links 0)
-      (record { some = omega (arith, z.double, z.some); few = omega (arith, z.double, z.few) }) (all_zero links)
-
--- entries that pass
-pub entries_pass : (m : Bounds) (width : ℕ) (e : List ℕ) (n : ℕ) → 0 < width → entries_check m width e n ≡ Ok tt
-    → Lent width e n × (first_refused (entry_check m width e) n ≡ Ok tt)
-unfolding entries_check
-entries_pass m width e n h q =
-    let one = then_good (need (leb n most_entries) TooManyEntries) (need (leb (width * n) (length e)) StoreTooShort then first_refused (entry_check m width e) n) q in
-    let two = then_good (need (leb (width * n) (length e)) StoreTooShort) (first_refused (entry_check m width e) n) one.1 in
-    (record { wide = h; room = leb-true (width * n) (length e) (need_good (leb (width * n) (length e)) StoreTooShort two.0) }, two.1)
-
--- no more than Evaluate takes
-pub entries_most : (m : Bounds) (e : List ℕ) (n : ℕ) → entries_check m entry_words e n ≡ Ok tt → n ≤ most_entries
-unfolding entries_check
-entries_most m e n q =
-    let one = then_good (need (leb n most_entries) TooManyEntries) (need (leb (entry_words * n) (length e)) StoreTooShort then first_refused (entry_check m entry_words e) n) q in
-    leb-true n most_entries (need_good (leb n most_entries) TooManyEntries one.0)
+use Rattle.evaluate.specs.Promises.{at_place, Passed, Filled}
 
 module _ (field : Field) where
   module _ (s : View) (n : ℕ) (roots a : List ℕ) (m : ℕ) where

@@ -10,7 +10,7 @@ use Rattle.dag.specs.Check.{list_check}
 use Rattle.dag.specs.declared.Refusal.{Refusal}
 use Rattle.meaning.specs.Values.{value}
 use Rattle.evaluate.specs.declared.RootValues.{RootValues}
-use Rattle.evaluate.specs.Entries.{element_at, entries_check, entry_of, inputs_check}
+use Rattle.entries.specs.Entries.{element_at, entries_check, entry_of, inputs_check}
 
 -- the words of an assignment's entry: key number, c0, c1
 abbrev pub entry_words : ℕ

@@ -1,7 +1,3 @@
-pub mod Entries
-pub mod EntryLaws
-pub mod KeyIndex
-pub mod KeyIndexLaws
 pub mod Calls
 pub mod Promises
 pub mod RecordLaws

@@ -1,13 +1,13 @@
 -- What the functions of evaluation ask of their stores.
-use Rattle.std.specs.Prelude.{ℕ, ◌≤◌, ◌<◌, ◌*◌, Bool, true, false, List, Option, Some, None, Ok, ◌≡◌, get_or, length}
+use Rattle.std.specs.Prelude.{ℕ, ◌≤◌, ◌<◌, Bool, true, false, List, Option, Some, None, Ok, ◌≡◌, get_or, length}
 use Rattle.dag.specs.View.{View}
 use Rattle.field.specs.Fields.{Field, Low}
 use Rattle.field.specs.Field.{new}
 use Rattle.field.specs.declared.QuadFelt.{QuadFelt}
-use Rattle.dag.specs.Nodes.{most_records, nodes}
+use Rattle.dag.specs.Nodes.{nodes}
 use Rattle.dag.specs.declared.NodeKind.{NodeKind}
 use Rattle.meaning.specs.Values.{value, value_of}
-use Rattle.evaluate.specs.Entries.{entries_check, entry_of, has_entry}
+use Rattle.entries.specs.Entries.{entries_check, entry_of, has_entry}
 use Rattle.evaluate.specs.Calls.{entry_words, given}
 
 -- an element where there is an entry
@@ -18,14 +18,6 @@ assigned false v = None
 -- the value at a place
 abbrev pub at_place : List QuadFelt → ℕ → QuadFelt
 at_place values i = get_or values i (new 0 0)
-
--- stores that hold the values of n records, and an index of m entries
-pub record Sized (values links n m : ℕ) : Type 0 where
-  pub double : links ≡ 2 * values
-  pub some : 0 < values
-  pub few : values ≤ most_records
-  pub records : n ≤ values
-  pub entries : m ≤ values
 
 module _ (field : Field) where
   -- the value of a record on the values v of earlier places; none for an input whose key has no entry

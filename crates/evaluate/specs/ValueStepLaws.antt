@@ -1,5 +1,5 @@
 -- The values of a list's records, one record a turn.
-use Rattle.std.specs.Prelude.{ℕ, ◌+◌, ◌*◌, ◌≤◌, ◌<◌, ◌&&◌, List, Option, Some, None, Ok, Err, ◌≡◌, refl, ltb, length, set}
+use Rattle.std.specs.Prelude.{ℕ, ◌+◌, ◌*◌, ◌≤◌, ◌<◌, List, Option, Some, None, Ok, Err, ◌≡◌, refl, ltb, length, set}
 use Rattle.std.proofs.Common.{sym, ◌∙◌, ap, subst, add-one, arith, get_or-set_same, get_or-set_other}
 use borrow.Author.Tests.{ltb-true}
 use Rattle.std.proofs.Math.ListN.{get_or}
@@ -8,36 +8,32 @@ use Rattle.field.specs.Fields.{Field, Within, Low, element_laws}
 use Rattle.field.specs.Field.{new}
 use Rattle.field.specs.declared.QuadFelt.{QuadFelt}
 use Rattle.dag.specs.View.{View}
-use Rattle.dag.specs.Check.{lowest}
-use Rattle.dag.specs.Keys.{is_key}
 use Rattle.dag.specs.Nodes.{nodes, record_at}
 use Rattle.dag.specs.NodeLaws.{length_nodes, at_nodes}
 use Rattle.dag.specs.CaseLaws.{and_true, below_suc_elim}
-use Rattle.dag.specs.CheckLaws.{first_good, need_good}
 use Rattle.dag.specs.Store.{Sound}
 use Rattle.dag.specs.StoreLaws.{sound_well_formed}
 use Rattle.dag.specs.WellFormed.{WellFormed}
-use Rattle.dag.specs.declared.Refusal.TheVariants.{Malformed, Unassigned}
+use Rattle.dag.specs.declared.Refusal.TheVariants.{Unassigned}
 use Rattle.meaning.specs.Values.{value, value_of}
 use Rattle.meaning.specs.ValueLaws.{value_at, value_low, value_of_cong}
-use Rattle.evaluate.specs.Entries.{key_at, entry_check, entry_of, inputs_check}
-use Rattle.evaluate.specs.EntryLaws.{entry_inside, an_entry, no_entry}
-use Rattle.evaluate.specs.CallLaws.{entries_pass}
+use Rattle.entries.specs.Entries.{entry_check, entry_of, inputs_check}
+use Rattle.entries.specs.EntryLaws.{entries_pass, entry_passed, entry_inside, an_entry, no_entry}
 use Rattle.evaluate.specs.Calls.{entry_words, element_of, given}
 use Rattle.evaluate.specs.Promises.{at_place, record_answer, Valued, Passed, Filled}
-use Rattle.evaluate.specs.RecordLaws.{answered, unanswered, fine}
+use Rattle.evaluate.specs.RecordLaws.{answered, unanswered}
+use Rattle.dag.specs.OperandLaws.{fine}
 
 module _ (field : Field) where
   -- the elements that entries in lowest form give
   module _ (a : List ℕ) (m : ℕ) (good : first_refused (entry_check field.bounds entry_words a) m ≡ Ok tt) where
     entry_low : (i : ℕ) → i < m → Low field (element_of a (Some i))
-    unfolding element_of entry_check
+    unfolding element_of
     entry_low i h =
         let c0 = get_or a (entry_words * i + 1) 0 in
         let c1 = get_or a (entry_words * i + 2) 0 in
         let m = field.bounds in
-        let e = need_good (is_key (key_at entry_words a i) && lowest m c0 c1) (Malformed i) (first_good (entry_check m entry_words a) _ good i h) in
-        let w = and_true (ltb c0 m.c0_below) (ltb c1 m.c1_below) (and_true (is_key (key_at entry_words a i)) (lowest m c0 c1) e).1 in
+        let w = and_true (ltb c0 m.c0_below) (ltb c1 m.c1_below) (entry_passed m entry_words a _ good i h).1 in
         (ltb-true c0 m.c0_below w.0, ltb-true c1 m.c1_below w.1)
 
     found_low : (f : Option ℕ) → ((i : ℕ) → f ≡ Some i → i < m) → Low field (element_of a f)
@@ -54,7 +50,7 @@ module _ (field : Field) where
     well_formed = sound_well_formed field.bounds s n sound
 
     low : (i : ℕ) → Low field (value field.elements (given a m) (nodes s n) i)
-    low = value_low field.elements (element_laws field) (given a m) (given_low a m (entries_pass field.bounds entry_words a m (omega arith) passed).1) (nodes s n) well_formed
+    low = value_low field.elements (element_laws field) (given a m) (given_low a m (entries_pass field.bounds entry_words a m passed (omega arith)).1) (nodes s n) well_formed
 
     module _ (values : List QuadFelt) (i : ℕ) (h : i < n) (l : n ≤ length values) (f : Filled field s n a m values i) where
       pub may_value : Valued field i values
@@ -63,7 +59,7 @@ module _ (field : Field) where
       -- the value computed is the record's
       valued : (v : QuadFelt) → v ≡ value_of field.elements (given a m) (at_place values) (record_at s i) → v ≡ value field.elements (given a m) (nodes s n) i
       valued v e =
-          e ∙ (value_of_cong field.elements (given a m) (Low field) (at_place values) (value field.elements (given a m) (nodes s n)) i (record_at s i) (fine field s n sound i h) f
+          e ∙ (value_of_cong field.elements (given a m) (Low field) (at_place values) (value field.elements (given a m) (nodes s n)) i (record_at s i) (fine field.bounds s n sound i h) f
           ∙ (ap (value_of field.elements (given a m) (value field.elements (given a m) (nodes s n))) (sym (at_nodes s n i h))
           ∙ sym (value_at field.elements (given a m) (Within field.bounds) (nodes s n) well_formed i (omega (arith, length_nodes s n)))))
 

@@ -1,9 +1,9 @@
--- Examples A to L, I and J in both fields, M of several roots, and N of drawings: each is an answer of a definition and the answer that is stated.
+-- Examples A to L, I and J in both fields, M of several roots, N of drawings and O of operations: each is an answer of a definition and the answer that is stated.
 use Rattle.std.specs.Prelude.{ℕ, zero, suc, ◌*◌, ◌-◌, List, [], ◌∷◌, ◌++◌, map, ◌≡◌, refl, length, replicate, Err, Result, Ok}
 use Rattle.field.specs.Fields.{field_of, goldilocks}
 use Rattle.dag.specs.declared.Refusal.{Refusal}
 use Rattle.dag.specs.Refusals.{first_refused, Checked}
-use Rattle.dag.specs.declared.Refusal.TheVariants.{Malformed}
+use Rattle.dag.specs.declared.Refusal.TheVariants.{Malformed, RootNotLast}
 use Rattle.field.specs.Field.{p, q, felt, elements, same, new}
 use Rattle.field.specs.declared.Prime.TheVariants.{Goldilocks, BabyBear}
 use Rattle.field.specs.declared.QuadFelt.{QuadFelt}
@@ -21,7 +21,7 @@ use Rattle.normalize.specs.Rounds.{planned, round, fired, rounded, is_kept, roun
 use Rattle.columns.specs.Columns.{log_within, log_length, count as occurrences, is_sparse, standalone, places_from, with_new, values_from, values, weight, heaviest, dominant, is_scaled}
 use Rattle.columns.specs.Columns.{scalings, combination_cost, offset, equal_entries, gain, same_entries, is_among, saving, savings, threshold, goes_over, form, form_number}
 use Rattle.columns.specs.Prepare.{total, columns, prepare_check}
-use Rattle.dag.specs.Arrays.{up_to}
+use Rattle.dag.specs.Arrays.{up_to, padded}
 use Rattle.dag.specs.Keys.{is_key}
 use Rattle.dag.specs.Check.{formed, earlier, record_check, check_at, room_check, rootless_check, roots_check, list_check}
 use Rattle.periodic.specs.Builder.{turns, done}
@@ -35,6 +35,11 @@ use Rattle.wording.specs.Refused.{refused_line}
 use Rattle.listing.specs.Listing.{first_line, record_line, listed, listing}
 use Rattle.signed.specs.Signed.{signed}
 use Rattle.draw.specs.Drawing.{coordinate, numbers, label, node_text, edge_text, node_line, edge_line, drawing}
+use Rattle.entries.specs.Entries.{entry_check, entries_check, entry_of, inputs_check}
+use Rattle.circuit.specs.Circuit.{is_operation, operation_count, constants, constants_of, constant_node, node, operation_of, operations}
+use Rattle.encode.specs.declared.EncodedCircuit.{EncodedCircuit}
+use Rattle.encode.specs.Encode.{next_multiple_of, from_counts, num_nodes, node_id, encode_operation, encode_operations, square, padded_operations, constant_words, instructions}
+use Rattle.encode.specs.Calls.{input_number, circuit_constants, circuit_operations, geometry, emitted, root_is_last, circuit_check, emit_check, encoded, emit_answer, emit_result}
 
 -- the two sides of an example
 pub record Example : Type 1 where
@@ -290,6 +295,58 @@ N-ends = record {
   stated = ascii "const 9223372034707292160 -9223372034707292160";
 }
 
+-- inputs 5 and 7, constants 4, 4 and 6, sub 0 2, neg 1, mul 5 3, add 6 4, mul 7 8
+abbrev operated : List ℕ
+operated = words_of (Input 5 ∷ Input 7 ∷ Constant (new 4 0) ∷ Constant (new 4 0) ∷ Constant (new 6 0) ∷ Sub 0 2 ∷ Neg 1 ∷ Mul 5 3 ∷ Add 6 4 ∷ Mul 7 8 ∷ [])
+
+-- a layout with key 5 at places 0 and 3, whose last place is its input's number
+abbrev keyed : List ℕ
+keyed = 5 ∷ 7 ∷ 9 ∷ 5 ∷ []
+
+-- 16 nodes: inputs 15 to 12, constants 11 to 8, operations 7 to 3, their pads 2 to 0
+abbrev O : Example
+O = record {
+  Answer = Result EncodedCircuit Refusal;
+  computed = emit_answer goldilocks (interleaved operated) 10 (9 ∷ []) keyed 4 34;
+  stated = Ok (record { num_vars = 8; num_ops = 8 });
+}
+
+-- constants 4, 6, the zero of the Neg and a zero to an even count; the operations; three pads, each squaring the one before; blanks behind
+abbrev O-words : Example
+O-words = record {
+  Answer = List ℕ;
+  computed = emit_result goldilocks (interleaved operated) 10 (9 ∷ []) keyed 4 (replicate 34 7);
+  stated =
+      (4 ∷ 0 ∷ 6 ∷ 0 ∷ 0 ∷ 0 ∷ 0 ∷ 0 ∷ [])
+      ++ (0 ∷ 12 ∷ 11 ∷ 0 ∷ 9 ∷ 14 ∷ 1 ∷ 7 ∷ 11 ∷ 2 ∷ 6 ∷ 10 ∷ 1 ∷ 5 ∷ 4 ∷ [])
+      ++ (1 ∷ 3 ∷ 3 ∷ 1 ∷ 2 ∷ 2 ∷ 1 ∷ 1 ∷ 1 ∷ [])
+      ++ (blank ∷ blank ∷ []);
+}
+
+-- a root before the last operation is refused, though the layout is odd too
+abbrev O-refused : Example
+O-refused = record {
+  Answer = Result EncodedCircuit Refusal;
+  computed = emit_answer goldilocks (interleaved operated) 10 (8 ∷ []) keyed 3 34;
+  stated = Err RootNotLast;
+}
+
+-- a store of one word less than is written: it keeps what it held
+abbrev O-short : Example
+O-short = record {
+  Answer = List ℕ;
+  computed = emit_result goldilocks (interleaved operated) 10 (9 ∷ []) keyed 4 (replicate 31 7);
+  stated = replicate 31 7;
+}
+
+-- in field 2 the list of examples/c/emit.c: inputs 5 and 7, constant 4, sub 0 2, neg 1, mul 3 4 over the keys 7, 5
+abbrev O-second : Example
+O-second = record {
+  Answer = List ℕ;
+  computed = emit_result (field_of BabyBear) (interleaved (words_of (Input 5 ∷ Input 7 ∷ Constant (new 4 0) ∷ Sub 0 2 ∷ Neg 1 ∷ Mul 3 4 ∷ []))) 6 (5 ∷ []) (7 ∷ 5 ∷ []) 2 (replicate 16 7);
+  stated = 4 ∷ 0 ∷ 0 ∷ 0 ∷ 0 ∷ 6 ∷ 5 ∷ 0 ∷ 4 ∷ 7 ∷ 1 ∷ 3 ∷ 2 ∷ 1 ∷ 1 ∷ 1 ∷ [];
+}
+
 three_sparse : K-three.computed ≡ K-three.stated
 unfolding unit choices log_within log_length occurrences is_sparse standalone places_from with_new values_from values weight heaviest dominant is_scaled scalings combination_cost offset equal_entries gain same_entries is_among saving savings goes_over form up_to
 three_sparse = refl
@@ -306,8 +363,19 @@ copies_sparse : K-copies.computed ≡ K-copies.stated
 unfolding unit choices log_within log_length occurrences is_sparse standalone places_from with_new values_from values weight heaviest dominant is_scaled scalings combination_cost offset equal_entries gain same_entries is_among saving savings goes_over form up_to
 copies_sparse = refl
 
+all_emitted : All (O ∷ O-words ∷ O-refused ∷ O-short ∷ O-second ∷ [])
+unfolding
+    elements at same_node interned intern first_refused greatest up_to padded is_key formed earlier record_check check_at room_check rootless_check roots_check list_check
+    interleaved record_at nodes decode words words_of filled
+    entry_check entries_check entry_of inputs_check is_operation operation_count constants constants_of constant_node node operation_of operations
+    next_multiple_of from_counts num_nodes node_id encode_operation encode_operations square padded_operations constant_words instructions
+    input_number circuit_constants circuit_operations geometry emitted root_is_last circuit_check emit_check encoded emit_answer emit_result
+all_emitted = (refl, (refl, (refl, (refl, (refl, tt)))))
+
 pub examples : List Example
-examples = A ∷ A-refused ∷ B ∷ C-normalized ∷ C-compacted ∷ D ∷ E ∷ F ∷ G ∷ H ∷ I ∷ I-refused ∷ I-second ∷ J ∷ J-second ∷ K-three ∷ K-four-below ∷ K-four-with ∷ K-copies ∷ L ∷ L-copied ∷ M ∷ M-order ∷ M-refused ∷ M-second ∷ M-twice ∷ M-union ∷ N ∷ N-second ∷ N-ends ∷ []
+examples =
+    A ∷ A-refused ∷ B ∷ C-normalized ∷ C-compacted ∷ D ∷ E ∷ F ∷ G ∷ H ∷ I ∷ I-refused ∷ I-second ∷ J ∷ J-second ∷ K-three ∷ K-four-below ∷ K-four-with ∷ K-copies
+    ∷ L ∷ L-copied ∷ M ∷ M-order ∷ M-refused ∷ M-second ∷ M-twice ∷ M-union ∷ N ∷ N-second ∷ N-ends ∷ O ∷ O-words ∷ O-refused ∷ O-short ∷ O-second ∷ []
 
 pub all_examples : All examples
 unfolding
@@ -321,4 +389,4 @@ unfolding
     words_of filled choices list_check roots_check room_check whole_check lower_answer lower_result normalized ascii digits decimal ended line number
     words_at file_view is_version root_count roots_place file_root is_count head_check form_check held_check file_check kind first_line record_line listed refused_line listing
     greatest integer pieces rows signed coordinate numbers label node_text edge_text node_line edge_line drawing
-all_examples = (refl, (refl, (refl, (refl, (refl, (refl, (refl, (refl, (refl, (refl, (refl, (refl, (refl, (refl, (refl, (three_sparse, (four_below, (four_with, (copies_sparse, (refl, (refl, (refl, (refl, (refl, (refl, (refl, (refl, (refl, (refl, (refl, tt))))))))))))))))))))))))))))))
+all_examples = (refl, (refl, (refl, (refl, (refl, (refl, (refl, (refl, (refl, (refl, (refl, (refl, (refl, (refl, (refl, (three_sparse, (four_below, (four_with, (copies_sparse, (refl, (refl, (refl, (refl, (refl, (refl, (refl, (refl, (refl, (refl, (refl, all_emitted))))))))))))))))))))))))))))))

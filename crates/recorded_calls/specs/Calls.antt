@@ -17,6 +17,7 @@ shape_of Call.Normalize = shape 2 2 2 11
 shape_of Call.Evaluate = shape 3 3 0 17
 shape_of Call.Prepare = shape 1 2 0 18
 shape_of Call.Lower = shape 3 3 3 4
+shape_of Call.Emit = shape 3 3 1 4
 
 -- a call's name
 abbrev pub name : Call → List ℕ
@@ -27,6 +28,7 @@ name Call.Normalize = codes "normalize"
 name Call.Evaluate = codes "evaluate"
 name Call.Prepare = codes "prepare"
 name Call.Lower = codes "lower"
+name Call.Emit = codes "emit"
 
 -- number k of the case at a place
 abbrev pub number : List ℕ → ℕ → ℕ → ℕ
@@ -78,4 +80,9 @@ outcome Call.Lower n r w =
           (Ace.lower_result (n 0) r.a (n 1) r.b r.c (n 2) w.a w.b w.c)
           (Ace.lower_work (n 0) r.a (n 1) r.b r.c (n 2) w.a w.b w.c)
           (Ace.lower_places (n 0) r.a (n 1) r.b r.c (n 2) w.a w.b w.c);
+    }
+outcome Call.Emit n r w =
+    record {
+      words = Ace.emit_answer (n 0) r.a (n 1) r.b r.c (n 2) w.a;
+      after = stores (Ace.emit_result (n 0) r.a (n 1) r.b r.c (n 2) w.a) w.b w.c;
     }

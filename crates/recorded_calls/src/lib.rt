@@ -6,8 +6,8 @@ ghost use Rattle.recorded_calls.specs.Calls.{name, shape, shape_of};
 ghost use Rattle.recorded_calls.specs.Promises.{Asked};
 
 use ace::{
-    ANSWER_WORDS, EVALUATE_WORDS, LIST_WORDS, PREPARE_WORDS, ace_build, ace_compact, ace_evaluate,
-    ace_lower, ace_normalize, ace_prepare, ace_step,
+    ANSWER_WORDS, EVALUATE_WORDS, LIST_WORDS, PREPARE_WORDS, ace_build, ace_compact, ace_emit,
+    ace_evaluate, ace_lower, ace_normalize, ace_prepare, ace_step,
 };
 use recorded::{Cursor, Reads, Writes};
 use std::fmt;
@@ -22,6 +22,7 @@ pub enum Call {
     Evaluate,
     Prepare,
     Lower,
+    Emit,
 }
 
 impl fmt::Display for Call {
@@ -36,6 +37,7 @@ impl fmt::Display for Call {
             Call::Evaluate => "evaluate",
             Call::Prepare => "prepare",
             Call::Lower => "lower",
+            Call::Emit => "emit",
         })
     }
 }
@@ -76,6 +78,7 @@ impl Call {
             Call::Evaluate => Shape::new(3, 3, 0, 17),
             Call::Prepare => Shape::new(1, 2, 0, 18),
             Call::Lower => Shape::new(3, 3, 3, 4),
+            Call::Emit => Shape::new(3, 3, 1, 4),
         }
     }
 
@@ -99,9 +102,10 @@ impl Call {
             Call::Evaluate => ace_evaluate(n(0), r.a, m(1), r.b, r.c, m(2), &mut values),
             Call::Prepare => ace_prepare(n(0), r.a, r.b, &mut forms),
             Call::Lower => ace_lower(n(0), r.a, m(1), r.b, r.c, n(2), w.a, w.b, w.c, &mut words),
+            Call::Emit => ace_emit(n(0), r.a, m(1), r.b, r.c, m(2), w.a, &mut words),
         }
         match self {
-            Call::Step | Call::Lower => said.follow(&words),
+            Call::Step | Call::Lower | Call::Emit => said.follow(&words),
             Call::Build | Call::Compact | Call::Normalize => said.follow(&list),
             Call::Evaluate => said.follow(&values),
             Call::Prepare => said.follow(&forms),

@@ -134,6 +134,7 @@ fn call_of(number: u64) -> Option<Call> {
         5 => Some(Call::Evaluate),
         6 => Some(Call::Prepare),
         7 => Some(Call::Lower),
+        9 => Some(Call::Emit),
         _ => None,
     }
 }

@@ -7,14 +7,16 @@ use Rattle.field.specs.declared.QuadFelt.{QuadFelt}
 use Rattle.dag.specs.BranchLaws.{told}
 use Rattle.dag.specs.PassLaws.{rooted}
 use Rattle.dag.specs.RootLaws.{inside_mono}
-use Rattle.evaluate.specs.CallLaws.{links_room, links_keyed, entries_pass, inputs_refused, inputs_value}
+use Rattle.entries.specs.EntryLaws.{entries_pass}
+use Rattle.entries.specs.KeyIndexLaws.{links_room, links_keyed}
+use Rattle.evaluate.specs.CallLaws.{inputs_refused, inputs_value}
 use Rattle.evaluate.proofs.evaluate_within.Goals as goal
 
 pub index-requires : goal.index-requires
 index-requires g c = (
   omega arith,
   (
-    (entries_pass (field_of c.args.dag.prime).bounds _ _ _ (omega arith) c.requires.passed).0,
+    (entries_pass (field_of c.args.dag.prime).bounds _ _ _ c.requires.passed (omega arith)).0,
     rw c.new-index.ensures.held (links_keyed c.requires.sized _ _),
     rw c.new-index.ensures.held (links_room c.requires.sized),
   ),
@@ -23,7 +25,7 @@ index-requires g c = (
 pub invariant_of-keyed : goal.invariant_of-keyed
 invariant_of-keyed g c =
     record {
-      lookup = record { lent = (entries_pass (field_of c.args.dag.prime).bounds _ _ _ (omega arith) c.requires.passed).0; keyed = rw c.as_slice.ensures c.index.ensures.keyed };
+      lookup = record { lent = (entries_pass (field_of c.args.dag.prime).bounds _ _ _ c.requires.passed (omega arith)).0; keyed = rw c.as_slice.ensures c.index.ensures.keyed };
     }
 
 pub fill_values-requires-clause-fits : goal.fill_values-requires-clause-fits

@@ -1,20 +1,11 @@
-use Rattle.std.proofs.Common.{◌≡◌, Option, Some, None, Ok, Err, ok_or, refl, sym, ◌∙◌, arith}
+use Rattle.std.proofs.Common.{refl, sym, ◌∙◌, arith}
 use Rattle.std.proofs.lemmas.Result.{err_from_is_err_and}
 use Rattle.field.specs.Fields.{field_of}
 use Rattle.dag.specs.Refusals.{first_refused}
-use Rattle.dag.specs.BranchLaws.{told}
-use Rattle.evaluate.specs.Entries.{inputs_check}
+use Rattle.dag.specs.BranchLaws.{told, none_of, some_of}
+use Rattle.entries.specs.Entries.{inputs_check}
 use Rattle.evaluate.specs.ValueStepLaws.{may_value, filled_more, input_more, input_none}
 use Rattle.evaluate.proofs.fill_values.Goals as goal
-
--- what a value with a refusal in its absence was
-none_of : {A E : Type 0} {d : Option A} {r e : E} → Err r ≡ ok_or d e → (d ≡ None) × (r ≡ e)
-none_of {d = None} q = (refl, cc)
-none_of {d = Some x} q = cc
-
-some_of : {A E : Type 0} {d : Option A} {x : A} (e : E) → Ok x ≡ ok_or d e → Some x ≡ d
-some_of {d = None} e q = cc
-some_of {d = Some y} e q = cc
 
 pub loop-i-init : goal.loop-i-init
 unfolding inputs_check first_refused

@@ -3,7 +3,7 @@ use Rattle.std.proofs.Common.{◌≡◌, Ok}
 use Rattle.field.specs.Fields.{field_of}
 use Rattle.dag.specs.View.{interleaved}
 use Rattle.dag.specs.Nodes.{nodes}
-use Rattle.evaluate.specs.Entries.{inputs_check, entry_of}
+use Rattle.entries.specs.Entries.{inputs_check, entry_of}
 use Rattle.evaluate.specs.Calls.{entry_words}
 use Rattle.evaluate.specs.Promises.{Filled}
 use Rattle.evaluate.proofs.fill_values.Given as goal

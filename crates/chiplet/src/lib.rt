@@ -1,0 +1,1 @@
+// What the box does with a circuit's words (specs/).

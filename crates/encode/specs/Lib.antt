@@ -1,0 +1,8 @@
+pub mod Encode
+pub mod EncodeLaws
+pub mod CountLaws
+pub mod Calls
+pub mod Promises
+pub mod WriteLaws
+pub mod CallLaws
+pub mod EmitLaws
