@@ -1,4 +1,4 @@
-/* The ACE constraint DAG: eight calls on lent words, each in one of two fields.
+/* The ACE constraint DAG: nine calls on lent words, each in one of two fields.
  *
  * The field's number comes first in every call; another is refused before every other test:
  *   ACE_FIELD_P  elements c0 + c1 * u, where u * u = 7, with c0 and c1 modulo ACE_P
@@ -34,7 +34,7 @@
  * length 0. A store that is written, answer among them, overlaps no other store; stores that are
  * only read may overlap each other.
  *
- * What a caller lends, at least, in words, for n records and m entries:
+ * What a caller lends, at least, in words, for n records, m entries and k keys:
  *   ace_step       list 3n, and 3 more where a record is new
  *   ace_build      list 3n, roots, result 3n, map n
  *   ace_compact    list 3n, roots, result 3n
@@ -45,9 +45,11 @@
  *                  result of 3 for each record that comes out: 3 * ACE_MOST_RECORDS always do
  *   ace_draw       list 3n, roots, and a text of as many bytes as the drawing has:
  *                  ACE_DRAWING_BYTES + n * ACE_DRAWING_RECORD_BYTES always do
+ *   ace_emit       list 3n, roots, layout k, and a result of as many words as are written:
+ *                  ACE_EMITTED_WORDS + n * ACE_EMITTED_RECORD_WORDS always do
  *   roots          1 to ACE_MOST_ROOTS, a word a root: their number is the store's length
- *   answer         ACE_ANSWER_WORDS in ace_step, ace_lower and ace_draw, ACE_LIST_WORDS in
- *                  ace_build, ace_compact and ace_normalize, ACE_EVALUATE_WORDS in ace_evaluate,
+ *   answer         ACE_ANSWER_WORDS in ace_step, ace_lower, ace_draw and ace_emit, ACE_LIST_WORDS
+ *                  in ace_build, ace_compact and ace_normalize, ACE_EVALUATE_WORDS in ace_evaluate,
  *                  ACE_PREPARE_WORDS in ace_prepare
  * Less is refused, save for answer, whose length is not passed. More may be lent, save of roots:
  * words of a source behind those above are not read. A result, map, place or work store need hold
@@ -90,10 +92,12 @@
 /* The key number of ZK, an input that ace_lower may append. */
 #define ACE_ZK UINT64_C(3096224743817216)
 
-/* The most records and roots of a list, the most entries of an assignment and the most columns. */
+/* The most records and roots of a list, the most entries of an assignment, the most keys of a layout
+ * and the most columns. */
 #define ACE_MOST_RECORDS 4096
 #define ACE_MOST_ROOTS 8
 #define ACE_MOST_ENTRIES 4096
+#define ACE_MOST_KEYS 4096
 #define ACE_MOST_COLUMNS 16
 
 /* The longest column, and the longest shared period in either field: 2^32 and 2^27. */
@@ -108,7 +112,17 @@
 #define ACE_DRAWING_BYTES 14
 #define ACE_DRAWING_RECORD_BYTES 65
 
-/* The words of an answer: a step's, lowering's and drawing's, a list's, evaluating's, preparing's. */
+/* The most words that ace_emit writes: these, and so many more for each record. */
+#define ACE_EMITTED_WORDS 23
+#define ACE_EMITTED_RECORD_WORDS 3
+
+/* The kinds of operations. */
+#define ACE_KIND_SUB 0
+#define ACE_KIND_MUL 1
+#define ACE_KIND_ADD 2
+
+/* The words of an answer: a step's, lowering's, drawing's and emitting's, a list's, evaluating's,
+ * preparing's. */
 #define ACE_ANSWER_WORDS 4
 #define ACE_LIST_WORDS 11
 #define ACE_EVALUATE_WORDS 17
@@ -132,9 +146,9 @@
 #define ACE_REFUSED_ROOT 6
 /* a new record has no room */
 #define ACE_REFUSED_ROOM 7
-/* the assignment has more than 4,096 entries */
+/* the assignment or layout has more than 4,096 entries */
 #define ACE_REFUSED_ENTRIES 11
-/* an input has no entry */
+/* an input has no entry in the assignment or layout */
 #define ACE_REFUSED_INPUT 12
 /* there are more than 16 columns */
 #define ACE_REFUSED_COLUMNS 13
@@ -144,6 +158,12 @@
 #define ACE_REFUSED_PERIOD 15
 /* the text store is shorter than the text */
 #define ACE_REFUSED_TEXT 41
+/* the list has no operations */
+#define ACE_REFUSED_OPERATIONS 42
+/* there are two to eight roots, or the root is not the last operation */
+#define ACE_REFUSED_LAST 43
+/* the layout's length is odd */
+#define ACE_REFUSED_ODD 44
 /* there are no roots, or more than 8 */
 #define ACE_REFUSED_ROOTS 46
 /* the field's number is neither 1 nor 2 */
@@ -225,6 +245,23 @@ void ace_lower(uint64_t field, const uint64_t *list, size_t list_len, uint64_t n
 void ace_draw(uint64_t field, const uint64_t *list, size_t list_len, uint64_t n,
               const uint64_t *roots, size_t roots_len,
               uint8_t *text, size_t text_len,
+              uint64_t *answer /* 4 words */);
+
+/* The list as constants and operations, for a box whose inputs are the k keys of layout, k even; a
+ * key's last place there is its input's number. The list's one root is its last operation.
+ * result then holds two words a constant, c0 and c1, in the order of their first use, then three an
+ * operation: its kind, and the numbers of the two nodes that it reads. Nodes are counted down from
+ * their number less one to 0: the inputs, the constants, the operations. A neg is a sub from a
+ * constant of zero, which is added where none stands yet. A zero fills the constants up to an even
+ * number; behind the operations stand squares, each of the node before, until twice the constants
+ * plus the operations is a multiple of 8. Over the inputs' values, the last operation before the
+ * squares has the root's value.
+ * Refuses with 49, 1 to 5, 46, 6, 11, 12, 42, 43, 44. Accepted: num_vars, the number of inputs and
+ * constants, and num_ops, that of operations: 2 * (num_vars - k) + 3 * num_ops words are written. */
+void ace_emit(uint64_t field, const uint64_t *list, size_t list_len, uint64_t n,
+              const uint64_t *roots, size_t roots_len,
+              const uint64_t *layout, size_t layout_len, uint64_t k,
+              uint64_t *result, size_t result_len,
               uint64_t *answer /* 4 words */);
 
 #ifdef __cplusplus

@@ -21,7 +21,7 @@ if [ "${1:-}" = --cases ]; then
   cases=${2:?--cases takes a number}
   shift 2
 fi
-[ $# -gt 0 ] || set -- step build compact normalize evaluate prepare lower draw normlist drawlist
+[ $# -gt 0 ] || set -- step build compact normalize evaluate prepare lower draw emit normlist drawlist
 command -v valgrind > /dev/null || fail "valgrind is not on the PATH"
 need_rust
 fresh archive ace

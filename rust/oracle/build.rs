@@ -32,23 +32,22 @@ fn main() {
     }
 }
 
-/// Writes each module, and a line that declares it, to the output folder.
+/// Writes each module, and a line that declares it, to the output folder, below its own folders.
 fn mount() -> Result<(), String> {
     let out = PathBuf::from(env::var("OUT_DIR").unwrap());
     let folder = source_folder();
     for source in MODULES {
-        let name = source.0.rsplit('/').next().unwrap();
         let mut text = read(&folder, source)?;
-        if name == "normalize.rs" {
+        if source.0 == "compiler/dag/normalize.rs" {
             text.push_str(ONE_ROUND);
         }
-        let visible = name.trim_end_matches(".rs");
-        let declaration = format!(
-            "#[allow(dead_code, unexpected_cfgs)] #[path = {:?}] pub mod {visible};\n",
-            out.join(name)
-        );
-        write(&out.join(name), &text)?;
-        write(&out.join(format!("{visible}_module.rs")), &declaration)?;
+        let path = source.0.trim_end_matches(".rs");
+        let visible = path.rsplit('/').next().unwrap();
+        let file = out.join(source.0);
+        let declaration =
+            format!("#[allow(dead_code, unexpected_cfgs)] #[path = {file:?}] pub mod {visible};\n");
+        write(&file, &text)?;
+        write(&out.join(format!("{path}_module.rs")), &declaration)?;
     }
     let testing = read(&folder, TESTING)?;
     let evaluator = cut(&testing, "pub fn eval_dag")
@@ -92,6 +91,10 @@ fn cut<'a>(text: &'a str, head: &str) -> Option<&'a str> {
     Some(&text[begin..begin + end])
 }
 
+/// Writes a file, and the folders that it is below.
 fn write(path: &Path, text: &str) -> Result<(), String> {
-    fs::write(path, text).map_err(|error| format!("{}: {error}", path.display()))
+    let folders = path.parent().map_or(Ok(()), fs::create_dir_all);
+    folders
+        .and_then(|()| fs::write(path, text))
+        .map_err(|error| format!("{}: {error}", path.display()))
 }

@@ -449,3 +449,88 @@ pub fn draw(
     let [_, length, ..] = told(|answer| words::draw(field.number(), list, n, roots, text, answer))?;
     Ok(length as usize)
 }
+
+/// How many variables and operations a list is emitted as.
+#[derive(Clone, Copy, Debug, PartialEq, Eq)]
+pub struct Emitted {
+    /// The layout's inputs and the constants, with what fills them up to an even number.
+    pub num_vars: u64,
+    /// The operations, with the squares behind them.
+    pub num_ops: u64,
+}
+
+impl Emitted {
+    /// The words that are written, over a layout of `k` keys: two a constant, three an operation.
+    pub const fn words(self, k: u64) -> u64 {
+        2 * (self.num_vars - k) + 3 * self.num_ops
+    }
+}
+
+/// What an operation does with the values of its two nodes.
+#[derive(Clone, Copy, Debug, PartialEq, Eq, Hash)]
+pub enum Kind {
+    Sub,
+    Mul,
+    Add,
+}
+
+impl Kind {
+    /// The kind that an operation's first word says.
+    ///
+    /// ```
+    /// use ace::Kind::{self, Add, Mul, Sub};
+    ///
+    /// assert_eq!([0, 1, 2, 3].map(Kind::of), [Some(Sub), Some(Mul), Some(Add), None]);
+    /// ```
+    pub const fn of(word: u64) -> Option<Kind> {
+        match word {
+            0 => Some(Kind::Sub),
+            1 => Some(Kind::Mul),
+            2 => Some(Kind::Add),
+            _ => None,
+        }
+    }
+}
+
+/// The list as constants and operations, for a box whose inputs are the `k` keys of `layout`; a
+/// key's last place there is its input's number.
+///
+/// `result` then holds two words a constant, in the order of their first use, then three an
+/// operation: its kind, and the numbers of the two nodes that it reads. Nodes are counted down to 0:
+/// the inputs, the constants, the operations. A neg is a sub from a constant of zero. A zero stands
+/// behind an odd number of constants; behind the operations stand squares, each of the node before,
+/// until twice the constants and the operations are a multiple of 8.
+///
+/// The one root is the last operation, and `k` is even. Lends `layout` of at least `k` words, and
+/// `result`, for which 23 words and 3 a record always do. Here the key 7 is input 1, key 5 input 0:
+///
+/// ```
+/// use ace::{Emitted, Field};
+///
+/// let list = [0, 7, 0, 1, 3, 0, 3, 0, 1, 5, 2, 0]; // in 7, const 3, sub 0 1, neg 2
+/// let mut result = [9; 23 + 3 * 4];
+/// let emitted = ace::emit(Field::Goldilocks, &list, 4, &[3], &[5, 7], 2, &mut result).unwrap();
+/// assert_eq!(emitted, Emitted { num_vars: 4, num_ops: 4 });
+/// let (written, behind) = result.split_at(emitted.words(2) as usize);
+/// let constants = [3, 0, 0, 0]; // nodes 5 and 4, behind the inputs 7 and 6
+/// let operations = [0, 6, 5, 0, 4, 3, 1, 2, 2, 1, 1, 1]; // nodes 3 and 2, squares 1 and 0
+/// assert_eq!(written, [&constants[..], &operations].concat());
+/// assert!(behind.iter().all(|&word| word == ace::BLANK));
+///
+/// let refused = ace::emit(Field::Goldilocks, &list, 4, &[2], &[5, 7], 2, &mut result);
+/// assert_eq!(refused.unwrap_err().number, 43);
+/// ```
+pub fn emit(
+    field: Field,
+    list: &[u64],
+    n: u64,
+    roots: &[u64],
+    layout: &[u64],
+    k: u64,
+    result: &mut [u64],
+) -> Result<Emitted, Refusal> {
+    let field = field.number();
+    let [_, num_vars, num_ops, _] =
+        told(|answer| words::emit(field, list, n, roots, layout, k, result, answer))?;
+    Ok(Emitted { num_vars, num_ops })
+}

@@ -12,7 +12,7 @@ pub const INTERFACE: u64 = 3;
 /// The most roots of a list.
 pub const MOST_ROOTS: usize = 8;
 
-/// The answer words of a step, of lowering and of drawing.
+/// The answer words of a step, of lowering, of drawing and of emitting.
 pub const ANSWER: usize = 4;
 
 /// The answer words of a call that answers a list: with the count, the rounds kept and the roots.
@@ -128,6 +128,21 @@ unsafe extern "C" {
         roots_len: usize,
         text: *mut u8,
         text_len: usize,
+        answer: *mut u64,
+    );
+
+    fn ace_emit(
+        field: u64,
+        list: *const u64,
+        list_len: usize,
+        n: u64,
+        roots: *const u64,
+        roots_len: usize,
+        layout: *const u64,
+        layout_len: usize,
+        k: u64,
+        result: *mut u64,
+        result_len: usize,
         answer: *mut u64,
     );
 }
@@ -347,6 +362,38 @@ pub fn draw(
             roots.len(),
             text.as_mut_ptr(),
             text.len(),
+            answer.as_mut_ptr(),
+        );
+    }
+}
+
+/// The list as constants and operations over a layout of k key numbers: num_vars, num_ops.
+#[allow(clippy::too_many_arguments)]
+pub fn emit(
+    field: u64,
+    list: &[u64],
+    n: u64,
+    roots: &[u64],
+    layout: &[u64],
+    k: u64,
+    result: &mut [u64],
+    answer: &mut [u64; ANSWER],
+) {
+    same_interface();
+    // SAFETY: each slice is lent with its length, and those written overlap no other.
+    unsafe {
+        ace_emit(
+            field,
+            list.as_ptr(),
+            list.len(),
+            n,
+            roots.as_ptr(),
+            roots.len(),
+            layout.as_ptr(),
+            layout.len(),
+            k,
+            result.as_mut_ptr(),
+            result.len(),
             answer.as_mut_ptr(),
         );
     }

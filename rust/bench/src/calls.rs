@@ -37,6 +37,10 @@ pub enum Kind {
     Colliding,
     /// Constants of random coordinates.
     Constants,
+    /// Such a constant and an operation on it in turn.
+    Alternating,
+    /// Operations on few inputs.
+    Operations,
 }
 
 /// A list of this kind with about n records.
@@ -47,6 +51,8 @@ fn list<E: Sides>(kind: Kind, n: usize) -> Vec<Record> {
         Kind::Unchanged => cases::unchanged(n),
         Kind::Colliding => cases::colliding(n as u64),
         Kind::Constants => constants::<E>(n),
+        Kind::Alternating => cases::alternating(E::CASES, &mut Rng::new(n as u64), n),
+        Kind::Operations => cases::operations(&mut Rng::new(n as u64), n),
     }
 }
 
@@ -185,6 +191,26 @@ pub fn draw<E: Sides>(bench: &Bench, kind: Kind, n: usize) -> Row {
     let rust = Side::calling(|| {
         written.clear();
         nodes.draw(black_box(&mut written));
+    });
+    bench.alternate(ours, rust)
+}
+
+/// The layout has the inputs' keys in order, which the Rust takes for public values, and one more
+/// where they are odd. Its stream has elements modulo p: a residue is its word and a zero there.
+pub fn emit<E: Sides>(bench: &Bench, kind: Kind, n: usize) -> Row {
+    let list = list::<E>(kind, n);
+    let root = list.iter().rposition(|record| record[0] > 1).expect("an operation") as u64;
+    let inputs = list.iter().filter(|record| record[0] == 0).count() as u64;
+    let layout: Vec<u64> = (0..inputs.next_multiple_of(2)).collect();
+    let (words, n, k) = (model::words(&list), list.len() as u64, layout.len() as u64);
+    let mut result = vec![0; model::emitted_words(&list)];
+    let ours = Side::calling(|| {
+        let emitted = ace::emit(E::OURS, &words, n, &[root], &layout, k, &mut result);
+        black_box(emitted.expect(ACCEPTED));
+    });
+    let dag = Dag::<E>::new(&list, root);
+    let rust = Side::calling(|| {
+        black_box(dag.emit(layout.len()));
     });
     bench.alternate(ours, rust)
 }

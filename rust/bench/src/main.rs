@@ -88,7 +88,16 @@ fn timed<E: Sides>(bench: &Bench) -> Vec<Timed<'_>> {
     let drawn = drawn.map(|(name, lengths, kind)| {
         Timed::at::<E>(name, lengths, move |n| calls::draw::<E>(bench, kind, n))
     });
-    normalized.into_iter().chain(others).chain(lowered).chain(drawn).collect()
+    let emitted = [
+        ("emit", &LENGTHS[..], Kind::Expression),
+        ("emit, constants", &[4_096], Kind::Alternating),
+        ("emit, operations", &[4_096], Kind::Operations),
+    ];
+    let emitted = emitted.map(|(name, lengths, kind)| {
+        Timed::at::<E>(name, lengths, move |n| calls::emit::<E>(bench, kind, n))
+    });
+    let listed = normalized.into_iter().chain(others).chain(lowered);
+    listed.chain(drawn).chain(emitted).collect()
 }
 
 /// The calls with roots over a field, timed with eight of them beside one.

@@ -4,8 +4,8 @@ use std::collections::BTreeMap;
 
 use model::field::Pair;
 use model::{
-    Call, Case, Field, Judge, MOST_ROOTS, Outcome, Paper, Record, ZK, check_columns, expected,
-    records, values,
+    Call, Case, Emission, Field, Judge, MOST_ROOTS, Outcome, Paper, Record, ZK, check_columns,
+    expected, records, run, values,
 };
 
 use crate::cases::list_case;
@@ -36,6 +36,12 @@ pub const ENTRIES: &str = "columns at a row";
 /// A drawing as the list that it shows.
 pub const READ: &str = "drawings read back";
 
+/// Operations run in order over values of a layout's places, and held to the Rust's Evaluate.
+pub const RUN: &str = "operations run";
+
+/// `AceCircuit::eval` on the same values.
+pub const CIRCUIT: &str = "circuits by AceCircuit::eval";
+
 /// Numbers of roots that are none, one too many, and one that a byte would mistake for 1.
 const WRONG: [usize; 3] = [0, MOST_ROOTS + 1, 257];
 
@@ -47,6 +53,7 @@ fn second_checks(call: Call) -> &'static [&'static str] {
         Call::Normalize => &[AGAIN, WHOLE, VALUES],
         Call::Lower => &[ENTRIES],
         Call::Draw => &[READ],
+        Call::Emit => &[RUN, CIRCUIT],
         Call::Step | Call::Evaluate | Call::Prepare => &[],
     }
 }
@@ -109,6 +116,7 @@ impl Comparison {
                 }
                 Call::Lower => self.entries(case, &outcome, &mut found),
                 Call::Draw => self.read(case, &outcome, &mut found),
+                Call::Emit => self.run(case, &outcome, &mut found),
                 _ => {}
             }
         }
@@ -229,6 +237,47 @@ impl Comparison {
         }
         self.checked(READ);
     }
+
+    /// Runs the operations over values of the layout's places, and holds them to the root's value.
+    fn run(&mut self, case: &Case, outcome: &Outcome, found: &mut Vec<Difference>) {
+        let (field, Rooted { list, roots }) = (self.field, Rooted::lent(case));
+        let keys = case.number("k").expect("a call on a layout");
+        let layout = &case.stores[2][..keys as usize];
+        let seed = self.rng.word();
+        let inputs: Vec<Pair> = (0..keys).map(|place| element(field, place, seed)).collect();
+        let entries = layout.iter().zip(&inputs);
+        let entries: Vec<Record> = entries.map(|(&key, &[c0, c1])| [key, c0, c1]).collect();
+        let value = Rust(field).evaluate(&list, &roots, &entries)[0];
+        let [num_vars, num_ops] = [1, 2].map(|at| outcome.answer[at]);
+        let constants = num_vars - keys;
+        if !constants.is_multiple_of(2) || !(2 * constants + num_ops).is_multiple_of(8) {
+            found.push(said(case, "the words fill no blocks"));
+        }
+        let words = outcome.after[0][..(2 * constants + 3 * num_ops) as usize].to_vec();
+        let own = list.iter().filter(|record| record[0] > 1).count();
+        let wrong = match run(field, &Emission { num_vars, num_ops, words }, &inputs) {
+            Ok(values) => wrong_values(field, &values, own, value).map(str::to_string),
+            Err(wrong) => Some(wrong),
+        };
+        found.extend(wrong.map(|wrong| said(case, &wrong)));
+        self.checked(RUN);
+        if Rust(field).circuit_value(&list, roots[0], layout, &inputs) != value {
+            found.push(said(case, "AceCircuit::eval has another value"));
+        }
+        self.checked(CIRCUIT);
+    }
+}
+
+/// What is wrong with the values of these operations, where a list has so many and this root's value.
+fn wrong_values(field: Field, values: &[Pair], own: usize, value: Pair) -> Option<&'static str> {
+    if values[own - 1] != value {
+        return Some("the last operation before the pads has not the root's value");
+    }
+    let squared = |pair: &[Pair]| pair[1] == field.pair_mul(pair[0], pair[0]);
+    if !values[own - 1..].windows(2).all(squared) {
+        return Some("a pad is not the square of the one before");
+    }
+    (values.len() >= own + 8).then_some("there are eight pads or more")
 }
 
 /// A list with its roots.

@@ -272,7 +272,7 @@ fn write_sample(options: &Options) -> Result<ExitCode, String> {
         None => record::CALLS.to_vec(),
         Some(name) => {
             let call = Call::named(name).filter(|call| record::CALLS.contains(call));
-            vec![call.ok_or("record takes a call that the Rust has")?]
+            vec![call.ok_or("record takes a call that replay knows")?]
         }
     };
     let out: &PathBuf = options.out.as_ref().ok_or("record needs --out FILE")?;

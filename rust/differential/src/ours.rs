@@ -211,6 +211,7 @@ fn call(case: &Case, lent: &mut [Lent], answer: &mut [u64]) {
             let (list, roots, text) = (list.store(), roots.store(), text.store_mut());
             ace::words::draw(field, list, number(1), roots, text, sized(answer));
         }
+        (Call::Emit, lent) => emit(case, lent, sized(answer)),
         (call, _) => panic!("the stores of ace_{}", call.signature().name),
     }
 }
@@ -227,6 +228,17 @@ fn lower(case: &Case, lent: &mut [Lent], answer: &mut [u64; 4]) {
     let (result, work, places) = (result.store_mut(), work.store_mut(), places.store_mut());
     let [field, n, period] = case.scalars[..] else { panic!("three numbers") };
     ace::words::lower(field, list, n, lengths, entries, period, result, work, places, answer);
+}
+
+/// Runs the proved `ace_emit`.
+#[cfg(feature = "ours")]
+fn emit(case: &Case, lent: &mut [Lent], answer: &mut [u64; 4]) {
+    let [Words(list), Words(roots), Words(layout), Words(result)] = lent else {
+        panic!("four stores");
+    };
+    let (list, roots, layout) = (list.store(), roots.store(), layout.store());
+    let [field, n, k] = case.scalars[..] else { panic!("three numbers") };
+    ace::words::emit(field, list, n, roots, layout, k, result.store_mut(), answer);
 }
 
 /// These answer words, as many as the call has.

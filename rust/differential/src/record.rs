@@ -17,7 +17,7 @@ use crate::cases::{self, Flow};
 use crate::{Rng, Rust};
 
 /// The calls that are recorded, in the order of `Call`.
-pub const CALLS: [Call; 7] = [
+pub const CALLS: [Call; 8] = [
     Call::Step,
     Call::Build,
     Call::Compact,
@@ -25,6 +25,7 @@ pub const CALLS: [Call; 7] = [
     Call::Evaluate,
     Call::Prepare,
     Call::Lower,
+    Call::Emit,
 ];
 
 /// The most words of an ordinary case.

@@ -133,6 +133,58 @@ const BEFORE_TEXT: [Event; 8] = [
     NoFieldFirst,
 ];
 
+/// What an emitted list and its layout can have, and how long its result store can be.
+const EMITTING: [Event; 32] = [
+    LayoutNone,
+    LayoutOne,
+    LayoutTwo,
+    LayoutMost,
+    LayoutOver,
+    LayoutWraps,
+    KeyTwice,
+    LeafBehind,
+    UnreachedOperation,
+    UnreachedConstant,
+    RepeatedConstant,
+    ZeroAlone,
+    ZeroAdded,
+    ZeroAgain,
+    ZeroBeforeNeg,
+    ZeroAfterNeg,
+    NoConstants,
+    EvenConstants,
+    OddConstants,
+    Pads0,
+    Pads1,
+    Pads2,
+    Pads3,
+    Pads4,
+    Pads5,
+    Pads6,
+    Pads7,
+    EmittedMost,
+    ResultExact,
+    ResultBehind,
+    ResultShort,
+    UnreachableInput,
+];
+
+/// The roots that Emit refuses, and what each of its refusals can come before.
+const UNEMITTED: [Event; 12] = [
+    LeafRoot,
+    EarlierRoot,
+    LastTwice,
+    SeveralRoots,
+    ListBeforeLayout,
+    KeysFirst,
+    LayoutShortFirst,
+    BadKeyFirst,
+    MissingFirst,
+    NoneFirst,
+    NotLastFirst,
+    OddFirst,
+];
+
 /// What refusing a field's number can come before.
 const NO_FIELD: [Event; 2] = [FieldAlone, FieldFirst];
 
@@ -154,6 +206,10 @@ pub fn events(call: Call, field: Field) -> Vec<Event> {
         Call::Draw => {
             let second = if field.bounds[1] > 1 { &SECOND[..] } else { &[] };
             [&DRAWING[..], second, &BEFORE_TEXT, &ROOTS].concat()
+        }
+        Call::Emit => {
+            let second = if field.bounds[1] > 1 { &[SecondsApart][..] } else { &[] };
+            [&EMITTING[..], second, &UNEMITTED, &ROOTS].concat()
         }
     };
     [&events[..], &NO_FIELD].concat()

@@ -8,7 +8,8 @@ pub struct Roots {
     wrong: [usize; 3],
     /// The farthest place that a root can name.
     farthest: u64,
-    /// Accepted, by the number of roots, from 1.
+    /// Accepted, or refused with 43 by the call that takes one root alone, by the number of roots,
+    /// from 1.
     accepted: [u64; MOST_ROOTS],
     /// Refused with 46, by the number of roots among the wrong ones.
     refused: [u64; 3],
@@ -26,7 +27,7 @@ impl Roots {
     /// Counts what a list of n records with these roots came to: a refusal's number, or 0.
     pub fn count(&mut self, number: u64, roots: &[u64], n: u64) {
         match number {
-            0 => self.accepted[roots.len() - 1] += 1,
+            0 | 43 => self.accepted[roots.len() - 1] += 1,
             46 => {
                 if let Some(which) = self.wrong.iter().position(|&wrong| wrong == roots.len()) {
                     self.refused[which] += 1;

@@ -1,8 +1,10 @@
 //! The Rust of docs/src as judge.
 
+use std::collections::HashMap;
+
 use model::field::Pair;
-use model::{Field, Judge, Record};
-use oracle::{BabyBear, QuadFelt};
+use model::{Emission, Field, Judge, Record, Refusal};
+use oracle::{BabyBear, QuadFelt, Unemitted};
 
 use crate::tie::{tie, untie};
 
@@ -37,7 +39,44 @@ fn on_roots(
     untie(&list, root, roots.len()).expect("no round and no compaction touches the ties")
 }
 
+/// The public value that no layout has.
+const OUTSIDE: u64 = 65_535;
+
+/// The list with each key renamed to the public value of its last place in a layout.
+fn renamed(list: &[Record], layout: &[u64]) -> Vec<Record> {
+    let places: HashMap<u64, u64> = layout.iter().copied().zip(0..).collect();
+    let record = |&record: &Record| match record {
+        [0, key, _] => [0, places.get(&key).copied().unwrap_or(OUTSIDE), 0],
+        other => other,
+    };
+    list.iter().map(record).collect()
+}
+
+/// The refusal of a list, with its keys renamed, that the Rust makes no operations of.
+fn unemitted(renamed: &[Record], why: Unemitted) -> Refusal {
+    match why {
+        Unemitted::MissingKey => {
+            let missing = renamed.iter().position(|&record| record == [0, OUTSIDE, 0]);
+            Refusal::at(12, missing.expect("an input without a place"))
+        }
+        Unemitted::NoOperations => Refusal::new(42),
+        Unemitted::RootNotLast => Refusal::new(43),
+        Unemitted::OddLayout => Refusal::new(44),
+    }
+}
+
 impl Rust {
+    /// The value of `AceCircuit::eval` for the values of a layout's places.
+    pub fn circuit_value(
+        self,
+        list: &[Record],
+        root: u64,
+        layout: &[u64],
+        values: &[Pair],
+    ) -> Pair {
+        over!(self.0, circuit_value(&renamed(list, layout), root, values))
+    }
+
     /// The normalised list and its roots, by `normalize_dag` itself.
     pub fn normalize_whole(self, list: &[Record], roots: &[u64]) -> (Vec<Record>, Vec<u64>) {
         on_roots(list, roots, |list, root| over!(self.0, normalize_whole(list, root)))
@@ -91,5 +130,27 @@ impl Judge for Rust {
 
     fn draw(&mut self, list: &[Record]) -> String {
         over!(self.0, draw(list))
+    }
+
+    /// Of several roots the Rust tells what comes before 43.
+    fn emit(
+        &mut self,
+        list: &[Record],
+        roots: &[u64],
+        layout: &[u64],
+    ) -> Result<Emission, Refusal> {
+        let list = renamed(list, layout);
+        let emitted = over!(self.0, emit(&list, roots[0], layout.len()));
+        let emitted = emitted.map_err(|why| unemitted(&list, why));
+        match emitted {
+            Err(Refusal { number: 12 | 42, .. }) => emitted,
+            _ if roots.len() > 1 => Err(Refusal::new(43)),
+            _ => emitted,
+        }
+        .map(|oracle::Emission { num_vars, num_ops, words }| Emission {
+            num_vars,
+            num_ops,
+            words,
+        })
     }
 }

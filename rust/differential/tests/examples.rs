@@ -327,3 +327,57 @@ fn request_one_signs_coordinates() {
         assert_eq!(labels, signed.map(|c0| format!("const {c0} 0")));
     }
 }
+
+/// What Emit comes to on a list with these roots, over these keys, with a result store of so many
+/// words.
+fn emitted(
+    judge: &mut dyn Judge,
+    list: &[Record],
+    roots: &[u64],
+    keys: &[u64],
+    room: usize,
+) -> (Vec<u64>, Vec<u64>) {
+    let scalars = vec![judge.field().number, list.len() as u64, keys.len() as u64];
+    let stores = vec![words(list), roots.to_vec(), keys.to_vec(), vec![35; room]];
+    let mut outcome = expected(&Case { call: Call::Emit, scalars, stores }, judge);
+    (outcome.answer, outcome.after.remove(0))
+}
+
+#[test]
+fn request_two_counts_nodes_down() {
+    for mut judge in judges() {
+        let minus_one = judge.field().minus_one();
+        let list = [
+            [0, 5, 0],
+            [1, minus_one, 0],
+            [5, 0, 0],
+            [1, minus_one, 0],
+            [2, 1, 2],
+            [1, 3, 0],
+            [4, 4, 5],
+            [0, 7, 0],
+            [3, 6, 7],
+        ];
+        let constants = [minus_one, 0, 0, 0, 3, 0, 0, 0];
+        // Inputs are nodes 13 and 12, constants 11 to 8, operations 7 to 4, squares 3 to 0.
+        let operations = [0, 10, 13, 2, 11, 7, 1, 6, 9, 0, 5, 12];
+        let squares = [1, 4, 4, 1, 3, 3, 1, 2, 2, 1, 1, 1];
+        let words = [&constants[..], &operations, &squares].concat();
+        let behind = [&words[..], &[0, 0]].concat();
+        let answer = vec![0, 6, 8, 0];
+        let mut come =
+            |roots: &[u64], keys: &[u64], room| emitted(judge.as_mut(), &list, roots, keys, room);
+        assert_eq!(come(&[8], &[5, 7], 32), (answer.clone(), words));
+        assert_eq!(come(&[8], &[5, 7], 34), (answer, behind));
+        for (roots, keys, room, number, place) in [
+            (&[8][..], &[5, 7][..], 31, 2, 0),
+            (&[8], &[5, 8], 32, 12, 7),
+            (&[8], &[5, 1 << 16], 32, 4, 1),
+            (&[6], &[5, 7], 32, 43, 0),
+            (&[8, 8], &[5, 7], 32, 43, 0),
+            (&[8], &[5, 7, 7], 32, 44, 0),
+        ] {
+            assert_eq!(come(roots, keys, room), (vec![number, place, 0, 0], vec![35; room]));
+        }
+    }
+}

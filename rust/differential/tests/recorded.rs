@@ -4,7 +4,7 @@ use std::path::Path;
 use std::sync::LazyLock;
 
 use differential::record;
-use model::{Case, Field, Outcome};
+use model::{Call, Case, Field, Outcome};
 
 /// The cases of a section, and the seed, where the command names none.
 const COUNT: usize = 300;
@@ -17,8 +17,14 @@ const BUFFER: usize = 262_144;
 const HEAD: usize = 24;
 
 /// Each call's cases, with what they come to.
-static CHOSEN: LazyLock<[Vec<(Case, Outcome)>; 7]> =
+static CHOSEN: LazyLock<[Vec<(Case, Outcome)>; record::CALLS.len()]> =
     LazyLock::new(|| record::CALLS.map(|call| record::chosen(call, COUNT, SEED)));
+
+/// The cases of a call's section.
+fn chosen(call: Call) -> &'static [(Case, Outcome)] {
+    let place = record::CALLS.iter().position(|&other| other == call);
+    &CHOSEN[place.expect("a recorded call")]
+}
 
 /// The number of cases that a section's head gives.
 fn cases(section: &[u8]) -> u64 {
@@ -31,7 +37,7 @@ fn the_recorded_stream_is_the_commands() {
     let recorded = std::fs::read(file).unwrap();
     let mut rest = &recorded[..];
     for call in record::CALLS {
-        let section = record::section(call, &CHOSEN[call as usize]);
+        let section = record::section(call, chosen(call));
         let name = call.signature().name;
         assert_eq!(cases(&section), COUNT as u64, "{name}");
         assert!(section.len() <= HEAD + BUFFER, "{name}: too long for replay's buffer");
@@ -47,8 +53,7 @@ fn the_recorded_stream_is_the_commands() {
 #[test]
 fn a_section_has_cases_of_both_fields_and_of_none() {
     for call in record::CALLS {
-        let fields =
-            || CHOSEN[call as usize].iter().map(|(case, _)| Field::numbered(case.scalars[0]));
+        let fields = || chosen(call).iter().map(|(case, _)| Field::numbered(case.scalars[0]));
         let counts = [Some(Field::GOLDILOCKS), Some(Field::BABY_BEAR), None]
             .map(|field| fields().filter(|other| *other == field).count());
         assert_eq!(counts, [180, 115, 5], "{}", call.signature().name);
@@ -58,7 +63,7 @@ fn a_section_has_cases_of_both_fields_and_of_none() {
 #[test]
 fn a_section_has_cases_of_one_root_of_several_and_of_too_many() {
     let rooted: Vec<_> = CHOSEN.iter().filter(|cases| cases[0].0.roots().is_some()).collect();
-    assert_eq!(rooted.len(), 4);
+    assert_eq!(rooted.len(), 5);
     for cases in rooted {
         let counts: Vec<usize> =
             cases.iter().filter_map(|(case, _)| case.roots().map(<[u64]>::len)).collect();

@@ -1,8 +1,11 @@
 //! What is absent, or was never checked, counts as failed.
 
+use std::collections::BTreeSet;
 use std::process::Command;
 
-use differential::compare::{AGAIN, ALONE, Comparison, ENTRIES, READ, UNION, VALUES, WHOLE};
+use differential::compare::{
+    AGAIN, ALONE, CIRCUIT, Comparison, ENTRIES, READ, RUN, UNION, VALUES, WHOLE,
+};
 use differential::report::{Missing, Summary};
 use model::{Call, Field};
 
@@ -20,6 +23,10 @@ fn an_absent_program_counts_as_failed() {
         assert_eq!(output.status.code(), Some(1));
     }
 }
+
+/// The calls with roots.
+const ROOTED: [Call; 6] =
+    [Call::Build, Call::Compact, Call::Normalize, Call::Evaluate, Call::Draw, Call::Emit];
 
 /// What only calls with roots can meet.
 const OF_ROOTS: [&str; 14] = [
@@ -72,38 +79,115 @@ const OF_DRAWINGS: [&str; 29] = [
     "49 before 41",
 ];
 
+/// What only emitting can meet.
+const OF_EMISSIONS: [&str; 44] = [
+    "refusal 42",
+    "refusal 43",
+    "refusal 44",
+    "layout of no keys",
+    "44 for a layout of one key",
+    "layout of two keys",
+    "layout of 4,096 keys",
+    "11 for 4,097 keys",
+    "11 for 2^63 keys or more",
+    "key of an input at several places",
+    "leaf behind the last operation",
+    "operation that the root does not reach",
+    "constant that the root does not reach",
+    "constant repeated",
+    "constant of zero without a negation",
+    "zero added for a negation",
+    "zero of an earlier negation",
+    "constant of zero before a negation",
+    "constant of zero behind a negation",
+    "no constants",
+    "constants of an even number",
+    "constants padded",
+    "0 pads",
+    "1 pad",
+    "2 pads",
+    "3 pads",
+    "4 pads",
+    "5 pads",
+    "6 pads",
+    "7 pads",
+    "operations of 4,096 records",
+    "result store longer than its words",
+    "43 for a leaf",
+    "43 for an operation before the last",
+    "43 for the last operation named twice",
+    "43 for other roots than one",
+    "1 to 5 before the layout",
+    "11 before the layout's 2",
+    "the layout's 2 before its 4",
+    "the layout's 4 before 12",
+    "12 before 42",
+    "42 before 43",
+    "43 before 44",
+    "44 before 2",
+];
+
+/// What has to be met, by which calls and over which fields.
+const REQUIRED: [(&[&str], &[Call], &[Field]); 8] = [
+    (&["acceptance", "refusal 49", "49 before another refusal"], &Call::ALL, &Field::ALL),
+    (&OF_ROOTS, &ROOTED, &Field::ALL),
+    (&OF_DRAWINGS, &[Call::Draw], &Field::ALL),
+    (&["c1 of m−1 drawn"], &[Call::Draw], &[Field::GOLDILOCKS]),
+    (&OF_EMISSIONS, &[Call::Emit], &Field::ALL),
+    (&["constants that differ in c1 alone"], &[Call::Emit], &[Field::GOLDILOCKS]),
+    (&["refusal 11", "12 at an unreachable input"], &[Call::Emit, Call::Evaluate], &Field::ALL),
+    (
+        &["result store exactly enough", "result store one word short"],
+        &[Call::Emit, Call::Lower],
+        &Field::ALL,
+    ),
+];
+
+/// Every call over every field, before any case.
+fn runs() -> impl Iterator<Item = Comparison> {
+    let calls = Call::ALL.into_iter().flat_map(|call| Field::ALL.map(|field| (call, field)));
+    calls.map(|(call, field)| Comparison::new(call, field, 1, None))
+}
+
+/// What counts as failed in a run though it need not be met, or has to be and does not count.
+fn mistaken(run: &Comparison) -> Vec<&'static str> {
+    let missing = Summary::of_call(run).missing;
+    let unmet = |what: &str| missing.contains(&Missing::Unmet(what.to_string()));
+    let required = REQUIRED.into_iter().flat_map(|(whats, calls, fields)| {
+        let wanted = calls.contains(&run.call) && fields.contains(&run.field);
+        whats.iter().map(move |&what| (what, wanted))
+    });
+    required.filter(|(what, wanted)| unmet(what) != *wanted).map(|(what, _)| what).collect()
+}
+
+#[test]
+fn what_was_never_met_counts_as_failed() {
+    for run in runs() {
+        assert_eq!(mistaken(&run), [""; 0], "{}", Summary::of_call(&run).name);
+    }
+}
+
+/// The second checks that count as failed in a summary.
+fn never(summary: &Summary) -> impl Iterator<Item = &str> {
+    summary.missing.iter().filter_map(|missing| match missing {
+        Missing::Second(check) => Some(*check),
+        _ => None,
+    })
+}
+
 #[test]
 fn a_second_check_that_was_never_made_counts_as_failed() {
-    for (call, field) in Call::ALL.into_iter().flat_map(|call| Field::ALL.map(|f| (call, f))) {
-        let summary = Summary::of_call(&Comparison::new(call, field, 1, None));
-        let never = |check| summary.missing.contains(&Missing::Second(check));
-        let checks = [AGAIN, WHOLE, VALUES, ALONE, UNION, ENTRIES, READ].map(never);
-        let wanted = match call {
-            Call::Build => [false, false, true, false, false, false, false],
-            Call::Compact => [false, false, true, true, true, false, false],
-            Call::Normalize => [true, true, true, false, false, false, false],
-            Call::Lower => [false, false, false, false, false, true, false],
-            Call::Draw => [false, false, false, false, false, false, true],
-            _ => [false; 7],
-        };
-        assert_eq!(checks, wanted, "{}", summary.name);
-        let unmet = |what: &str| summary.missing.contains(&Missing::Unmet(what.to_string()));
-        for what in ["acceptance", "refusal 49", "49 before another refusal"] {
-            assert!(unmet(what), "{what}");
-        }
-        let has_roots = matches!(
-            call,
-            Call::Build | Call::Compact | Call::Normalize | Call::Evaluate | Call::Draw
-        );
-        for what in OF_ROOTS {
-            assert_eq!(unmet(what), has_roots, "{}: {what}", summary.name);
-        }
-        for what in OF_DRAWINGS {
-            assert_eq!(unmet(what), call == Call::Draw, "{}: {what}", summary.name);
-        }
-        let has_second = call == Call::Draw && field == Field::GOLDILOCKS;
-        assert_eq!(unmet("c1 of m−1 drawn"), has_second, "{}", summary.name);
+    for run in runs() {
+        let summary = Summary::of_call(&run);
+        assert!(never(&summary).eq(run.second.into_keys()), "{}", summary.name);
     }
+}
+
+#[test]
+fn every_second_check_is_one_of_a_call() {
+    let all = [AGAIN, WHOLE, VALUES, ALONE, UNION, ENTRIES, READ, RUN, CIRCUIT];
+    let checks: BTreeSet<&str> = runs().flat_map(|run| run.second.into_keys()).collect();
+    assert_eq!(checks, BTreeSet::from(all));
 }
 
 #[test]

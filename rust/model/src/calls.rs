@@ -2,14 +2,17 @@
 
 use crate::BLANK;
 use crate::case::{Call, Case, Outcome, Record};
+use crate::circuit::Emission;
 use crate::draw;
 use crate::events::Event;
 use crate::field::Field;
 use crate::judge::Judge;
 use crate::lists::reached;
 use crate::mutants::Mutant;
+use crate::order;
 use crate::refusal::{
-    LIMIT, LOWER_WORK, Refusal, check_assignment, check_columns, check_list, check_record,
+    LIMIT, LOWER_WORK, Refusal, check_assignment, check_columns, check_layout, check_list,
+    check_record,
 };
 use crate::roots::{answered, coincide, listed, rooted};
 
@@ -62,6 +65,7 @@ fn called(case: &Case, judge: &mut dyn Judge) -> Result<Accepted, Refused> {
         Call::Prepare => prepare(case, field, judge),
         Call::Lower => lower(case, field, judge),
         Call::Draw => drawing(case, field, judge),
+        Call::Emit => emit(case, field, judge),
     }
 }
 
@@ -259,4 +263,29 @@ fn drawing(case: &Case, field: Field, judge: &mut dyn Judge) -> Result<Accepted,
 fn refused_text(refusal: Refusal, text: &[u64], judge: &dyn Judge) -> Refused {
     let blanked = refusal.number == 41 && judge.has(Mutant::TextBlanked);
     Refused { refusal, after: blanked.then(|| vec![vec![0; text.len()]]) }
+}
+
+fn emit(case: &Case, field: Field, judge: &mut dyn Judge) -> Result<Accepted, Refused> {
+    let emitted = emitted(case, field, judge);
+    let Emission { num_vars, num_ops, words } =
+        emitted.map_err(|refusal| order::refused(case, refusal, judge))?;
+    let result = &case.stores[3];
+    order::note_emitted(case, result.len() - words.len(), judge);
+    let left = judge.has(Mutant::ResultLeft);
+    let before = if left { result.clone() } else { filled(result.len(), &[]) };
+    Ok(Accepted { values: vec![num_vars, num_ops], after: vec![laid(before, &words)] })
+}
+
+/// What the call's list is emitted as, where nothing refuses it.
+fn emitted(case: &Case, field: Field, judge: &mut dyn Judge) -> Result<Emission, Refusal> {
+    let k = case.number("k").expect("a call on a layout");
+    let keys = check_layout(&case.stores[2], k);
+    let (records, roots, keys) = rooted(case, field, keys, judge)?;
+    let emission = judge.emit(&records, &roots, &keys)?;
+    let (length, room) = (emission.words.len(), case.stores[3].len());
+    if room + 1 == length {
+        judge.note(Event::ResultShort);
+    }
+    let spare = usize::from(judge.has(Mutant::FitRefused));
+    if room < length + spare { Err(Refusal::new(2)) } else { Ok(emission) }
 }

@@ -28,6 +28,7 @@ pub enum Call {
     Prepare,
     Lower,
     Draw,
+    Emit,
 }
 
 /// What a store is counted in; a case holds a word for each byte.
@@ -96,7 +97,7 @@ const ROOTED_ANSWER: usize = 3 + MOST_ROOTS;
 const ROOTED_REFUSALS: &[u64] = &[1, 2, 3, 4, 5, 6, 46, 49];
 
 /// The calls' signatures, in the order of `Call`.
-static SIGNATURES: [Signature; 8] = [
+static SIGNATURES: [Signature; 9] = [
     Signature {
         name: "step",
         scalars: &["field", "n", "tag", "first", "second"],
@@ -153,10 +154,17 @@ static SIGNATURES: [Signature; 8] = [
         answer: 4,
         refusals: &[1, 2, 3, 4, 5, 6, 41, 46, 49],
     },
+    Signature {
+        name: "emit",
+        scalars: &["field", "n", "k"],
+        stores: &[LIST, ROOTS, Store("layout", false, Word), RESULT],
+        answer: 4,
+        refusals: &[1, 2, 3, 4, 5, 6, 11, 12, 42, 43, 44, 46, 49],
+    },
 ];
 
 impl Call {
-    pub const ALL: [Call; 8] = [
+    pub const ALL: [Call; 9] = [
         Call::Step,
         Call::Build,
         Call::Compact,
@@ -165,6 +173,7 @@ impl Call {
         Call::Prepare,
         Call::Lower,
         Call::Draw,
+        Call::Emit,
     ];
 
     /// The call with this name.

@@ -1,9 +1,11 @@
 //! Who says what an accepted call comes to.
 
 use crate::case::Record;
+use crate::circuit::Emission;
 use crate::events::{Event, Tally};
 use crate::field::{Field, Pair};
 use crate::mutants::Mutant;
+use crate::refusal::Refusal;
 
 /// The answers to lists, assignments and columns that are good, over one field.
 pub trait Judge {
@@ -43,6 +45,10 @@ pub trait Judge {
 
     /// The list's drawing.
     fn draw(&mut self, list: &[Record]) -> String;
+
+    /// What the list is emitted as over a layout of good keys, or 12, 42, 43 or 44.
+    fn emit(&mut self, list: &[Record], roots: &[u64], layout: &[u64])
+    -> Result<Emission, Refusal>;
 
     /// Takes note of a corner that the call reached.
     fn note(&mut self, _event: Event) {}
@@ -121,6 +127,15 @@ impl Judge for Paper {
 
     fn draw(&mut self, list: &[Record]) -> String {
         crate::draw::drawing(self, list)
+    }
+
+    fn emit(
+        &mut self,
+        list: &[Record],
+        roots: &[u64],
+        layout: &[u64],
+    ) -> Result<Emission, Refusal> {
+        crate::circuit::emit(self, list, roots, layout)
     }
 
     fn note(&mut self, event: Event) {

@@ -8,6 +8,7 @@
 
 mod calls;
 mod case;
+mod circuit;
 mod columns;
 mod draw;
 mod events;
@@ -18,12 +19,14 @@ mod keys;
 mod lists;
 mod mutants;
 mod normalize;
+mod order;
 mod refusal;
 mod roots;
 mod steps;
 
 pub use calls::expected;
 pub use case::{Call, Case, Outcome, Record, Signature, Store, Unit, records, words};
+pub use circuit::{Emission, emitted_words, run};
 pub use columns::{basis_cost, overhead, saving, standalone_cost};
 pub use events::{Event, Tally};
 pub use field::Field;
@@ -36,8 +39,8 @@ pub use keys::{FIELDS, ZK, is_key};
 pub use lists::{reached, values};
 pub use mutants::Mutant;
 pub use refusal::{
-    COLUMNS, ENTRIES, LIMIT, LONGEST, LOWER_WORK, MOST_ROOTS, Refusal, check_columns, check_list,
-    check_record,
+    COLUMNS, ENTRIES, LIMIT, LONGEST, LOWER_WORK, MOST_ROOTS, Refusal, check_columns, check_layout,
+    check_list, check_record,
 };
 pub use roots::coincide;
 

@@ -105,6 +105,28 @@ mutants! {
     TextFirst = "41 before the list check",
     TextBlanked = "a text store that is too short blanked",
     BehindLeft = "the bytes behind a text left",
+    ConstantsApart = "constants not shared",
+    FirstCoordinates = "constants equal by c0 alone",
+    ConstantsOdd = "constants not padded",
+    ReachedConstants = "constants of reachable records alone",
+    NoZeroAdded = "no zero added for a negation",
+    ZeroSubtracted = "a negation subtracts the zero",
+    RootSquared = "each pad squares the root",
+    BlocksOfFour = "operations padded to blocks of four",
+    CountedUp = "node numbers counted up",
+    FirstPlace = "the first place of a key counts",
+    ReachedInputs = "12 for reachable inputs alone",
+    EqualRootsOne = "equal roots taken for one",
+    OddTaken = "a layout of odd length taken",
+    LayoutShortEarly = "the layout's 2 before 11",
+    BadKeyEarly = "the layout's 4 before its 2",
+    MissingEarly = "12 before the layout's 4",
+    NoneEarly = "42 before 12",
+    NotLastEarly = "43 before 42",
+    OddEarly = "44 before 43",
+    ResultEarly = "2 before 44",
+    FitRefused = "2 for words that just fit",
+    ResultLeft = "the words behind an emission left",
 }
 
 /// The calls on a list.
@@ -116,10 +138,12 @@ const ON_LISTS: &[Call] = &[
     Call::Evaluate,
     Call::Lower,
     Call::Draw,
+    Call::Emit,
 ];
 
 /// The calls with roots.
-const ROOTED: &[Call] = &[Call::Build, Call::Compact, Call::Normalize, Call::Evaluate, Call::Draw];
+const ROOTED: &[Call] =
+    &[Call::Build, Call::Compact, Call::Normalize, Call::Evaluate, Call::Draw, Call::Emit];
 
 /// The calls that answer something of each root.
 const OF_ROOTS: &[Call] = &[Call::Build, Call::Compact, Call::Normalize, Call::Evaluate];
@@ -138,41 +162,41 @@ const COMPUTING: &[Call] = &[
 impl Mutant {
     /// The calls whose answers show the mistake.
     pub fn calls(self) -> &'static [Call] {
+        use Call::{Build, Compact, Draw, Emit, Evaluate, Lower, Normalize, Prepare, Step};
         use Mutant::*;
         match self {
-            LeastPlace | CancellingBeforeZero | ZeroBeforeFolding | OneBeforeFolding => {
-                &[Call::Step]
-            }
+            LeastPlace | CancellingBeforeZero | ZeroBeforeFolding | OneBeforeFolding => &[Step],
             NegationBeforeCancelling
             | NegationBeforeSame
             | NegativeFirst
             | Unordered
-            | DoubleNegation => &[Call::Step, Call::Build],
-            DuplicatesDropped | NoRename => &[Call::Compact],
-            FirstRootMarked => &[Call::Compact, Call::Normalize],
+            | DoubleNegation => &[Step, Build],
+            DuplicatesDropped | NoRename => &[Compact],
+            FirstRootMarked => &[Compact, Normalize],
             RootsReversed | LastRootForAll | EqualOnce | Padded => OF_ROOTS,
             FirstRootTested | NarrowRoots | EightRefused | NineTaken | NoneTaken | RootsByte
             | RootsAtOnce | RootsEarly | RootsLate | StoresFirst => ROOTED,
-            RoundsLast => &[Call::Build, Call::Compact, Call::Normalize],
-            FirstEntry => &[Call::Evaluate],
-            SixForSeven => &[Call::Step, Call::Build, Call::Evaluate],
+            RoundsLast => &[Build, Compact, Normalize],
+            FirstEntry => &[Evaluate],
+            SixForSeven => &[Step, Build, Evaluate],
             FieldLate | ModulusTaken => &Call::ALL,
             SecondTaken => ON_LISTS,
             OtherModulus => COMPUTING,
             FirstTied | OffsetOnTie | MinusOneFirst | SquaringsSpared | ZeroColumnBare
-            | HighestFirst | LaterTwiddle | OtherGenerator | HalfOrder | OtherPeriod => {
-                &[Call::Lower]
-            }
+            | HighestFirst | LaterTwiddle | OtherGenerator | HalfOrder | OtherPeriod => &[Lower],
             SavingsAtLeast | RepeatsCount | ZeroDominant | AllGoOver | EqualHasBasis
-            | SparseOnTie => &[Call::Prepare, Call::Lower],
+            | SparseOnTie => &[Prepare, Lower],
             LeastRotation | AnyRotation | SecondFactorFirst | FactorsByB | SecondCandidateFirst
-            | SwappedDifference | NotShorter | WithoutRewrite | OneRound | NoRootMention
-            | FirstRootMention | ReachableFanout | CompactedReturn | UnreachableSkipped => {
-                &[Call::Normalize]
-            }
+            | SwappedDifference | NotShorter | WithoutRewrite | OneRound | UnreachableSkipped
+            | NoRootMention | FirstRootMention | ReachableFanout | CompactedReturn => &[Normalize],
             HalfNegative | PastHalfPositive | SecondLeftOut | SecondEdgeFirst | EqualEdgesOnce
             | EdgesTurned | EdgesAmong | NoLastNewline | ExactRefused | TextCut | TextFirst
-            | TextBlanked | BehindLeft => &[Call::Draw],
+            | TextBlanked | BehindLeft => &[Draw],
+            ConstantsApart | FirstCoordinates | ConstantsOdd | ReachedConstants | NoZeroAdded
+            | ZeroSubtracted | RootSquared | BlocksOfFour | CountedUp | FirstPlace
+            | ReachedInputs | EqualRootsOne | OddTaken | LayoutShortEarly | BadKeyEarly
+            | MissingEarly | NoneEarly | NotLastEarly | OddEarly | ResultEarly | FitRefused
+            | ResultLeft => &[Emit],
         }
     }
 
@@ -180,7 +204,7 @@ impl Mutant {
     pub fn shows_in(self, field: Field) -> bool {
         use Mutant::*;
         match self {
-            SixForSeven => field == Field::GOLDILOCKS,
+            SixForSeven | FirstCoordinates => field == Field::GOLDILOCKS,
             SecondTaken | OtherModulus | SecondLeftOut => field == Field::BABY_BEAR,
             _ => true,
         }

@@ -10,7 +10,7 @@ pub const LIMIT: u64 = 4_096;
 /// The most roots of a list.
 pub const MOST_ROOTS: usize = 8;
 
-/// The most entries of an assignment.
+/// The most entries of an assignment or a layout.
 pub const ENTRIES: u64 = 4_096;
 
 /// The most columns.
@@ -110,6 +110,26 @@ pub fn check_assignment(field: Field, store: &[u64], m: u64) -> Result<Vec<Recor
     match entries.iter().position(|&[key, c0, c1]| !is_key(key) || !field.has([c0, c1])) {
         Some(place) => Err(Refusal::at(4, place)),
         None => Ok(entries),
+    }
+}
+
+/// The place of the first of these numbers that no key has.
+pub(crate) fn layout_fault(keys: &[u64]) -> Option<usize> {
+    keys.iter().position(|&key| !is_key(key))
+}
+
+/// The keys of a layout that passes its tests.
+pub fn check_layout(store: &[u64], k: u64) -> Result<Vec<u64>, Refusal> {
+    if k > ENTRIES {
+        return Err(Refusal::new(11));
+    }
+    if (store.len() as u64) < k {
+        return Err(Refusal::new(2));
+    }
+    let keys = &store[..k as usize];
+    match layout_fault(keys) {
+        Some(place) => Err(Refusal::at(4, place)),
+        None => Ok(keys.to_vec()),
     }
 }
 

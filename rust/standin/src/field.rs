@@ -50,6 +50,12 @@ pub trait TwoAdicField: Field {
     fn two_adic_generator(bits: usize) -> Self;
 }
 
+/// A field whose elements have two coordinates of another one.
+pub trait ExtensionField<F>: Field {
+    /// The coordinates; the crate that this stands in for lends a slice of them.
+    fn as_basis_coefficients_slice(&self) -> [F; 2];
+}
+
 /// The generators of order 2^0 to 2^(N − 1): `last` is the last, each of the others is the square
 /// of the next.
 const fn generators<const N: usize>(last: u64, modulus: u64) -> [u64; N] {

@@ -8,7 +8,7 @@ use std::path::{Path, PathBuf};
 use std::process::{Command, Output};
 
 /// The exported functions.
-const EXPORTED: [&str; 9] = [
+const EXPORTED: [&str; 10] = [
     "ace_interface",
     "ace_step",
     "ace_build",
@@ -18,6 +18,7 @@ const EXPORTED: [&str; 9] = [
     "ace_prepare",
     "ace_lower",
     "ace_draw",
+    "ace_emit",
 ];
 
 /// The repository's root.
@@ -220,9 +221,20 @@ n2 -> n1;
 refused 41 0
 "#;
 
+/// What examples/c/emit.c prints: 10 − 4, −2, their product −12, its square; then the refusal of
+/// another root.
+const EMITTED: &str = "\
+constants 2 operations 4
+node 3 is 6
+node 2 is 2013265919
+node 1 is 2013265909
+node 0 is 144
+refused 43 0
+";
+
 #[test]
 fn the_examples_link_and_run() {
-    for (name, printed) in [("normalise", NORMALISED), ("draw", DRAWN)] {
+    for (name, printed) in [("normalise", NORMALISED), ("draw", DRAWN), ("emit", EMITTED)] {
         let program = Path::new(env!("CARGO_TARGET_TMPDIR")).join(name);
         let path = program.to_str().expect("a path in UTF-8");
         let source = format!("examples/c/{name}.c");

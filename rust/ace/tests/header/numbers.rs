@@ -2,7 +2,7 @@
 
 use std::collections::BTreeMap;
 
-use ace::{Field, Refusal, words};
+use ace::{Field, Kind, Refusal, words};
 
 use super::text;
 
@@ -64,6 +64,15 @@ fn drawn(room: usize) -> Vec<u64> {
     answered(|answer| words::draw(1, &[0, 0, 0], 1, &[0], &mut text, answer))
 }
 
+/// Input 0 and its negation: 16 words.
+const NEGATED: [u64; 6] = [0, 0, 0, 5, 0, 0];
+
+/// What Emit answers in field 1 to two records, with these keys and this room for its words.
+fn emitted(list: &[u64; 6], root: u64, keys: &[u64], room: usize) -> Vec<u64> {
+    let (k, mut result) = (keys.len() as u64, vec![9; room]);
+    answered(|answer| words::emit(1, list, 2, &[root], keys, k, &mut result, answer))
+}
+
 /// What Lower answers to a column of one entry on an empty list, and the result store.
 fn lowered(field: u64, period: u64, work: u64) -> (Vec<u64>, Vec<u64>) {
     let (mut result, mut work, mut places) = (vec![9; 300], vec![9; work as usize], [9]);
@@ -91,6 +100,9 @@ fn refusals() -> Vec<(&'static str, Vec<u64>, u64)> {
         ("LENGTH", prepared(&[1, 3]), 1),
         ("PERIOD", lowered(1, 0, 12_288).0, 0),
         ("TEXT", drawn(0), 0),
+        ("OPERATIONS", emitted(&[0; 6], 1, &[0, 0], 16), 0),
+        ("LAST", emitted(&NEGATED, 0, &[0, 0], 16), 0),
+        ("ODD", emitted(&NEGATED, 1, &[0], 16), 0),
         ("FIELD", stepped(3, 0, 0, 0), 0),
     ]
 }
@@ -118,40 +130,35 @@ fn every_refusal_has_the_reason_that_the_rust_gives() {
     }
 }
 
-#[test]
-fn every_limit_is_where_the_calls_begin_to_refuse() {
+/// Each limit of the header: what a call answers within it and beyond it, and how it refuses.
+fn limits() -> Vec<(&'static str, [Vec<u64>; 2], u64)> {
     let defined = defined();
     let of = |name: &str| defined[name];
-    let records = of("MOST_RECORDS");
-    let entries = of("MOST_ENTRIES");
-    let (columns, longest) = (vec![1; of("MOST_COLUMNS") as usize], of("LONGEST_COLUMN"));
-    let work = of("LOWER_WORK");
-    let period = |field, period| lowered(field, period, work).0;
-    let (p, q) = (of("FIELD_P"), of("FIELD_Q"));
-    let (longest_p, longest_q) = (of("LONGEST_PERIOD"), of("LONGEST_PERIOD_Q"));
-    for (name, within, outside, number) in [
-        (
-            "records",
-            compacted(&inputs(records), records, &[0]),
-            compacted(&inputs(records + 1), records + 1, &[0]),
-            1,
-        ),
-        ("roots", rooted(of("MOST_ROOTS")), rooted(of("MOST_ROOTS") + 1), 46),
-        (
-            "entries",
-            evaluated(&[0, 0, 0], 1, &inputs(entries), entries),
-            evaluated(&[0, 0, 0], 1, &inputs(entries + 1), entries + 1),
-            11,
-        ),
-        ("columns", prepared(&columns), prepared(&[&columns[..], &[1]].concat()), 13),
-        ("column", prepared(&[longest]), prepared(&[2 * longest]), 14),
-        ("period", period(p, longest_p), period(p, 2 * longest_p), 15),
-        ("period in q", period(q, longest_q), period(q, 2 * longest_q), 15),
-        ("work", lowered(p, 1, work).0, lowered(p, 1, work - 1).0, 2),
-        ("text", drawn(33), drawn(32), 41),
-        ("p", stepped(p, 3, 1, of("P") - 1), stepped(p, 3, 1, of("P")), 4),
-        ("q", stepped(q, 3, 1, of("Q") - 1), stepped(q, 3, 1, of("Q")), 4),
-    ] {
+    let more = |name: &str| [of(name), of(name) + 1];
+    let twice = |name: &str| [of(name), 2 * of(name)];
+    let below = |name: &str| [of(name) - 1, of(name)];
+    let (p, q, work) = (of("FIELD_P"), of("FIELD_Q"), of("LOWER_WORK"));
+    let keyed = |k| emitted(&NEGATED, 1, &(0..k).collect::<Vec<u64>>(), 16);
+    vec![
+        ("records", more("MOST_RECORDS").map(|n| compacted(&inputs(n), n, &[0])), 1),
+        ("roots", more("MOST_ROOTS").map(rooted), 46),
+        ("entries", more("MOST_ENTRIES").map(|m| evaluated(&[0; 3], 1, &inputs(m), m)), 11),
+        ("columns", more("MOST_COLUMNS").map(|n| prepared(&vec![1; n as usize])), 13),
+        ("column", twice("LONGEST_COLUMN").map(|length| prepared(&[length])), 14),
+        ("period", twice("LONGEST_PERIOD").map(|period| lowered(p, period, work).0), 15),
+        ("period in q", twice("LONGEST_PERIOD_Q").map(|period| lowered(q, period, work).0), 15),
+        ("work", [work, work - 1].map(|work| lowered(p, 1, work).0), 2),
+        ("text", [33, 32].map(drawn), 41),
+        ("keys", more("MOST_KEYS").map(keyed), 11),
+        ("words", [16, 15].map(|room| emitted(&NEGATED, 1, &[0, 0], room)), 2),
+        ("p", below("P").map(|first| stepped(p, 3, 1, first)), 4),
+        ("q", below("Q").map(|first| stepped(q, 3, 1, first)), 4),
+    ]
+}
+
+#[test]
+fn every_limit_is_where_the_calls_begin_to_refuse() {
+    for (name, [within, outside], number) in limits() {
         assert_eq!((within[0], outside[0]), (0, number), "{name}");
     }
 }
@@ -161,6 +168,7 @@ fn answers_blank_and_zk_are_the_header_s() {
     let defined = defined();
     assert_eq!(defined["ANSWER_WORDS"] as usize, stepped(1, 3, 0, 0).len());
     assert_eq!(defined["ANSWER_WORDS"] as usize, drawn(33).len());
+    assert_eq!(defined["ANSWER_WORDS"] as usize, emitted(&NEGATED, 1, &[0, 0], 16).len());
     assert_eq!(defined["LIST_WORDS"] as usize, rooted(1).len());
     assert_eq!(defined["EVALUATE_WORDS"] as usize, evaluated(&[1, 0, 0], 1, &[], 0).len());
     assert_eq!(defined["PREPARE_WORDS"] as usize, prepared(&[1]).len());
@@ -198,10 +206,15 @@ fn every_number_of_the_header_is_tested() {
         "BLANK",
         "DRAWING_BYTES",
         "DRAWING_RECORD_BYTES",
+        "EMITTED_RECORD_WORDS",
+        "EMITTED_WORDS",
         "EVALUATE_WORDS",
         "FIELD_P",
         "FIELD_Q",
         "INTERFACE",
+        "KIND_ADD",
+        "KIND_MUL",
+        "KIND_SUB",
         "LIST_WORDS",
         "LONGEST_COLUMN",
         "LONGEST_PERIOD",
@@ -209,6 +222,7 @@ fn every_number_of_the_header_is_tested() {
         "LOWER_WORK",
         "MOST_COLUMNS",
         "MOST_ENTRIES",
+        "MOST_KEYS",
         "MOST_RECORDS",
         "MOST_ROOTS",
         "P",
@@ -234,6 +248,40 @@ fn a_drawing_has_at_most_the_headers_bytes() {
     // Place 0 has one digit for four.
     assert_eq!(length(1) + 3, ends + record);
     assert!(length(4_096) <= ends + record * 4_096);
+}
+
+/// The words emitted of two constants other than 0 and negations, n records, or the refusal's
+/// number; of 3 records and 8k more, these are the most words there are.
+fn most_emitted(n: u64, room: u64) -> Result<u64, u64> {
+    let chain = (2..n).flat_map(|place| [5, place - 1, 0]);
+    let list: Vec<u64> = [1, 5, 0, 1, 6, 0].into_iter().chain(chain).collect();
+    let mut result = vec![9; room as usize];
+    let emitted = ace::emit(Field::Goldilocks, &list, n, &[n - 1], &[], 0, &mut result);
+    emitted.map(|emitted| emitted.words(0)).map_err(|refusal| refusal.number)
+}
+
+#[test]
+fn an_emission_has_at_most_the_headers_words() {
+    let sizes = defined();
+    let [ends, record] = ["EMITTED_WORDS", "EMITTED_RECORD_WORDS"].map(|name| sizes[name]);
+    for n in [3, 11, 4_091] {
+        let most = ends + record * n;
+        assert_eq!([most, most - 1].map(|room| most_emitted(n, room)), [Ok(most), Err(2)]);
+    }
+}
+
+#[test]
+fn an_operation_has_the_header_s_kinds() {
+    let sizes = defined();
+    for (tag, name, kind) in
+        [(2, "KIND_ADD", Kind::Add), (3, "KIND_SUB", Kind::Sub), (4, "KIND_MUL", Kind::Mul)]
+    {
+        let mut result = [9; 32];
+        let list = [0, 0, 0, tag, 0, 0];
+        ace::emit(Field::Goldilocks, &list, 2, &[1], &[0, 0], 2, &mut result).expect("a list");
+        assert_eq!(result[0], sizes[name]);
+        assert_eq!(Kind::of(result[0]), Some(kind));
+    }
 }
 
 /// The variants that the header lists: number, name and how many fields.

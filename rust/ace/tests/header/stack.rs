@@ -52,6 +52,10 @@ fn calls_on_a_long_chain_of_negations() {
             let mut text = vec![9; 65 * MOST as usize];
             ace::draw(field, &negations(), MOST, &ROOTS, &mut text).is_ok()
         }));
+        assert!(on_the_stack(move || {
+            let mut result = vec![9; 4 * MOST as usize];
+            ace::emit(field, &negations(), MOST, &[MOST - 1], &[0, 1], 2, &mut result).is_ok()
+        }));
     }
 }
 
@@ -60,12 +64,26 @@ fn mixed(count: u64) -> Vec<u64> {
     (0..count).map(|i| i * i * 479 + 3).collect()
 }
 
+/// Two inputs, then a constant, none of them alike, and a product in turn.
+fn operations(field: Field) -> Vec<u64> {
+    let records = (2..MOST).flat_map(|place| match place % 2 {
+        0 => [1, field.modulus() - place, 0],
+        _ => [4, place - 1, place - 2],
+    });
+    [0, 0, 0, 0, MOST - 1, 0].into_iter().chain(records).collect()
+}
+
 #[test]
 fn calls_on_many_entries_and_columns() {
     for field in Field::ALL {
         assert!(on_the_stack(move || {
             let entries: Vec<u64> = (0..MOST).flat_map(|key| [key, 1, 0]).collect();
             ace::evaluate(field, &negations(), MOST, &ROOTS, &entries, MOST).is_ok()
+        }));
+        assert!(on_the_stack(move || {
+            let (list, layout, root) = (operations(field), Vec::from_iter(0..MOST), MOST - 1);
+            let mut result = vec![9; 4 * MOST as usize];
+            ace::emit(field, &list, MOST, &[root], &layout, MOST, &mut result).is_ok()
         }));
         assert!(on_the_stack(move || ace::prepare(field, &[128; 16], &mixed(2_048)).is_ok()));
         assert!(on_the_stack(move || {

@@ -3,7 +3,7 @@
 use model::field::{P, Q};
 use model::{Call, Case, Field, LIMIT, LOWER_WORK, MOST_ROOTS, records};
 
-use super::drawings;
+use super::{circuits, drawings};
 use crate::Rng;
 
 /// Numbers of records that wrap, are too many, or are none.
@@ -82,6 +82,7 @@ pub(super) fn faults(case: &Case, rng: &mut Rng) -> Vec<Fault> {
             "list" => list_words(case, place, rng),
             "roots" => root_words(case, place),
             "assignment" => assignment_words(case, place, rng),
+            "layout" => layout_words(case, place, rng),
             "lengths" => length_words(case, place, rng),
             "entries" => entry_words(case, place, rng),
             _ => vec![],
@@ -112,10 +113,12 @@ fn needed(case: &Case, store: &str) -> usize {
         ("list", Call::Step) => 3 * (n + 1),
         ("work", Call::Lower) => LOWER_WORK,
         ("result", Call::Lower) => case.stores[3].len(),
+        ("result", Call::Emit) => circuits::length(case),
         ("work", _) => 6 * n,
         ("map", _) => n,
         ("roots", _) => case.stores[1].len(),
         ("assignment", _) => 3 * counted(case, "m"),
+        ("layout", _) => counted(case, "k"),
         ("lengths", _) => 16,
         ("entries", Call::Prepare) => total(&case.stores[0]),
         ("entries", _) => total(&case.stores[1]),
@@ -139,7 +142,7 @@ fn values(case: &Case, name: &str) -> Vec<u64> {
     match name {
         "field" => NO_FIELD.to_vec(),
         "n" => [&COUNTS[..], &[n.wrapping_add(1), n.wrapping_sub(1), n | 1 << 32]].concat(),
-        "m" => [&COUNTS[..], &[own.wrapping_add(1), own.wrapping_sub(1)]].concat(),
+        "m" | "k" => [&COUNTS[..], &[own.wrapping_add(1), own.wrapping_sub(1)]].concat(),
         "tag" => vec![0, 1, 2, 3, 4, 5, 6, 1 << 32 | 2, u64::MAX],
         "first" | "second" => {
             let keys = [22 << 48, 1 << 48 | 1, 1 << 16];
@@ -218,6 +221,22 @@ fn assignment_words(case: &Case, store: usize, rng: &mut Rng) -> Vec<Fault> {
         for coordinate in COORDINATES {
             faults.push(Fault::Word(store, 3 * place + 1, coordinate));
             faults.push(Fault::Word(store, 3 * place + 2, coordinate));
+        }
+    }
+    faults
+}
+
+/// Changes of the first, the last and another key.
+fn layout_words(case: &Case, store: usize, rng: &mut Rng) -> Vec<Fault> {
+    let keys = counted(case, "k").min(case.stores[store].len());
+    if keys == 0 {
+        return vec![];
+    }
+    let own = case.stores[store][0];
+    let mut faults = Vec::new();
+    for place in [0, keys - 1, rng.below(keys as u64) as usize] {
+        for key in [22 << 48, 1 << 48 | 1, u64::MAX, 9, own] {
+            faults.push(Fault::Word(store, place, key));
         }
     }
     faults

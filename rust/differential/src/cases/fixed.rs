@@ -4,6 +4,7 @@ use std::ops::ControlFlow::Continue;
 
 use model::{Call, Case, Field, Judge, LIMIT, Record, ZK, overhead};
 
+use super::circuits;
 use super::columns::{column, saving_exactly};
 use super::exhaustive::unit_columns;
 use super::faults::{Fault, NO_FIELD, PERIODS, faults};
@@ -270,6 +271,7 @@ fn bases(call: Call, field: Field, rng: &mut Rng) -> Vec<Case> {
             let full = column_case(call, field, rng, &inputs(LIMIT), &[], 1, 3 * LIMIT as usize);
             vec![few, most, full]
         }
+        Call::Emit => circuits::bases(field, rng),
         _ => {
             let full = inputs(LIMIT);
             vec![

@@ -2,7 +2,7 @@
 
 use model::{Call, Case, Field, Judge, LIMIT, LOWER_WORK, Record, ZK, words};
 
-use super::{columns, drawings, lists};
+use super::{circuits, columns, drawings, lists};
 use crate::{Rng, Rust};
 
 /// Words that a store may hold before a call.
@@ -74,6 +74,11 @@ pub fn list_case(call: Call, field: Field, rng: &mut Rng, list: &[Record], roots
             stores.push(source(rng, words(&entries)));
         }
         Call::Draw => stores.push(drawings::text(field, rng, list)),
+        Call::Emit => {
+            let layout = circuits::layout(rng, list);
+            scalars.push(layout.len() as u64);
+            stores.extend([source(rng, layout), circuits::result(rng, list)]);
+        }
         _ => panic!("no call on a list with roots"),
     }
     Case { call, scalars, stores }

@@ -1,5 +1,6 @@
 //! The cases that are compared: corners by hand, short lists exhaustively, the rest at random.
 
+mod circuits;
 mod columns;
 mod drawings;
 mod exhaustive;
@@ -15,6 +16,7 @@ use model::{Call, Case, Field, Record};
 
 use crate::Rng;
 
+pub use circuits::{alternating, operations};
 pub use files::{LONGEST_FILE, LONGEST_LENGTH, fixed_files, random_file};
 pub use lists::{chain, colliding, expression, small_lists, unchanged};
 pub use make::{column_case, list_case};
@@ -39,6 +41,10 @@ pub fn fixed(call: Call, field: Field, rng: &mut Rng, thorough: bool, sink: Sink
         Call::Draw => {
             fixed::rooted(call, field, rng, thorough, sink)?;
             drawings::fixed(field, rng, sink)
+        }
+        Call::Emit => {
+            fixed::rooted(call, field, rng, thorough, sink)?;
+            circuits::fixed(field, rng, sink)
         }
         _ => fixed::rooted(call, field, rng, thorough, sink),
     }
@@ -76,7 +82,10 @@ pub fn random(call: Call, field: Field, rng: &mut Rng) -> Case {
         Call::Prepare | Call::Lower => make::random_columns(call, field, rng),
         _ => {
             let list = rooted_list(call, field, rng);
-            let root = lists::root(rng, &list);
+            let root = match call {
+                Call::Emit => circuits::root(rng, &list),
+                _ => lists::root(rng, &list),
+            };
             make::list_case(call, field, rng, &list, &[root])
         }
     };

@@ -2,7 +2,7 @@
 
 use core::ops::{Add, Mul, Neg, Sub};
 
-use super::{Field, TwoAdicField, generators};
+use super::{ExtensionField, Felt, Field, TwoAdicField, generators};
 
 /// The modulus q = 2^31 − 2^27 + 1, in a word of an element.
 const MODULUS: u32 = 0x7800_0001;
@@ -81,6 +81,14 @@ impl TwoAdicField for BabyBear {
     fn two_adic_generator(bits: usize) -> Self {
         assert!(bits <= TWO_ADICITY, "q − 1 has no such power of two");
         Self::new(GENERATORS[bits])
+    }
+}
+
+/// In a stream, whose elements are those modulo p, a residue is its word and a zero.
+impl ExtensionField<Felt> for BabyBear {
+    #[inline]
+    fn as_basis_coefficients_slice(&self) -> [Felt; 2] {
+        [Felt::from_lowest(self.word()), Felt::ZERO]
     }
 }
 

@@ -2,7 +2,7 @@
 
 use core::ops::{Add, Mul, Neg, Sub};
 
-use super::{Field, TwoAdicField, generators};
+use super::{ExtensionField, Field, TwoAdicField, generators};
 
 /// The modulus p = 2^64 − 2^32 + 1.
 const MODULUS: u64 = 0xffff_ffff_0000_0001;
@@ -27,6 +27,8 @@ impl Felt {
     /// The modulus p.
     pub const MODULUS: u64 = MODULUS;
 
+    pub const ZERO: Self = Self(0);
+
     /// The element of a word below p.
     pub fn new(word: u64) -> Self {
         assert!(word < MODULUS, "a coordinate is below the modulus");
@@ -38,6 +40,18 @@ impl Felt {
     pub fn from_lowest(word: u64) -> Self {
         debug_assert!(word < MODULUS, "a coordinate is below the modulus");
         Self(word)
+    }
+
+    /// The element of a word below p, under the name that streams are written with.
+    #[inline]
+    pub fn new_unchecked(word: u64) -> Self {
+        Self::from_lowest(word)
+    }
+
+    /// The word of this element, under the name that streams are read with.
+    #[inline]
+    pub fn as_canonical_u64(&self) -> u64 {
+        self.word()
     }
 
     /// high · 2^64 + low modulo p.
@@ -111,7 +125,7 @@ impl Neg for Felt {
 }
 
 impl Field for Felt {
-    const ZERO: Self = Self(0);
+    const ZERO: Self = Self::ZERO;
     const ONE: Self = Self(1);
 
     fn inverse(&self) -> Self {
@@ -189,6 +203,13 @@ impl Field for QuadFelt {
         let norm = self.c0 * self.c0 - U_SQUARED * (self.c1 * self.c1);
         let scale = norm.inverse();
         Self::new(self.c0 * scale, -self.c1 * scale)
+    }
+}
+
+impl ExtensionField<Felt> for QuadFelt {
+    #[inline]
+    fn as_basis_coefficients_slice(&self) -> [Felt; 2] {
+        [self.c0, self.c1]
     }
 }
 

@@ -1,6 +1,6 @@
 //! The calls of the Rust on records of three words.
 
-use miden_crypto::field::{BabyBear, Felt, Field, QuadFelt, TwoAdicField};
+use miden_crypto::field::{BabyBear, ExtensionField, Felt, QuadFelt, TwoAdicField};
 
 use super::builder::DagBuilder;
 use super::drawing;
@@ -74,7 +74,7 @@ pub(super) fn number(key: InputKey) -> u64 {
 }
 
 /// An element of a field of the calls, by the words of its coordinates.
-pub trait Element: Field + From<Self::Entry> {
+pub trait Element: ExtensionField<Felt> + From<Self::Entry> {
     /// An entry of a column.
     type Entry: TwoAdicField;
 
@@ -349,7 +349,7 @@ impl<E: Element> Nodes<E> {
 }
 
 /// A list with its root, for measuring without the words.
-pub struct Dag<E>(AceDag<E>);
+pub struct Dag<E>(pub(in crate::compiler) AceDag<E>);
 
 impl<E: Element> Dag<E> {
     /// The DAG of these records.
