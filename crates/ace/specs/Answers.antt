@@ -66,7 +66,7 @@ abbrev pub form_words : List Form → List ℕ
 form_words fs = 0 ∷ length fs ∷ padded 0 most_columns (map form_number fs)
 
 abbrev pub prepare_words : Result Prepared Refusal → List ℕ
-prepare_words (Ok p) = form_words p.forms.items
+prepare_words (Ok p) = form_words p
 prepare_words (Err r) = refused_words prepare_width r
 
 -- one number: a list's count, a text's length

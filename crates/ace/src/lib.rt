@@ -75,7 +75,7 @@ fn list_words(answer: Result<RootedDag, Refusal>) -> [u64; LIST_WORDS]
     ensures { result ≡ Answers.list_words answer }
 {
     match answer {
-        Ok(list) => accepted_words(list.count, 0, &list.roots.places),
+        Ok(list) => accepted_words(list.count, 0, list.roots.as_slice()),
         Err(r) => refused_words(r),
     }
 }
@@ -86,7 +86,7 @@ fn normalize_words(answer: Result<NormalEnd, Refusal>) -> [u64; LIST_WORDS]
     ensures { result ≡ Answers.normalize_words answer }
 {
     match answer {
-        Ok(end) => accepted_words(end.dag.count, end.rounds, &end.dag.roots.places),
+        Ok(end) => accepted_words(end.dag.count, end.rounds, end.dag.roots.as_slice()),
         Err(r) => refused_words(r),
     }
 }
@@ -132,7 +132,7 @@ fn prepare_words(answer: Result<Prepared, Refusal>) -> [u64; PREPARE_WORDS]
     ensures { result ≡ Answers.prepare_words answer }
 {
     match answer {
-        Ok(Prepared { forms }) => form_words(&forms),
+        Ok(prepared) => form_words(prepared.as_slice()),
         Err(r) => refused_words(r),
     }
 }

@@ -308,7 +308,8 @@ impl<'list, 'index, 'links> DagBuilder<'list, 'index, 'links> {
         place
     }
 
-    // Enters one request; answers its place.
+    // Enters one request; answers its place. Inlined, so that no request goes by memory.
+    #[inline(always)]
     pub fn push(&mut self, x: NodeKind) -> usize
         requires { Promises.Request (field_of self.old.prime) (interleaved self.old.list.now) self.old.count x × Promises.Room self.old.list.now self.old.count self.old.index.now.links.now }
         ensures same { Promises.SameStores self.old self.new }

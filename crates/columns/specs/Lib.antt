@@ -1,4 +1,5 @@
 pub mod Columns
+pub mod FormCells
 pub mod Prepare
 pub mod Promises
 pub mod Held

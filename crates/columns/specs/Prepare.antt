@@ -48,7 +48,7 @@ forms m cs = up_to (form m cs) (length cs)
 
 -- the answer to columns that were tested
 unfoldable pub answer : ℕ → List (List ℕ) → Checked → Result Prepared Refusal
-answer m cs (Ok u) = Ok (record { forms = record { items = forms m cs } })
+answer m cs (Ok u) = Ok (forms m cs)
 answer m cs (Err r) = Err r
 
 unfoldable pub prepare : ℕ → List ℕ → List ℕ → Result Prepared Refusal

@@ -108,7 +108,7 @@ pub prepare_refused : (m : ℕ) (ls es : List ℕ) (r : Refusal) → prepare_che
 unfolding prepare answer
 prepare_refused m ls es r e = rw e
 
-pub prepare_good : (m : ℕ) (ls es : List ℕ) (p : Prepared) → prepare_check m ls es ≡ Ok tt → p.forms.items ≡ forms m (columns ls es) → Ok p ≡ prepare m ls es
+pub prepare_good : (m : ℕ) (ls es : List ℕ) (p : Prepared) → prepare_check m ls es ≡ Ok tt → p ≡ forms m (columns ls es) → Ok p ≡ prepare m ls es
 unfolding prepare answer
 prepare_good m ls es p good e = rw (good, ← e)
 

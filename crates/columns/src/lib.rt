@@ -2,16 +2,18 @@
 #![tactic(auto)]
 
 ghost use Rattle.field.specs.Field.{modulus_of};
-ghost use Rattle.std.specs.Prelude.{◌≡◌, ℕ, ◌^◌, ◌<◌, ◌≤◌, length, All};
+ghost use Rattle.std.specs.Prelude.{◌≡◌, ℕ, ◌^◌, ◌<◌, ◌≤◌, [], ◌∷◌, ◌++◌, length, All};
 ghost use Rattle.dag.specs.Refusals as Refusals;
 ghost use Rattle.columns.specs.Columns as Spec;
 ghost use Rattle.columns.specs.Prepare as Prepare;
+ghost use Rattle.columns.specs.Prepare.{most_columns};
 ghost use Rattle.columns.specs.Promises as Promises;
 ghost use Rattle.dag.specs.Arrays.{up_to};
 
 use arrayvec::ArrayVec;
 use dag::Refusal;
 use field::{Prime, felt};
+use std::marker::Model;
 
 // The most columns.
 pub const MOST_COLUMNS: usize = 16;
@@ -31,10 +33,62 @@ pub enum Form {
     Basis,
 }
 
-// Prepare's answer: each column's form.
-#[derive(Drop)]
+// Prepare's answer, each column's form: the first `len` cells, sparse behind them.
+#[derive(Clone, Copy)]
 pub struct Prepared {
-    pub forms: ArrayVec<Form, MOST_COLUMNS>,
+    cells: [Form; MOST_COLUMNS],
+    len: usize,
+}
+
+impl Model for Prepared {
+    ghost use Rattle.std.specs.Prelude.{List};
+    ghost use Rattle.columns.specs.declared.Form.{Form};
+
+    ghost Value = { List Form };
+
+    ghost use Rattle.columns.specs.FormCells.{forms_in, IsPadded, padded, padded_forms};
+
+    ghost view = { forms_in };
+
+    ghost invariant = { IsPadded };
+
+    ghost inverse = { padded };
+
+    ghost inverse_ok = { padded_forms };
+}
+
+impl Prepared {
+    // These forms.
+    fn of(forms: &[Form]) -> Prepared
+        requires { length forms.now ≤ most_columns }
+        ensures { result ≡ forms.now }
+    {
+        let mut prepared = Prepared {
+            cells: [Form::Sparse; MOST_COLUMNS],
+            len: 0,
+        };
+        for form in forms {
+            prepared.push(*form);
+        }
+        prepared
+    }
+
+    // One form more, behind the others.
+    fn push(&mut self, form: Form)
+        requires { length self.old < most_columns }
+        ensures { self.new ≡ self.old ++ form ∷ [] }
+    {
+        self.cells[self.len] = form;
+        self.len += 1;
+    }
+
+    // The columns' forms.
+    pub fn as_slice(&self) -> &[Form]
+        ensures value { result.now ≡ self.now }
+        ensures fits { length result.now ≤ most_columns }
+    {
+        &self.cells[..self.len]
+    }
 }
 
 // The greatest k up to `most` with 2^k at most n, else 0.
@@ -126,7 +180,8 @@ fn standalone(col: &[u64]) -> usize
 // A column's values, each once in order of their first places.
 pub fn values<const N: usize>(col: &[u64]) -> ArrayVec<u64, N>
     requires { length col.now ≤ N }
-    ensures { result.items ≡ Spec.values col.now }
+    ensures value { result.items ≡ Spec.values col.now }
+    ensures few { length result.items ≤ length col.now }
 {
     let mut values = ArrayVec::new();
     for v in col {
@@ -466,7 +521,5 @@ pub fn prepare(prime: Prime, lengths: &[u64], entries: &[u64]) -> Result<Prepare
     ensures { result ≡ Prepare.prepare (modulus_of prime) lengths.now entries.now }
 {
     let columns = Columns::new(prime, lengths, entries)?;
-    Ok(Prepared {
-        forms: Weighed::new(columns).forms(),
-    })
+    Ok(Prepared::of(&Weighed::new(columns).forms()))
 }

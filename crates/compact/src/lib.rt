@@ -39,7 +39,7 @@ fn mark_reachable(list: &[u64], n: usize, roots: &Roots, reachable: &mut [bool])
     requires { Markable (interleaved list.now) n roots.now (length reachable.old) }
     ensures { reachable.new ≡ Reach.sweep (Nodes.nodes (interleaved list.now) n) n (Reach.marked reachable.old (roots_of roots.now)) }
 {
-    mark(reachable, &roots.places);
+    mark(reachable, roots.as_slice());
     for i in (0..n).rev() {
         if reachable[i] {
             mark(reachable, &dag::node_at(list, i).operands());

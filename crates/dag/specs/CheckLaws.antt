@@ -26,6 +26,10 @@ pub need_good : (t : Bool) (r : Refusal) → need t r ≡ Ok tt → t ≡ true
 need_good true r e = refl
 need_good false r e = let z : ◌≡◌ {A = ℕ} 0 1 = cc in absurd (omega arith)
 
+pub not_refused : (c : Checked) → is_refused c ≡ false → c ≡ Ok tt
+not_refused (Ok u) e = refl
+not_refused (Err r) e = absurd (true≢false e)
+
 pub refused_then : (c d : Checked) → is_refused c ≡ true → c ≡ c then d
 refused_then (Ok u) d e = absurd (true≢false (sym e))
 refused_then (Err r) d e = refl

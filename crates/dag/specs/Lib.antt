@@ -6,6 +6,8 @@ pub mod Check
 pub mod Lookup
 pub mod WellFormed
 pub mod Arrays
+pub mod Cells
+pub mod RootCells
 pub mod Roots
 pub mod Store
 pub mod Held
@@ -25,4 +27,5 @@ pub mod OperandLaws
 pub mod WordLaws
 pub mod BlankLaws
 pub mod ArrayLaws
+pub mod CellLaws
 pub mod RootLaws

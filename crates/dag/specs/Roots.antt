@@ -8,11 +8,11 @@ most_roots = 8
 
 -- the places that are roots
 unfoldable pub roots_of : Roots → List ℕ
-roots_of r = r.places.items
+roots_of r = r
 
 -- these roots
 unfoldable pub roots_from : List ℕ → Roots
-roots_from is = record { places = record { items = is } }
+roots_from is = is
 
 -- the roots of a list of n records: one to eight of its places
 pub record Inside (n : ℕ) (r : Roots) : Type 0 where

@@ -31,6 +31,10 @@ module _ (u v : View) where
   pub agree_less : (n k : ℕ) → k ≤ n → Agree u v n → Agree u v k
   agree_less n k h a = record { tags = λ i j. a.tags i (omega arith); firsts = λ i j. a.firsts i (omega arith); seconds = λ i j. a.seconds i (omega arith) }
 
+  pub agree_trans : (w : View) (n : ℕ) → Agree u v n → Agree v w n → Agree u w n
+  agree_trans w n a b =
+      record { tags = λ i h. a.tags i h ∙ b.tags i h; firsts = λ i h. a.firsts i h ∙ b.firsts i h; seconds = λ i h. a.seconds i h ∙ b.seconds i h }
+
   pub agree_record : (n : ℕ) → Agree u v n → (i : ℕ) → i < n → record_at u i ≡ record_at v i
   unfolding record_at
   agree_record n a i h = rw (a.tags i h, a.firsts i h, a.seconds i h)

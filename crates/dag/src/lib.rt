@@ -16,6 +16,7 @@ ghost use Rattle.dag.specs.Roots.{most_roots, roots_of, roots_from, Inside};
 
 use arrayvec::ArrayVec;
 use field::{Prime, QuadFelt, felt};
+use std::marker::Model;
 
 // The word behind the last one filled.
 pub const BLANK: u64 = 0;
@@ -54,14 +55,31 @@ pub struct Words {
     pub second: u64,
 }
 
-// A list's roots, in their order.
-#[derive(Drop)]
+// A list's roots, in their order: the first `len` cells, 0 behind them.
+#[derive(Clone, Copy)]
 pub struct Roots {
-    pub places: ArrayVec<usize, MOST_ROOTS>,
+    cells: [usize; MOST_ROOTS],
+    len: usize,
+}
+
+impl Model for Roots {
+    ghost use Rattle.std.specs.Prelude.{ℕ, List};
+
+    ghost Value = { List ℕ };
+
+    ghost use Rattle.dag.specs.RootCells.{places, IsPadded, padded, padded_places};
+
+    ghost view = { places };
+
+    ghost invariant = { IsPadded };
+
+    ghost inverse = { padded };
+
+    ghost inverse_ok = { padded_places };
 }
 
 // A list's count and its roots.
-#[derive(Drop)]
+#[derive(Clone, Copy)]
 pub struct RootedDag {
     pub count: usize,
     pub roots: Roots,
@@ -174,40 +192,44 @@ pub fn lowest(prime: Prime, c0: u64, c1: u64) -> bool
     c0 < felt::modulus(prime) && c1 < felt::second_below(prime)
 }
 
-// Whether the record x may have these words, which it is decoded from.
-#[tactic(auto, unfolding(crate::specs::Nodes::decode, crate::specs::Check::formed))]
-fn formed(prime: Prime, x: NodeKind, w: Words) -> bool
-    requires { (w.tag ≤ 5) × (x ≡ Nodes.decode w.tag w.first w.second) }
+// Whether a record may have these words.
+#[tactic(auto, unfolding(crate::specs::Check::formed))]
+fn formed(prime: Prime, w: Words) -> bool
     ensures { result ≡ Check.formed (field_of prime).bounds w.tag w.first w.second }
 {
-    match x {
-        NodeKind::Input(k) => is_key(k) && w.second == 0,
-        NodeKind::Constant(c) => lowest(prime, c.c0, c.c1),
-        NodeKind::Neg(_) => w.second == 0,
+    match w.tag {
+        0 => is_key(w.first) && w.second == 0,
+        1 => lowest(prime, w.first, w.second),
+        5 => w.second == 0,
         _ => true,
     }
 }
 
 // Whether a record's operands come before place i.
-fn earlier(x: NodeKind, i: usize) -> bool
-    ensures { result ≡ Check.earlier (Nodes.tag x) (Nodes.first x) (Nodes.second x) i }
+#[tactic(auto, unfolding(crate::specs::Check::earlier))]
+fn earlier(w: Words, i: usize) -> bool
+    ensures { result ≡ Check.earlier w.tag w.first w.second i }
 {
-    x.operands().iter().all(|a| *a < i)
+    let place = i as u64;
+    match w.tag {
+        0 | 1 => true,
+        5 => w.first < place,
+        _ => w.first < place && w.second < place,
+    }
 }
 
 // The tests of one record at place i: 3, 4, 5.
-#[tactic(auto, using(crate::specs::CheckLaws::earlier_decoded), unfolding(crate::specs::Check::record_check))]
+#[tactic(auto, unfolding(crate::specs::Check::record_check))]
 pub fn record_check(prime: Prime, w: Words, i: usize) -> Result<(), Refusal>
     ensures { result ≡ Check.record_check (field_of prime).bounds w.tag w.first w.second i }
 {
     if LAST_TAG < w.tag {
         return Err(Refusal::UnknownTag(i));
     }
-    let x = NodeKind::from(w);
-    if !formed(prime, x, w) {
+    if !formed(prime, w) {
         return Err(Refusal::Malformed(i));
     }
-    if !earlier(x, i) {
+    if !earlier(w, i) {
         return Err(Refusal::OperandNotEarlier(i));
     }
     Ok(())
@@ -232,6 +254,17 @@ pub fn words_at(list: &[u64], i: usize) -> Words
         first: list[RECORD_WORDS * i + 1],
         second: list[RECORD_WORDS * i + 2],
     }
+}
+
+// Whether the record at place i has these words.
+#[tactic(auto, unfolding(crate::specs::View::interleaved, crate::specs::Store::words_are))]
+pub fn words_are(list: &[u64], i: usize, w: Words) -> bool
+    requires { i < (interleaved list.now).room }
+    ensures { result ≡ Store.words_are (interleaved list.now) i w }
+{
+    list[RECORD_WORDS * i] == w.tag
+        && list[RECORD_WORDS * i + 1] == w.first
+        && list[RECORD_WORDS * i + 2] == w.second
 }
 
 // The first bad record among the first n.
@@ -259,6 +292,7 @@ pub fn room_check(needed: usize, room: usize) -> Result<(), Refusal>
 
 // The tests of a list of at least `least` records without roots: 1, 2, then the records.
 #[tactic(auto, unfolding(crate::specs::Check::rootless_check))]
+#[inline(always)]
 pub fn rootless_check(prime: Prime, list: &[u64], n: usize, least: usize) -> Result<(), Refusal>
     ensures { result ≡ Check.rootless_check (field_of prime).bounds least (interleaved list.now) n }
 {
@@ -398,17 +432,44 @@ impl NodeKind {
 }
 
 impl Roots {
+    // No roots.
+    pub fn new() -> Roots
+        ensures { result ≡ [] }
+    {
+        Roots {
+            cells: [0; MOST_ROOTS],
+            len: 0,
+        }
+    }
+
+    // One root more, behind the others.
+    pub fn push(&mut self, place: usize)
+        requires { length self.old < most_roots }
+        ensures { self.new ≡ self.old ++ place ∷ [] }
+    {
+        self.cells[self.len] = place;
+        self.len += 1;
+    }
+
+    // The roots' places.
+    pub fn as_slice(&self) -> &[usize]
+        ensures value { result.now ≡ self.now }
+        ensures fits { length result.now ≤ most_roots }
+    {
+        &self.cells[..self.len]
+    }
+
     // The roots that these words are.
     #[tactic(auto, unfolding(crate::specs::Roots::roots_from))]
     pub fn of(words: &[u64]) -> Roots
         requires { length words.now ≤ most_roots }
         ensures { result ≡ roots_from words.now }
     {
-        let mut places = ArrayVec::new();
+        let mut roots = Roots::new();
         for word in words {
-            places.push(*word as usize);
+            roots.push(*word as usize);
         }
-        Roots { places }
+        roots
     }
 
     // The roots' new places.
@@ -417,11 +478,11 @@ impl Roots {
         requires { Inside (length map.now) self.now }
         ensures { result ≡ roots_from (Lists.map (λ i. get_or map.now i 0) (roots_of self.now)) }
     {
-        let mut places = ArrayVec::new();
-        for root in self.places.as_slice() {
-            places.push(mapped(map, *root));
+        let mut roots = Roots::new();
+        for root in self.as_slice() {
+            roots.push(mapped(map, *root));
         }
-        Roots { places }
+        roots
     }
 }
 
@@ -432,7 +493,7 @@ pub fn lookup(list: &[u64], n: usize, x: NodeKind) -> Option<usize>
 {
     let wanted = Words::from(x);
     for i in (0..n).rev() {
-        if words_at(list, i) == wanted {
+        if words_are(list, i, wanted) {
             return Some(i);
         }
     }
@@ -479,16 +540,24 @@ impl<'a> Dag<'a> {
     }
 }
 
+// Copies the first m words of a store to the start of another.
+#[tactic(auto, unfolding(crate::specs::Store::copied))]
+pub fn copy_words(from: &[u64], m: usize, to: &mut [u64])
+    requires { (m ≤ length from.now) × (m ≤ length to.old) }
+    ensures { to.new ≡ Store.copied from.now to.old m }
+{
+    for (i, word) in to[..m].iter_mut().enumerate() {
+        *word = from[i];
+    }
+}
+
 // Copies the first n records of a store to the start of another.
-#[tactic(auto, unfolding(crate::specs::Store::copied_records, crate::specs::Store::copied, crate::specs::View::interleaved))]
+#[tactic(auto, unfolding(crate::specs::Store::copied_records, crate::specs::View::interleaved))]
 pub fn copy_records(from: &[u64], n: usize, to: &mut [u64])
     requires { (n ≤ (interleaved from.now).room) × (n ≤ (interleaved to.old).room) }
     ensures { to.new ≡ Store.copied_records from.now to.old n }
 {
-    let words = RECORD_WORDS * n;
-    for (i, word) in to[..words].iter_mut().enumerate() {
-        *word = from[i];
-    }
+    copy_words(from, RECORD_WORDS * n, to);
 }
 
 // Fills a store with blanks from a place on.

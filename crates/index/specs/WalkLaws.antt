@@ -48,6 +48,12 @@ module _ (hit : ℕ → Bool) (bucket : ℕ → ℕ) (k n : ℕ) (only : (i : �
         (indexed.nexts (link - 1) (omega (arith, w.below)) ∙ ap (latest bucket (link - 1)) (w.along h))
         (w.same ∙ greatest_miss hit link h miss)
 
+    pub walk_down : (link : ℕ) → Walking hit bucket k n link → 0 < link → get_or links (b + (link - 1)) 0 < link
+    walk_down link w h =
+        let e = indexed.nexts (link - 1) (omega (arith, w.below)) in
+        let j = latest_le bucket (link - 1) (bucket (link - 1)) in
+        omega arith
+
   pub walk_hit : (link : ℕ) → Walking hit bucket k n link → 0 < link → hit (link - 1) ≡ true → Some (link - 1) ≡ greatest hit n
   walk_hit link w h e = sym (w.same ∙ greatest_hit hit link h e)
 

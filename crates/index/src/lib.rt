@@ -79,7 +79,7 @@ pub fn find(list: &[u64], n: usize, links: &[u64], x: NodeKind) -> Option<usize>
     walk(
         links,
         bucket(links, wanted),
-        |i| dag::words_at(list, i) == wanted,
+        |i| dag::words_are(list, i, wanted),
         |below| dag::lookup(list, below, x),
     )
 }
@@ -124,9 +124,10 @@ impl<'links> PlaceIndex<'links> {
         ensures same { SameLinks self.old self.new }
         ensures noted { self.new.links.now ≡ Index.noted self.old.links.now n (Index.bucket_of (Index.half self.old.links.now) (Index.hash w.tag w.first w.second)) }
     {
-        let k = bucket(self.as_slice(), w);
-        self.links[self.links.len() / 2 + n] = self.links[k];
-        self.links[k] = n as u64 + 1;
+        let links = &mut *self.links;
+        let k = bucket(links, w);
+        links[links.len() / 2 + n] = links[k];
+        links[k] = n as u64 + 1;
     }
 
     // Indexes the first n records of a list, and nothing else.

@@ -62,7 +62,7 @@ fn put_first(text: &mut Text, end: &NormalEnd)
 {
     text.named(b"nodes", end.dag.count as u64, End::Space);
     text.word(b"root", End::Space);
-    put_roots(text, end.dag.roots.places.as_slice());
+    put_roots(text, end.dag.roots.as_slice());
     text.named(b"rounds", end.rounds as u64, End::Newline);
 }
 

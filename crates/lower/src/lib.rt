@@ -145,6 +145,7 @@ fn hand_over(
 }
 
 // Lower past its first tests, but for the work store.
+#[tactic(auto, unfolding(dag::specs::View::interleaved))]
 fn lower_with(
     dag: Dag,
     columns: Columns,

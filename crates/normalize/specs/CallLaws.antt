@@ -4,7 +4,8 @@ use Rattle.std.proofs.Math.Path.{refl, ap}
 use Rattle.std.proofs.Common.{sym, ◌∙◌, ap₂, add-one, arith}
 use Rattle.std.proofs.Math.Nat.{sub-zero}
 use Rattle.field.specs.Fields.{Field, field_of, element_laws}
-use Rattle.dag.specs.View.{interleaved}
+use Rattle.dag.specs.View.{View, interleaved}
+use Rattle.dag.specs.Refusals.{unless_refused, Checked}
 use Rattle.dag.specs.Nodes.{most_records, nodes, blank}
 use Rattle.dag.specs.NodeLaws.{length_nodes}
 use Rattle.dag.specs.Roots.{roots_of, roots_from, Inside}
@@ -24,7 +25,7 @@ use Rattle.dag.specs.WordLaws.{nodes_written, sound_written, copied_written, bla
 use Rattle.normalize.specs.Rounds.{rounded, is_kept, rounds_from, normalize}
 use Rattle.normalize.specs.RoundLaws.{rounded_inside, rounded_many}
 use Rattle.normalize.specs.RepeatLaws.{kept_shorter, given_back}
-use Rattle.normalize.specs.Calls.{normalize_stores, normalize_check, normalized, normalize_answer, normalize_result, normalize_work}
+use Rattle.normalize.specs.Calls.{normalize_stores, normalize_check, normalized, answer_of, normalize_answer, normalize_result, normalize_work}
 use Rattle.normalize.specs.Promises.{Ready, Once, Running, Ended, Passed, Finished}
 use Rattle.normalize.specs.declared.NormalEnd.{NormalEnd}
 
@@ -171,6 +172,25 @@ module _ (field : Field) where
           list_is = ea ∙ (blanked_stored field.bounds mid result r.dag.count o.sound k ∙ ap (stored result) list_is);
           work_is = eb ∙ rw (sub-zero (length last), ew);
         }
+
+  -- what the answer says of the tests
+  module _ (s : View) (n : ℕ) (roots : List ℕ) (result_room work_room : ℕ) where
+    pub answer_passed : (a : NormalEnd) → Ok a ≡ normalize_answer field s n roots result_room work_room
+        → (normalize_check field s n roots result_room work_room ≡ Ok tt) × (a ≡ answer_of (normalized field s n roots))
+    unfolding normalize_answer
+    answer_passed a = go (normalize_check field s n roots result_room work_room)
+      where
+        go : (c : Checked) → Ok a ≡ unless_refused c Err (Ok (answer_of (normalized field s n roots))) → (c ≡ Ok tt) × (a ≡ answer_of (normalized field s n roots))
+        go (Ok u) e = (refl, cc)
+        go (Err r) e = cc
+
+    pub answer_refused : (r : Refusal) → Err r ≡ normalize_answer field s n roots result_room work_room → normalize_check field s n roots result_room work_room ≡ Err r
+    unfolding normalize_answer
+    answer_refused r = go (normalize_check field s n roots result_room work_room)
+      where
+        go : (c : Checked) → Err r ≡ unless_refused c Err (Ok (answer_of (normalized field s n roots))) → c ≡ Err r
+        go (Ok u) e = cc
+        go (Err q) e = cc
 
   pub record Called (s : List ℕ) (n : ℕ) (roots : List ℕ) (result work : List ℕ) (a : Result NormalEnd Refusal) (after blanked : List ℕ) : Type 0 where
     pub answer : a ≡ normalize_answer field (interleaved s) n roots (interleaved result).room (interleaved work).room

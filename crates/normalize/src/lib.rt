@@ -126,7 +126,7 @@ fn normalize_once(
 }
 
 // The list after the rounds, and how many rounds were kept.
-#[derive(Drop)]
+#[derive(Clone, Copy)]
 pub struct NormalEnd {
     pub dag: RootedDag,
     pub rounds: usize,

@@ -23,7 +23,7 @@ use Rattle.builder.specs.RequestLaws.{step_appended, pushed_place, noted_node}
 use Rattle.builder.specs.declared.Outcome.{Outcome}
 use Rattle.builder.specs.declared.Outcome.TheVariants.{Place, Node}
 use Rattle.periodic.specs.Builder.{enter}
-use Rattle.periodic.specs.Runs.{held, Entered, Entering}
+use Rattle.periodic.specs.Runs.{held, held_by, stores_of, Entered, Entering}
 use Rattle.periodic.specs.declared.PeriodicBuilder.{PeriodicBuilder}
 
 module _ (b : PeriodicBuilder) (x : NodeKind) (fine : Fine (Low (field_of b.inner.prime)) b.inner.count x) where
@@ -31,9 +31,9 @@ module _ (b : PeriodicBuilder) (x : NodeKind) (fine : Fine (Low (field_of b.inne
   asked = record { sound = b.sound; fine = fine }
 
   pushed : (after : List ℕ) (k i : ℕ) → Pushed (field_of b.inner.prime) b.inner.list.now b.inner.count x after (record { place = i; count = k })
-      → Entered (held b) (λ field. enter field.elements x) (record { prime = b.inner.prime; list = nodes (interleaved after) k; count = k }) i
+      → Entered (held b) (λ field. enter field.elements x) (record { prime = b.inner.prime; list = nodes (interleaved after) k; count = k; stores = stores_of b.inner }) i
   unfolding enter
-  pushed after k i d = record { ran = record { prime_is = refl; longer = d.longer; list_is = d.list_is; answer_is = d.place_is }; inside = d.inside }
+  pushed after k i d = record { ran = record { prime_is = refl; stores_are = refl; longer = d.longer; list_is = d.list_is; answer_is = d.place_is }; inside = d.inside }
 
   module _ (o : Outcome) (e : o ≡ resolved (field_of b.inner.prime) (nodes (interleaved b.inner.list.now) b.inner.count) b.inner.count x) where
     pub enter_place : (i : ℕ) → o ≡ Place i → Entering (held b) (λ field. enter field.elements x) (held b) (Ok i)
@@ -45,7 +45,7 @@ module _ (b : PeriodicBuilder) (x : NodeKind) (fine : Fine (Low (field_of b.inne
       enter_long h =
           let l = nodes (interleaved b.inner.list.now) b.inner.count in
           let k = step_appended (field_of b.inner.prime) (interleaved b.inner.list.now) b.inner.count x ∙ ap (appended l) (sym e ∙ q) in
-          record { told = record { reason = refl; prime_is = refl; longer = omega arith; long = omega (arith, ap (λ r. length r.list) k, length_snoc l y, length_nodes (interleaved b.inner.list.now) b.inner.count) } }
+          record { told = record { reason = refl; prime_is = refl; stores_are = refl; longer = omega arith; long = omega (arith, ap (λ r. length r.list) k, length_snoc l y, length_nodes (interleaved b.inner.list.now) b.inner.count) } }
 
       -- a new record, appended
       module _ (few : b.inner.count < most_records) (a : DagBuilder) (place : ℕ) (same : SameStores b.inner a) (d : Appended b.inner y a place) where
@@ -56,8 +56,8 @@ module _ (b : PeriodicBuilder) (x : NodeKind) (fine : Fine (Low (field_of b.inne
             (record { room = omega (arith, b.list_room); index = b.indexed; link_room = omega (arith, b.link_room) })
             d.links_are)
 
-        pub enter_node : Entering (held b) (λ field. enter field.elements x) (record { prime = a.prime; list = nodes (interleaved a.list.now) a.count; count = a.count }) (Ok place)
-        enter_node = rw same.prime (record { told = pushed a.list.now a.count place told.pushed })
+        pub enter_node : Entering (held b) (λ field. enter field.elements x) (held_by a) (Ok place)
+        enter_node = rw (same.prime, same.list, same.index, same.links, same.list_words, same.link_words) (record { told = pushed a.list.now a.count place told.pushed })
 
         pub node_sound : Sound (field_of a.prime).bounds (interleaved a.list.now) a.count
         node_sound = rw same.prime told.pushed.sound

@@ -30,7 +30,7 @@ pub long_first : {A B : Type 0} {b : State} {m : Field → Builder A} (f : Field
 unfolding ◌>>=◌
 long_first {b = b} {m = m} f d =
     let l = (m (field_of b.prime)).run b.list in
-    record { reason = d.reason; prime_is = d.prime_is; longer = d.longer; long = omega (arith, d.long, grows (f (field_of b.prime) l.answer) l.list) }
+    record { reason = d.reason; prime_is = d.prime_is; stores_are = d.stores_are; longer = d.longer; long = omega (arith, d.long, grows (f (field_of b.prime) l.answer) l.list) }
 
 -- one computation, then the next on its answer
 module _ {A B : Type 0} {b c : State} {m : Field → Builder A} {a : A} (f : Field → A → Builder B) (d : Ran b m c a) where
@@ -45,13 +45,14 @@ module _ {A B : Type 0} {b c : State} {m : Field → Builder A} {a : A} (f : Fie
   then_ran q =
       record {
         prime_is = q.prime_is ∙ d.prime_is;
+        stores_are = q.stores_are ∙ d.stores_are;
         longer = le_trans d.longer q.longer;
         list_is = q.list_is ∙ ap (λ r. r.list) same_run;
         answer_is = q.answer_is ∙ ap (λ r. r.answer) same_run;
       }
 
   pub then_long : {s : State} {r : Refusal} → Overlong c (λ field. f field a) s r → Overlong b (λ field. m field >>= f field) s r
-  then_long q = record { reason = q.reason; prime_is = q.prime_is ∙ d.prime_is; longer = le_trans d.longer q.longer; long = subst (λ r. most_records < length r.list) same_run q.long }
+  then_long q = record { reason = q.reason; prime_is = q.prime_is ∙ d.prime_is; stores_are = q.stores_are ∙ d.stores_are; longer = le_trans d.longer q.longer; long = subst (λ r. most_records < length r.list) same_run q.long }
 
 then_told : {A : Type 0} {b c : State} {m : Field → Builder A} {a : A} (f : Field → A → Builder ℕ) (e : State) (r : Result ℕ Refusal)
     → Ran b m c a → Answered c (λ field. f field a) e r → Answered b (λ field. m field >>= f field) e r
@@ -68,7 +69,7 @@ then_entered f d q = record { ran = then_ran f d q.ran; inside = q.inside }
 
 pub enter_done : {b : State} {a : ℕ} → a < b.count → Entering b (λ field. done a) b (Ok a)
 unfolding done
-enter_done h = record { told = record { ran = record { prime_is = refl; longer = omega arith; list_is = refl; answer_is = refl }; inside = h } }
+enter_done h = record { told = record { ran = record { prime_is = refl; stores_are = refl; longer = omega arith; list_is = refl; answer_is = refl }; inside = h } }
 
 -- a refusal is passed on
 pub refused : {b : State} {m : Field → Builder ℕ} (c : State) (r : Result ℕ Refusal) {x : Refusal} → IsErr r × IsErrAnd r (λ y. y ≡ x) → Overlong b m c x → Entering b m c r
@@ -78,7 +79,7 @@ refused c r h d = let p = err_from_is_err_and r h.1 in rw (p.1, p.2) (record { t
 module _ {A : Type 0} (f : Field → ℕ → A → Builder A) (b : State) (a : A) where
   pub turn_none : Ran b (λ field. turns (f field) 0 a) b a
   unfolding turns done
-  turn_none = record { prime_is = refl; longer = omega arith; list_is = refl; answer_is = refl }
+  turn_none = record { prime_is = refl; stores_are = refl; longer = omega arith; list_is = refl; answer_is = refl }
 
   pub turn_next : {i : ℕ} {c : State} {x : A} {e : State} {y : A} → Ran b (λ field. turns (f field) i a) c x → Ran c (λ field. f field i x) e y → Ran b (λ field. turns (f field) (i + 1) a) e y
   unfolding turns
@@ -114,7 +115,7 @@ module _ (f : Field → ℕ → ℕ → Builder ℕ) (b : State) (a : ℕ) where
 -- one more place
 also_ran : {b : State} {m : Field → Builder ℕ} {c : State} {q : ℕ} (ps : List ℕ) → Ran b m c q → Ran b (λ field. also ps (m field)) c (ps ++ (q ∷ []))
 unfolding also done
-also_ran ps d = then_ran (λ field q. done (ps ++ (q ∷ []))) d (record { prime_is = refl; longer = omega arith; list_is = refl; answer_is = refl })
+also_ran ps d = then_ran (λ field q. done (ps ++ (q ∷ []))) d (record { prime_is = refl; stores_are = refl; longer = omega arith; list_is = refl; answer_is = refl })
 
 also_long : {b : State} {m : Field → Builder ℕ} {s : State} {r : Refusal} (ps : List ℕ) → Overlong b m s r → Overlong b (λ field. also ps (m field)) s r
 unfolding also
@@ -185,10 +186,10 @@ module _ {A : Type 0} {b : State} {m q : Field → Builder A} {p : Prime} (e : b
   pub ran_like : {c : State} {a : A} → Ran b m c a → Ran b q c a
   ran_like d =
       let run = same_here b m q e same in
-      record { prime_is = d.prime_is; longer = d.longer; list_is = d.list_is ∙ ap (λ r. r.list) run; answer_is = d.answer_is ∙ ap (λ r. r.answer) run }
+      record { prime_is = d.prime_is; stores_are = d.stores_are; longer = d.longer; list_is = d.list_is ∙ ap (λ r. r.list) run; answer_is = d.answer_is ∙ ap (λ r. r.answer) run }
 
   pub long_like : {s : State} {r : Refusal} → Overlong b m s r → Overlong b q s r
-  long_like d = record { reason = d.reason; prime_is = d.prime_is; longer = d.longer; long = subst (λ r. most_records < length r.list) (same_here b m q e same) d.long }
+  long_like d = record { reason = d.reason; prime_is = d.prime_is; stores_are = d.stores_are; longer = d.longer; long = subst (λ r. most_records < length r.list) (same_here b m q e same) d.long }
 
 pub entered_like : {b : State} {m q : Field → Builder ℕ} {p : Prime} → b.prime ≡ p → Same (m (field_of p)) (q (field_of p)) → {c : State} {a : ℕ} → Entered b m c a → Entered b q c a
 entered_like e same d = record { ran = ran_like e same d.ran; inside = d.inside }

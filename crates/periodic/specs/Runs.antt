@@ -1,5 +1,6 @@
 -- Computations run by a builder: what its methods say.
 use Rattle.std.specs.Prelude.{ℕ, ◌<◌, ◌≤◌, List, ◌≡◌, length, Result, Ok, Err}
+use Rattle.std.specs.Borrow.{GName}
 use Rattle.arrayvec.specs.ArrayVec.{ArrayVec}
 use Rattle.field.specs.Fields.{Field, field_of}
 use Rattle.field.specs.declared.Prime.{Prime}
@@ -8,19 +9,35 @@ use Rattle.dag.specs.Nodes.{most_records, nodes}
 use Rattle.dag.specs.declared.NodeKind.{NodeKind}
 use Rattle.dag.specs.declared.Refusal.{Refusal}
 use Rattle.dag.specs.declared.Refusal.TheVariants.{NoRoom}
+use Rattle.builder.specs.declared.DagBuilder.{DagBuilder}
 use Rattle.periodic.specs.Builder.{Builder}
 use Rattle.periodic.specs.Promises.{AllInside}
 use Rattle.periodic.specs.declared.PeriodicBuilder.{PeriodicBuilder}
 
--- a prime, and a list of so many records over it
+-- the lent stores that a builder writes, by their names: its list's, its index and the index's links, and the words of list and links
+pub record Stores : Type 0 where
+  pub list : GName
+  pub index : GName
+  pub links : GName
+  pub list_words : ℕ
+  pub link_words : ℕ
+
+abbrev pub stores_of : DagBuilder → Stores
+stores_of b = record { list = b.list.ghost_name; index = b.index.ghost_name; links = b.index.now.links.ghost_name; list_words = length b.list.now; link_words = length b.index.now.links.now }
+
+-- a prime, a list of so many records over it, and the stores that hold it
 pub record State : Type 0 where
   pub prime : Prime
   pub list : List NodeKind
   pub count : ℕ
+  pub stores : Stores
 
 -- what a builder holds
+abbrev pub held_by : DagBuilder → State
+held_by b = record { prime = b.prime; list = nodes (interleaved b.list.now) b.count; count = b.count; stores = stores_of b }
+
 abbrev pub held : PeriodicBuilder → State
-held b = record { prime = b.inner.prime; list = nodes (interleaved b.inner.list.now) b.inner.count; count = b.inner.count }
+held b = held_by b.inner
 
 -- a list of n records was taken up
 pub record Loaded (prime : Prime) (l : List NodeKind) (n : ℕ) (b : State) : Type 0 where
@@ -28,9 +45,10 @@ pub record Loaded (prime : Prime) (l : List NodeKind) (n : ℕ) (b : State) : Ty
   pub list_is : b.list ≡ l
   pub count_is : b.count ≡ n
 
--- the computation m was run on the list of b: c has its list, and a is its answer
+-- the computation m was run on the list of b: c has its list, in the same stores, and a is its answer
 pub record Ran {A : Type 0} (b : State) (m : Field → Builder A) (c : State) (a : A) : Type 0 where
   pub prime_is : c.prime ≡ b.prime
+  pub stores_are : c.stores ≡ b.stores
   pub longer : b.count ≤ c.count
   pub list_is : c.list ≡ ((m (field_of b.prime)).run b.list).list
   pub answer_is : a ≡ ((m (field_of b.prime)).run b.list).answer
@@ -39,6 +57,7 @@ pub record Ran {A : Type 0} (b : State) (m : Field → Builder A) (c : State) (a
 pub record Overlong {A : Type 0} (b : State) (m : Field → Builder A) (c : State) (r : Refusal) : Type 0 where
   pub reason : r ≡ NoRoom
   pub prime_is : c.prime ≡ b.prime
+  pub stores_are : c.stores ≡ b.stores
   pub longer : b.count ≤ c.count
   pub long : most_records < length ((m (field_of b.prime)).run b.list).list
 

@@ -46,16 +46,21 @@ pub struct PeriodicBuilder<'list, 'index, 'links> {
 }
 
 impl<'list, 'index, 'links> PeriodicBuilder<'list, 'index, 'links> {
+    ghost use Rattle.index.specs.Promises.{SameLinks};
     ghost use Rattle.periodic.specs.Runs as Runs;
 
     // A builder that goes on with a list, in these stores.
     pub fn load(
         dag: Dag,
-        list: &'list mut [u64; LIST_WORDS],
+        list: &'list mut [u64],
         index: &'index mut PlaceIndex<'links>,
     ) -> PeriodicBuilder<'list, 'index, 'links>
-        requires { most_records ≤ half index.old.links.now }
-        ensures { let d = dag.entry in Runs.Loaded d.prime (nodes (interleaved d.list.now) d.n) d.n (Runs.held result) }
+        requires list_room { most_records ≤ (interleaved list.old).room }
+        requires link_room { most_records ≤ half index.old.links.now }
+        ensures same_list { result.inner.list.ghost_name ≡ list.entry.ghost_name }
+        ensures same_index { result.inner.index.ghost_name ≡ index.entry.ghost_name }
+        ensures same_links { SameLinks index.old result.inner.index.now }
+        ensures loaded { let d = dag.entry in Runs.Loaded d.prime (nodes (interleaved d.list.now) d.n) d.n (Runs.held result) }
     {
         dag::copy_records(dag.list, dag.n, list);
         index.index_list(dag.list, dag.n);
@@ -69,7 +74,8 @@ impl<'list, 'index, 'links> PeriodicBuilder<'list, 'index, 'links> {
         }
     }
 
-    // One request.
+    // One request. Inlined, so that it doesn't go by memory.
+    #[inline(always)]
     fn enter(&mut self, x: NodeKind) -> Result<usize, Refusal>
         requires { Fine (Below self.old.inner.prime) self.old.inner.count x }
         ensures { Runs.Entering (Runs.held self.old) (λ field. Builder.enter field.elements x) (Runs.held self.new) result }

@@ -50,7 +50,7 @@ pub fn fanout(list: &[u64], n: usize, roots: &Roots, fan: &mut [u64])
     for i in 0..n {
         mention(fan, &dag::node_at(list, i).operands());
     }
-    mention(fan, &roots.places);
+    mention(fan, roots.as_slice());
 }
 
 // The operands of a record, if it is the operation's.

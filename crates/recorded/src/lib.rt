@@ -116,7 +116,7 @@ impl<'a> Cursor<'a> {
 
     // Lays the recorded store into this one.
     #[tactic(auto, unfolding(crate::specs::Stream::stored))]
-    fn lay(self, store: &mut [u64])
+    pub fn lay(self, store: &mut [u64])
         requires { length store.old ≡ Stream.word self.stream.now self.at }
         ensures { store.new ≡ Stream.stored self.entry.stream.now self.entry.at }
     {

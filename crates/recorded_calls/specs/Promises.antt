@@ -17,6 +17,12 @@ written w = stores w.a.now w.b.now w.c.now
 abbrev pub case_outcome : Call → List ℕ → ℕ → Reads → Writes → Outcome
 case_outcome call s at r w = outcome call (number s at) (read r) (written w)
 
+-- the stores lent are those lent before
+pub record SameStores (before after : Writes) : Type 0 where
+  pub first : after.a.ghost_name ≡ before.a.ghost_name
+  pub second : after.b.ghost_name ≡ before.b.ghost_name
+  pub third : after.c.ghost_name ≡ before.c.ghost_name
+
 -- the case at a place, in the stores r that its call reads and w that it writes, which are u after it: whether the answer recorded at `said` is the call's
 pub record Asked (call : Call) (s : List ℕ) (at said : ℕ) (r : Reads) (w : Writes) (same : Bool) (u : Writes) : Type 0 where
   pub told : same ≡ follows s said (case_outcome call s at r w).words

@@ -3,7 +3,7 @@
 
 ghost use Rattle.std.specs.Prelude.{◌≡◌, Some};
 ghost use Rattle.recorded_calls.specs.Calls.{name, shape, shape_of};
-ghost use Rattle.recorded_calls.specs.Promises.{Asked};
+ghost use Rattle.recorded_calls.specs.Promises.{Asked, SameStores};
 
 use ace::{
     ANSWER_WORDS, EVALUATE_WORDS, LIST_WORDS, PREPARE_WORDS, ace_build, ace_compact, ace_emit,
@@ -85,7 +85,8 @@ impl Call {
     // A call on the case at a place, in the stores r that it reads and w that it writes: whether its answer is the one recorded at `said`.
     #[tactic(auto, unfolding(crate::specs::Calls::outcome))]
     pub fn ask(self, case: Cursor, said: usize, r: Reads, w: &mut Writes) -> bool
-        ensures { Asked self case.entry.stream.now case.entry.at said r.entry w.old result w.new }
+        ensures same { SameStores w.old w.new }
+        ensures asked { Asked self case.entry.stream.now case.entry.at said r.entry w.old result w.new }
     {
         let said = case.to(said);
         let n = |k: u64| case.number(k);

@@ -86,6 +86,14 @@ impl<'a> Text<'a> {
         Text { store, len: 0 }
     }
 
+    // How many bytes are written.
+    pub fn len(&self) -> usize
+        ensures { result ≡ self.now.len }
+    {
+        let Text { len, .. } = self;
+        *len
+    }
+
     // Writes a byte.
     fn byte(&mut self, byte: u8)
         requires { HasRoom self.old (byte ∷ []) }

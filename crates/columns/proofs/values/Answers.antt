@@ -23,4 +23,4 @@ loop-v-preserved g c =
     ]
 
 pub returns : goal.returns
-returns g c = values_end _ _ _ _ c.loop-v-test.false c.loop-v.invariant.1
+returns g c = record { value = values_end _ _ _ _ c.loop-v-test.false c.loop-v.invariant.1; few = omega (arith, c.loop-v.invariant.0) }

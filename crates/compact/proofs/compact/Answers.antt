@@ -1,4 +1,4 @@
-use Rattle.std.proofs.Common.{sym, ◌∙◌, ap}
+use Rattle.std.proofs.Common.{sym, ◌∙◌, ap, arith}
 use Rattle.std.proofs.lemmas.Result.{err_from_is_err_and}
 use Rattle.field.specs.Fields.{field_of}
 use Rattle.dag.specs.View.{interleaved}
@@ -34,7 +34,8 @@ blank_records-requires c =
     let same = c.in_ok-dag.ensures.held in
     let good = rw c.room.ensures at (sym c.compact_check.ensures.checked ∙ ap outcome c.in_ok-dag.was) in
     let kept = rw (same.1, same.2) at c.compact_sized-kept.ensures in
-    may_blank (field_of c.args.prime) (interleaved c.args.list.now) c.args.n c.args.roots.now c.args.res.now good _ c.of.ensures _ kept.value _ kept.res_after
+    let h = may_blank (field_of c.args.prime) (interleaved c.args.list.now) c.args.n c.args.roots.now c.args.res.now good _ c.of.ensures _ kept.value _ kept.res_after in
+    omega arith
 
 pub returns : goal.returns
 returns c =

@@ -9,16 +9,16 @@ use Rattle.compact.proofs.mark_reachable.Goals as goal
 
 pub mark-requires : goal.mark-requires
 unfolding roots_of
-mark-requires c = rw c.deref.ensures.0 (inside_below _ c.args.roots.now (inside_mono _ _ c.requires.inside _ c.requires.fits))
+mark-requires c = rw c.as_slice.ensures.value (inside_below _ c.args.roots.now (inside_mono _ _ c.requires.inside _ c.requires.fits))
 
 pub mark-requires-then-reachable-i : goal.mark-requires-then-reachable-i
 mark-requires-then-reachable-i c =
-    rw (c.deref-then-reachable-i.ensures.0, c.operands.ensures)
+    rw (c.deref.ensures.0, c.operands.ensures)
     (operands_inside _ _ _ _ _ c.requires.sound (omega arith) (omega (arith, c.requires.fits)) c.node_at.ensures)
 
 pub loop-i-preserved-then-reachable-i : goal.loop-i-preserved-then-reachable-i
 loop-i-preserved-then-reachable-i c =
-    let e = rw (c.deref-then-reachable-i.ensures.0, c.operands.ensures) at c.mark-then-reachable-i.ensures in
+    let e = rw (c.deref.ensures.0, c.operands.ensures) at c.mark-then-reachable-i.ensures in
     c.loop-i.invariant ∙
     (sweep_marked _ _ _ c.loop-i-test.true _ c.if-reachable-i.true (c.node_at.ensures ∙ sym (at_nodes _ _ _ (omega arith)))
     ∙ ap (sweep _ _) (sym e))
@@ -29,5 +29,5 @@ loop-i-preserved c = c.loop-i.invariant ∙ sweep_unmarked _ _ _ c.loop-i-test.t
 pub returns : goal.returns
 unfolding roots_of
 returns c =
-    let e = rw c.deref.ensures.0 at c.mark.ensures in
+    let e = rw c.as_slice.ensures.value at c.mark.ensures in
     sym (ap (sweep _ _) (sym e) ∙ (c.loop-i.invariant ∙ sweep_none _ _ _ c.loop-i-test.false))

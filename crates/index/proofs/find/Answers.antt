@@ -1,12 +1,10 @@
 -- `index::find` meets its contract: along its bucket it seeks the words of x.
 use Rattle.std.proofs.Common.{◌∙◌, arith, rules}
 use Rattle.dag.specs.View.{interleaved}
-use Rattle.dag.specs.Store.{words_are}
 use Rattle.index.specs.NodeIndexLaws.{seeks, lookup_below}
 use Rattle.index.proofs.find.Goals as goal
 
 pub walk-requires : goal.walk-requires
-unfolding words_are
 walk-requires c = (
   _,
   _,
@@ -16,7 +14,6 @@ walk-requires c = (
 )
 
 pub returns : goal.returns
-unfolding words_are
 returns c =
     c.walk.ensures _ _
     (seeks (interleaved c.args.list.now) c.args.n c.args.links.now c.from-wanted.result c.requires.0.0 c.requires.0.1 c.requires.1 c.args.x c.from-wanted.ensures

@@ -32,15 +32,15 @@ loop-i-preserved c =
 pub mention-requires-2 : goal.mention-requires-2
 unfolding roots_of
 mention-requires-2 c = (
-  rw c.deref-2.ensures.0 (inside_below _ c.args.roots.now (inside_mono _ _ c.requires.inside _ (rw c.loop-i.auto.fan c.requires.fits))),
+  rw c.as_slice.ensures.value (inside_below _ c.args.roots.now (inside_mono _ _ c.requires.inside _ (rw c.loop-i.auto.fan c.requires.fits))),
   Fanouts.counted_few (interleaved c.args.list.now) c.args.n c.args.roots.now c.args.fan.now c.requires c.loop-i.i
-      c.loop-i.fan c.loop-i.auto.fan c.loop-i.invariant (omega arith) _ c.deref-2.ensures.1,
+      c.loop-i.fan c.loop-i.auto.fan c.loop-i.invariant (omega arith) _ c.as_slice.ensures.fits,
 )
 
 pub returns : goal.returns
 unfolding roots_of
 returns c =
-    ap read (rw c.deref-2.ensures.0 at c.mention-2.ensures)
+    ap read (rw c.as_slice.ensures.value at c.mention-2.ensures)
     ∙ Fanouts.counted_roots (interleaved c.args.list.now) c.args.n c.args.roots.now c.args.fan.now
     c.requires c.loop-i.fan c.loop-i.auto.fan
     (let e : c.loop-i.i ≡ c.args.n = omega arith in rw e at c.loop-i.invariant)

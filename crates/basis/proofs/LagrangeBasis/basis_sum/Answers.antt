@@ -28,7 +28,7 @@ all_terms-requires c =
       inside = c.in_ok-start.ensures.told.inside;
       callable = λ b k s h i j.
           let asked : Within basis (held b.now) = within_later h.prime_is h.longer within in
-          let class = class_of field basis.col.entries.now _ _ k basis.col.tested.low (c.deref-2.ensures.0 ∙ c.values-values.ensures) c.offset-d.ensures.0 c.offset-d.ensures.1 i in
+          let class = class_of field basis.col.entries.now _ _ k basis.col.tested.low (c.deref-2.ensures.0 ∙ c.values-values.ensures.value) c.offset-d.ensures.0 c.offset-d.ensures.1 i in
           search rules;
       kept = λ b k s r a h i p.
           let q : Entering (held b.now) (λ field. Periodic.term_turn field basis.col.entries.now false basis.prefix.now basis.suffix.now (get_or c.deref-2.result.now k 0) s) (held a.now) r = search rules in
@@ -41,7 +41,7 @@ returns-in_err-sum c =
     let basis = c.args.self.now in
     let field = field_of basis.col.prime in
     let e = c.in_ok-start.ensures.told.ran.prime_is ∙ c.requires.same in
-    let sum = terms_entered basis.col.entries.now _ _ false _ _ e (c.deref-2.ensures.0 ∙ c.values-values.ensures)
+    let sum = terms_entered basis.col.entries.now _ _ false _ _ e (c.deref-2.ensures.0 ∙ c.values-values.ensures.value)
     (c.in_err-sum.ensures (λ v s. Periodic.term_turn field basis.col.entries.now false basis.prefix.now basis.suffix.now v s)
     (λ b k s r a h i p.
     let q : Entering (held b.now) (λ field. Periodic.term_turn field basis.col.entries.now false basis.prefix.now basis.suffix.now (get_or c.deref-2.result.now k 0) s) (held a.now) r = search rules in
@@ -54,7 +54,7 @@ all_terms-requires-2 c =
     let basis = c.args.self.now in
     let field = field_of basis.col.prime in
     let e = c.in_ok-start.ensures.told.ran.prime_is ∙ c.requires.same in
-    let sum = (terms_entered basis.col.entries.now _ _ false _ _ e (c.deref-2.ensures.0 ∙ c.values-values.ensures)
+    let sum = (terms_entered basis.col.entries.now _ _ false _ _ e (c.deref-2.ensures.0 ∙ c.values-values.ensures.value)
     (c.in_ok-sum.ensures (λ v s. Periodic.term_turn field basis.col.entries.now false basis.prefix.now basis.suffix.now v s)
     (λ b k s r a h i p.
     let q : Entering (held b.now) (λ field. Periodic.term_turn field basis.col.entries.now false basis.prefix.now basis.suffix.now (get_or c.deref-2.result.now k 0) s) (held a.now) r = search rules in
@@ -64,7 +64,7 @@ all_terms-requires-2 c =
       inside = sum.inside;
       callable = λ b k s h i j.
           let asked : Within basis (held b.now) = within_later h.prime_is h.longer within in
-          let class = class_of field basis.col.entries.now _ _ k basis.col.tested.low (c.deref-3.ensures.0 ∙ c.values-values.ensures) c.offset-d.ensures.0 c.offset-d.ensures.1 i in
+          let class = class_of field basis.col.entries.now _ _ k basis.col.tested.low (c.deref-3.ensures.0 ∙ c.values-values.ensures.value) c.offset-d.ensures.0 c.offset-d.ensures.1 i in
           search rules;
       kept = λ b k s r a h i p.
           let q : Entering (held b.now) (λ field. Periodic.term_turn field basis.col.entries.now true basis.prefix.now basis.suffix.now (get_or c.deref-3.result.now k 0) s) (held a.now) r = search rules in
@@ -77,13 +77,13 @@ returns c =
     let basis = c.args.self.now in
     let field = field_of basis.col.prime in
     let e = c.in_ok-start.ensures.told.ran.prime_is ∙ c.requires.same in
-    let sum = (terms_entered basis.col.entries.now _ _ false _ _ e (c.deref-2.ensures.0 ∙ c.values-values.ensures)
+    let sum = (terms_entered basis.col.entries.now _ _ false _ _ e (c.deref-2.ensures.0 ∙ c.values-values.ensures.value)
     (c.in_ok-sum.ensures (λ v s. Periodic.term_turn field basis.col.entries.now false basis.prefix.now basis.suffix.now v s)
     (λ b k s r a h i p.
     let q : Entering (held b.now) (λ field. Periodic.term_turn field basis.col.entries.now false basis.prefix.now basis.suffix.now (get_or c.deref-2.result.now k 0) s) (held a.now) r = search rules in
     at_prime (h.prime_is ∙ e) q))).told in
     let f = sum.ran.prime_is ∙ e in
-    let end = terms_entered basis.col.entries.now _ _ true _ _ f (c.deref-3.ensures.0 ∙ c.values-values.ensures)
+    let end = terms_entered basis.col.entries.now _ _ true _ _ f (c.deref-3.ensures.0 ∙ c.values-values.ensures.value)
     (c.all_terms-2.ensures (λ v s. Periodic.term_turn field basis.col.entries.now true basis.prefix.now basis.suffix.now v s)
     (λ b k s r a h i p.
     let q : Entering (held b.now) (λ field. Periodic.term_turn field basis.col.entries.now true basis.prefix.now basis.suffix.now (get_or c.deref-3.result.now k 0) s) (held a.now) r = search rules in

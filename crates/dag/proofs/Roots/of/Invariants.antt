@@ -3,4 +3,4 @@ use Rattle.std.proofs.Common.{◌≡◌, take}
 use Rattle.dag.proofs.Roots.of.Given as goal
 
 abbrev pub invariant-loop-word : goal.invariant-loop-word
-invariant-loop-word l = l.places.items ≡ take l.word-index l.words
+invariant-loop-word l = l.roots ≡ take l.word-index l.words

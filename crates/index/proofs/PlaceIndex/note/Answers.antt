@@ -9,4 +9,4 @@ returns-clause-same c = record { reference = refl; words = length_noted c.args.s
 
 pub returns-clause-noted : goal.returns-clause-noted
 unfolding noted
-returns-clause-noted c = ap (noted c.args.self.now.links.now c.args.n) (rw c.as_slice.ensures at c.bucket-k.ensures.0)
+returns-clause-noted c = ap (noted c.args.self.now.links.now c.args.n) c.bucket-k.ensures.0
