@@ -74,7 +74,7 @@ impl<'list, 'index, 'links> PeriodicBuilder<'list, 'index, 'links> {
         }
     }
 
-    // One request. Inlined, so that it doesn't go by memory.
+    // One request. It and what is made of it alone are inlined: no request goes by memory.
     #[inline(always)]
     fn enter(&mut self, x: NodeKind) -> Result<usize, Refusal>
         requires { Fine (Below self.old.inner.prime) self.old.inner.count x }
@@ -92,6 +92,7 @@ impl<'list, 'index, 'links> PeriodicBuilder<'list, 'index, 'links> {
     }
 
     // The constant v.
+    #[inline(always)]
     pub fn constant(&mut self, v: u64) -> Result<usize, Refusal>
         requires { v < modulus_of self.old.inner.prime }
         ensures { Runs.Entering (Runs.held self.old) (λ field. Builder.constant field.elements v) (Runs.held self.new) result }
@@ -100,6 +101,7 @@ impl<'list, 'index, 'links> PeriodicBuilder<'list, 'index, 'links> {
     }
 
     // The sum of two places.
+    #[inline(always)]
     pub fn add(&mut self, a: usize, b: usize) -> Result<usize, Refusal>
         requires { (a < self.old.inner.count) × (b < self.old.inner.count) }
         ensures { Runs.Entering (Runs.held self.old) (λ field. Builder.add field.elements a b) (Runs.held self.new) result }
@@ -108,6 +110,7 @@ impl<'list, 'index, 'links> PeriodicBuilder<'list, 'index, 'links> {
     }
 
     // The difference of two places.
+    #[inline(always)]
     pub fn sub(&mut self, a: usize, b: usize) -> Result<usize, Refusal>
         requires { (a < self.old.inner.count) × (b < self.old.inner.count) }
         ensures { Runs.Entering (Runs.held self.old) (λ field. Builder.sub field.elements a b) (Runs.held self.new) result }
@@ -116,6 +119,7 @@ impl<'list, 'index, 'links> PeriodicBuilder<'list, 'index, 'links> {
     }
 
     // The product of two places.
+    #[inline(always)]
     pub fn mul(&mut self, a: usize, b: usize) -> Result<usize, Refusal>
         requires { (a < self.old.inner.count) × (b < self.old.inner.count) }
         ensures { Runs.Entering (Runs.held self.old) (λ field. Builder.mul field.elements a b) (Runs.held self.new) result }
