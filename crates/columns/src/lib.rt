@@ -2,7 +2,7 @@
 #![tactic(auto)]
 
 ghost use Rattle.field.specs.Field.{modulus_of};
-ghost use Rattle.std.specs.Prelude.{◌≡◌, ℕ, ◌^◌, ◌<◌, ◌≤◌, [], ◌∷◌, ◌++◌, length, All};
+ghost use Rattle.std.specs.Prelude.{◌≡◌, ℕ, ◌^◌, ◌<◌, ◌≤◌, cond, leb, [], ◌∷◌, ◌++◌, length, All};
 ghost use Rattle.dag.specs.Refusals as Refusals;
 ghost use Rattle.columns.specs.Columns as Spec;
 ghost use Rattle.columns.specs.Prepare as Prepare;
@@ -200,15 +200,38 @@ fn weight(col: &[u64], v: u64) -> usize
     if v == 0 { 0 } else { count(col, v) }
 }
 
+// A value of a column and its weight.
+#[derive(Clone, Copy)]
+struct Heavy {
+    value: u64,
+    weight: usize,
+}
+
+// The heavier of two values, on a tie the second.
+fn heavier(col: &[u64], d: Heavy, v: u64) -> Heavy
+    requires { d.weight ≡ Spec.weight col.now d.value }
+    ensures { (result.value ≡ cond (leb (Spec.weight col.now d.value) (Spec.weight col.now v)) v d.value) × (result.weight ≡ Spec.weight col.now result.value) }
+{
+    let weight = weight(col, v);
+    if d.weight <= weight {
+        Heavy { value: v, weight }
+    } else {
+        d
+    }
+}
+
 // The dominant of a column's values.
 fn dominant(col: &[u64], values: &[u64]) -> u64
     ensures { result ≡ Spec.heaviest col.now 0 values.now }
 {
-    values
-        .iter()
-        .copied()
-        .max_by_key(|v| weight(col, *v))
-        .unwrap_or(0)
+    let mut d = Heavy {
+        value: 0,
+        weight: 0,
+    };
+    for v in values {
+        d = heavier(col, d, *v);
+    }
+    d.value
 }
 
 // Whether a class of value v is scaled, with offset d.
