@@ -19,13 +19,13 @@ pub record Later (b c : State) : Type 0 where
 module _ (b : State) (vs : List ℕ) where
   -- where each turn may be called
   abbrev pub Callable : (MutBor PeriodicBuilder → ℕ → ℕ → Type 0) → Type 0
-  Callable pre = (q : MutBor PeriodicBuilder) (k s : ℕ) → Later b (held q.now) → k < length vs → s < q.now.inner.count → pre q (get_or vs k 0) s
+  Callable pre = (q : MutBor PeriodicBuilder) (k s : ℕ) → Later b (held q.now) → k < length vs → s < q.now.count → pre q (get_or vs k 0) s
 
   -- each leaves a later builder, and answers a place inside, if any
   abbrev pub Keeps : (MutBor PeriodicBuilder → ℕ → ℕ → Result ℕ Refusal → MutBor PeriodicBuilder → Type 0) → Type 0
   Keeps post =
       (q : MutBor PeriodicBuilder) (k s : ℕ) (r : Result ℕ Refusal) (a : MutBor PeriodicBuilder) → Later b (held q.now) → k < length vs → post q (get_or vs k 0) s r a
-      → Later (held q.now) (held a.now) × IfOk r (λ place. place < a.now.inner.count)
+      → Later (held q.now) (held a.now) × IfOk r (λ place. place < a.now.count)
 
   -- each does what m computes
   abbrev pub Computes : (MutBor PeriodicBuilder → ℕ → ℕ → Result ℕ Refusal → MutBor PeriodicBuilder → Type 0) → (ℕ → ℕ → Builder ℕ) → Type 0

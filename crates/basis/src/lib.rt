@@ -31,7 +31,7 @@ fn all_terms<F: Fn(&mut PeriodicBuilder, u64, usize) -> Result<usize, Refusal>>(
     start: usize,
     term: F,
 ) -> Result<usize, Refusal>
-    requires inside { start < builder.old.inner.count }
+    requires inside { start < builder.old.count }
     requires callable { Promises.Callable (Runs.held builder.old) values.now (F.pre term) }
     requires kept { Promises.Keeps (Runs.held builder.old) values.now (F.post term) }
     ensures { (m : ℕ → ℕ → Builder ℕ) → Promises.Computes (Runs.held builder.old) values.now (F.post term) m → Runs.Entering (Runs.held builder.old) (λ field. turns (λ k s. m (get_or values.now k 0) s) (length values.now) start) (Runs.held builder.new) result }
@@ -77,7 +77,7 @@ impl LagrangeBasis<'_> {
         j: usize,
         acc: usize,
     ) -> Result<usize, Refusal>
-        requires { Within self.now (Runs.held builder.old) × (j < length self.now.col.entries.now) × (acc < builder.old.inner.count) }
+        requires { Within self.now (Runs.held builder.old) × (j < length self.now.col.entries.now) × (acc < builder.old.count) }
         ensures { Runs.Entering (Runs.held builder.old) (λ field. Periodic.class_turn field self.now.col.entries.now self.now.prefix.now self.now.suffix.now v j acc) (Runs.held builder.new) result }
     {
         if self.col.entries[j] != v {
@@ -107,7 +107,7 @@ impl LagrangeBasis<'_> {
         v: u64,
         sum: usize,
     ) -> Result<usize, Refusal>
-        requires { Within self.now (Runs.held builder.old) × (sum < builder.old.inner.count) × Promises.Class (field_of self.now.col.prime) self.now.col.entries.now d v }
+        requires { Within self.now (Runs.held builder.old) × (sum < builder.old.count) × Promises.Class (field_of self.now.col.prime) self.now.col.entries.now d v }
         ensures { Runs.Entering (Runs.held builder.old) (λ field. Periodic.term_turn field self.now.col.entries.now false self.now.prefix.now self.now.suffix.now v sum) (Runs.held builder.new) result }
     {
         let prime = self.col.prime;
@@ -129,7 +129,7 @@ impl LagrangeBasis<'_> {
         v: u64,
         sum: usize,
     ) -> Result<usize, Refusal>
-        requires { Within self.now (Runs.held builder.old) × (sum < builder.old.inner.count) × Promises.Class (field_of self.now.col.prime) self.now.col.entries.now d v }
+        requires { Within self.now (Runs.held builder.old) × (sum < builder.old.count) × Promises.Class (field_of self.now.col.prime) self.now.col.entries.now d v }
         ensures { Runs.Entering (Runs.held builder.old) (λ field. Periodic.term_turn field self.now.col.entries.now true self.now.prefix.now self.now.suffix.now v sum) (Runs.held builder.new) result }
     {
         let is_minus = is_minus(self.col.prime, v, d);
@@ -160,7 +160,7 @@ impl LagrangeBasis<'_> {
 
 // point − w^k, from w^k.
 fn basis_factor(builder: &mut PeriodicBuilder, point: usize, root: u64) -> Result<usize, Refusal>
-    requires { (point < builder.old.inner.count) × (root < modulus_of builder.old.inner.prime) }
+    requires { (point < builder.old.count) × (root < modulus_of builder.old.prime) }
     ensures { Runs.Entering (Runs.held builder.old) (λ field. Promises.factor field point root) (Runs.held builder.new) result }
 {
     let root = builder.constant(root)?;
@@ -174,7 +174,7 @@ fn basis_factors(
     roots: &[u64],
     col: Column,
 ) -> Result<ArrayVec<usize, MOST_ENTRIES>, Refusal>
-    requires { (point < builder.old.inner.count) × (col.prime ≡ builder.old.inner.prime) × Promises.Roots (field_of col.prime) col.entries.now roots.now }
+    requires { (point < builder.old.count) × (col.prime ≡ builder.old.prime) × Promises.Roots (field_of col.prime) col.entries.now roots.now }
     ensures { let c = col.entry in Runs.Listing (Runs.held builder.old) (λ field. Periodic.factors field c.entries.now point) (Runs.held builder.new) (length c.entries.now) result }
 {
     let mut factors = ArrayVec::new();
@@ -205,10 +205,10 @@ fn basis_back(
     prefix: &[usize],
     col: Column,
 ) -> Result<usize, Refusal>
-    requires prime { col.prime ≡ builder.old.inner.prime }
+    requires prime { col.prime ≡ builder.old.prime }
     requires roots { Promises.Roots (field_of col.prime) col.entries.now roots.now }
-    requires factors { Promises.Places builder.old.inner.count col.entries.now factors.now }
-    requires prefix { Promises.Places builder.old.inner.count col.entries.now prefix.now }
+    requires factors { Promises.Places builder.old.count col.entries.now factors.now }
+    requires prefix { Promises.Places builder.old.count col.entries.now prefix.now }
     ensures { let c = col.entry in Runs.Entering (Runs.held builder.old) (λ field. Periodic.basis_back field c.entries.now factors.now prefix.now) (Runs.held builder.new) result }
 {
     let one = builder.constant(1)?;
@@ -219,7 +219,7 @@ fn basis_back(
         roots,
         prefix,
         suffix: &suffix,
-        count: builder.inner.count,
+        count: builder.count,
     };
     basis.basis_sum(builder)
 }
@@ -231,7 +231,7 @@ fn basis_front(
     roots: &[u64],
     col: Column,
 ) -> Result<usize, Refusal>
-    requires { (point < builder.old.inner.count) × (col.prime ≡ builder.old.inner.prime) × Promises.Roots (field_of col.prime) col.entries.now roots.now }
+    requires { (point < builder.old.count) × (col.prime ≡ builder.old.prime) × Promises.Roots (field_of col.prime) col.entries.now roots.now }
     ensures { let c = col.entry in Runs.Entering (Runs.held builder.old) (λ field. Periodic.basis_front field c.entries.now point) (Runs.held builder.new) result }
 {
     let scale = coefficients::size_inverse(col.prime, col.entries);
@@ -243,7 +243,7 @@ fn basis_front(
 
 // The value of a column in basis whose point is ZK squared k times.
 pub fn basis_value(builder: &mut PeriodicBuilder, col: Column, k: usize) -> Result<usize, Refusal>
-    requires { col.prime ≡ builder.old.inner.prime }
+    requires { col.prime ≡ builder.old.prime }
     ensures { let c = col.entry in Runs.Entering (Runs.held builder.old) (λ field. Periodic.basis_value field c.entries.now k) (Runs.held builder.new) result }
 {
     let roots = coefficients::roots(col.prime, col.entries);

@@ -9,7 +9,7 @@ ghost use Rattle.dag.specs.Held.{HeldOf};
 ghost use Rattle.dag.specs.Nodes as Nodes;
 ghost use Rattle.dag.specs.Refusals as Refusals;
 ghost use Rattle.dag.specs.Store as Store;
-ghost use Rattle.index.specs.Index.{half, NodeIndex};
+ghost use Rattle.index.specs.Index.{half, noted, node_bucket, NodeIndex};
 ghost use Rattle.index.specs.Promises.{SameLinks};
 ghost use Rattle.builder.specs.Steps as Steps;
 ghost use Rattle.builder.specs.Promises as Promises;
@@ -257,6 +257,17 @@ pub fn resolve(prime: Prime, list: &[u64], n: usize, links: &[u64], x: NodeKind)
     }
 }
 
+// Appends a new record behind the first n and notes it in the index.
+pub fn append_noted(list: &mut [u64], index: &mut PlaceIndex, n: usize, y: NodeKind)
+    requires { (n < (interleaved list.old).room) × (n < half index.old.links.now) }
+    ensures same { SameLinks index.old index.new }
+    ensures list { list.new ≡ Store.put list.old n y }
+    ensures links { index.new.links.now ≡ noted index.old.links.now n (node_bucket (half index.old.links.now) y) }
+{
+    dag::put_node(list, n, y);
+    index.note(n, Words::from(y));
+}
+
 // A list that is built: its first `count` records, and their index.
 #[derive(Drop)]
 pub struct DagBuilder<'list, 'index, 'links> {
@@ -302,8 +313,7 @@ impl<'list, 'index, 'links> DagBuilder<'list, 'index, 'links> {
         ensures appended { Promises.Appended self.old y self.new result }
     {
         let place = self.count;
-        dag::put_node(self.list, place, y);
-        self.index.note(place, Words::from(y));
+        append_noted(self.list, self.index, place, y);
         self.count += 1;
         place
     }

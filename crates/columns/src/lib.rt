@@ -59,7 +59,7 @@ impl Model for Prepared {
 
 impl Prepared {
     // These forms.
-    fn of(forms: &[Form]) -> Prepared
+    pub fn of(forms: &[Form]) -> Prepared
         requires { length forms.now ≤ most_columns }
         ensures { result ≡ forms.now }
     {

@@ -13,7 +13,6 @@ ghost use Rattle.lower.specs.Lower as Lower;
 ghost use Rattle.lower.specs.Promises as Promises;
 
 use arrayvec::ArrayVec;
-use builder::DagBuilder;
 use columns::{Column, Columns, Form, MOST_COLUMNS, Weighed};
 use dag::{Dag, Refusal};
 use field::{Prime, felt};
@@ -27,7 +26,7 @@ fn column_value(
     form: Form,
     k: usize,
 ) -> Result<usize, Refusal>
-    requires { (col.prime ≡ builder.old.inner.prime) × Promises.Formed col.entries.now form }
+    requires { (col.prime ≡ builder.old.prime) × Promises.Formed col.entries.now form }
     ensures { let c = col.entry in Runs.Entering (Runs.held builder.old) (λ field. Periodic.column_value field c.entries.now form k) (Runs.held builder.new) result }
 {
     match form {
@@ -44,7 +43,7 @@ fn column_node(
     log: usize,
     j: usize,
 ) -> Result<usize, Refusal>
-    requires { let c = weighed.now.columns in (builder.old.inner.prime ≡ c.prime) × Promises.Covered c.lengths.now c.entries.now log × (j < length c.lengths.now) }
+    requires { let c = weighed.now.columns in (builder.old.prime ≡ c.prime) × Promises.Covered c.lengths.now c.entries.now log × (j < length c.lengths.now) }
     ensures { let c = weighed.now.columns in Runs.Entering (Runs.held builder.old) (λ field. Periodic.column_node field (Held.columns c) log j) (Runs.held builder.new) result }
 {
     let col = weighed.columns.column(j);
@@ -58,7 +57,7 @@ fn build_periodic_nodes(
     columns: Columns,
     log: usize,
 ) -> Result<ArrayVec<u64, MOST_COLUMNS>, Refusal>
-    requires { (builder.old.inner.prime ≡ columns.prime) × Promises.Covered columns.lengths.now columns.entries.now log }
+    requires { (builder.old.prime ≡ columns.prime) × Promises.Covered columns.lengths.now columns.entries.now log }
     ensures { let c = columns.entry in Runs.Listing (Runs.held builder.old) (λ field. Periodic.build_periodic_nodes field (Held.columns c) log) (Runs.held builder.new) (length c.lengths.now) result }
 {
     let weighed = Weighed::new(columns);
@@ -163,7 +162,7 @@ fn lower_with(
     let mut builder = PeriodicBuilder::load(dag, &mut list, &mut index);
     let log = columns::log_within(felt::most_log(columns.prime), period);
     let nodes = build_periodic_nodes(&mut builder, columns, log)?;
-    let DagBuilder { list, count, .. } = builder.inner;
+    let PeriodicBuilder { list, count, .. } = builder;
     hand_over(list, count, &nodes, res, places)
 }
 

@@ -36,8 +36,12 @@ pub record State : Type 0 where
 abbrev pub held_by : DagBuilder → State
 held_by b = record { prime = b.prime; list = nodes (interleaved b.list.now) b.count; count = b.count; stores = stores_of b }
 
+-- a builder without its facts
+abbrev pub builder_of : PeriodicBuilder → DagBuilder
+builder_of b = record { prime = b.prime; list = b.list; index = b.index; count = b.count }
+
 abbrev pub held : PeriodicBuilder → State
-held b = held_by b.inner
+held b = held_by (builder_of b)
 
 -- a list of n records was taken up
 pub record Loaded (prime : Prime) (l : List NodeKind) (n : ℕ) (b : State) : Type 0 where

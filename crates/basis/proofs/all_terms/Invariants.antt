@@ -9,7 +9,7 @@ abbrev pub invariant-loop-v : goal.invariant-loop-v
 invariant-loop-v g l =
     record {
       later : Promises.Later (Runs.held l.initial.builder) (Runs.held l.builder);
-      inside : l.sum < l.builder.inner.count;
+      inside : l.sum < l.builder.count;
       entered : (m : ℕ → ℕ → Builder.Builder ℕ) → Promises.Computes (Runs.held l.initial.builder) l.values (goal.F-post g l.term) m
           → Runs.Entered (Runs.held l.initial.builder) (λ field. Builder.turns (λ k s. m (get_or l.values k 0) s) l.v-index l.initial.sum) (Runs.held l.builder) l.sum;
     }

@@ -37,8 +37,8 @@ chain-requires c =
 
 -- the products behind each row
 module _ (c : After-deref) where
-  behind : Same (Periodic.chain (field_of c.constant.new.self.inner.prime).elements c.in_ok-one.one (take (length c.args.factors.now - 1) c.deref.result.now) (length (take (length c.args.factors.now - 1) c.deref.result.now)))
-      (Periodic.chain (field_of c.constant.new.self.inner.prime).elements c.in_ok-one.one (Periodic.backwards c.args.factors.now) (length c.args.col.entries.now - 1))
+  behind : Same (Periodic.chain (field_of c.constant.new.self.prime).elements c.in_ok-one.one (take (length c.args.factors.now - 1) c.deref.result.now) (length (take (length c.args.factors.now - 1) c.deref.result.now)))
+      (Periodic.chain (field_of c.constant.new.self.prime).elements c.in_ok-one.one (Periodic.backwards c.args.factors.now) (length c.args.col.entries.now - 1))
   behind = chain_taken _ _ _ _ _ _ (turned c) (ap (λ n. n - 1) c.requires.factors.long) (omega (arith, length_backwards c.args.factors.now, c.requires.factors.long))
 
 pub returns-in_err-suffix : goal.returns-in_err-suffix

@@ -19,8 +19,8 @@ scale c = same_is (ap (Builder.constant (field_of c.args.col.prime).elements) c.
 
 -- the products before each row
 before : (c : After-len)
-    → Same (Periodic.chain (field_of c.constant.new.self.inner.prime).elements c.in_ok-start.start (take (c.len.result - 1) c.deref.result.now) (length (take (c.len.result - 1) c.deref.result.now)))
-    (Periodic.chain (field_of c.constant.new.self.inner.prime).elements c.in_ok-start.start c.in_ok-factors.factors.items (length c.args.col.entries.now - 1))
+    → Same (Periodic.chain (field_of c.constant.new.self.prime).elements c.in_ok-start.start (take (c.len.result - 1) c.deref.result.now) (length (take (c.len.result - 1) c.deref.result.now)))
+    (Periodic.chain (field_of c.constant.new.self.prime).elements c.in_ok-start.start c.in_ok-factors.factors.items (length c.args.col.entries.now - 1))
 before c = chain_taken _ _ _ _ _ _ c.deref.ensures.0 (ap (λ n. n - 1) (c.len.ensures.value ∙ c.in_ok-factors.ensures.told.many)) (omega (arith, c.in_ok-factors.ensures.told.many))
 
 pub returns-in_err-factors : goal.returns-in_err-factors

@@ -9,7 +9,7 @@ pub loop-number-init : goal.loop-number-init
 loop-number-init c = list_none _ _ _ _ c.new-places.ensures (none_inside _)
 
 pub constant-requires : goal.constant-requires
-constant-requires c = below_later c.loop-number.invariant.ran.prime_is (below_at (modulus_of c.args.self.now.inner.prime) _ _ c.requires.0 c.loop-number-test.true)
+constant-requires c = below_later c.loop-number.invariant.ran.prime_is (below_at (modulus_of c.args.self.now.prime) _ _ c.requires.0 c.loop-number-test.true)
 
 pub returns-in_err-place : goal.returns-in_err-place
 unfolding Periodic.constants

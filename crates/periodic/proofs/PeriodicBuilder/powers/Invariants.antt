@@ -12,5 +12,5 @@ invariant-loop l =
     record {
       listed : Runs.Listed (Runs.held l.initial.self) (λ field. Builder.turns (λ i ps. Builder.also ps (Builder.mul field.elements (get_or ps i 0) (get_or ps i 0))) l.counter (l.z ∷ [])) (Runs.held l.self) (l.counter + 1) l.powers.items;
       last : l.power ≡ get_or l.powers.items l.counter 0;
-      inside : l.power < l.self.inner.count;
+      inside : l.power < l.self.count;
     }
